@@ -1,0 +1,16 @@
+//! What all crates of `chw` stand on: the indices, the small list type that contracts see as a list, the answers of calls that may
+//! find no memory, the limits, and the shelf and the sinks by which the program reaches the outside.
+#![tactic(auto)]
+
+pub mod index;
+pub mod limits;
+pub mod outcome;
+pub mod seq;
+pub mod shelf;
+pub mod sink;
+
+pub use index::{ConId, DataId, DefId, DomId, Index, MadeId, ModId, TyIx, VarIx, WireId};
+pub use outcome::{NoMemory, Or};
+pub use seq::{Name, Seq};
+pub use shelf::{Fetched, Shelf, ShelfFault};
+pub use sink::{Sink, SinkFault};

@@ -1,0 +1,38 @@
+//! The limits of `chw`. Contracts cite them by these names.
+
+/// The longest text of a description, in bytes.
+pub const DESCRIPTION_BYTES: u32 = 1_048_576;
+/// The deepest nesting of brackets of a description, and the greatest height of its tree.
+pub const NESTING: u32 = 200;
+/// The most definitions of a description.
+pub const DEFINITIONS: u32 = 4_096;
+/// The most data types of a description, the built-in ones left out.
+pub const DATA_TYPES: u32 = 1_024;
+/// The most clock domains of a description.
+pub const DOMAINS: u32 = 64;
+/// The most elements of a written vector.
+pub const WRITTEN_VECTOR: u32 = 256;
+/// The value of a literal is below two to this number.
+pub const LITERAL_VALUE_BITS: u32 = 128;
+/// A numeral of a type, and the width of a literal, is below two to this number.
+pub const TYPE_NUMERAL_BITS: u32 = 32;
+/// The widest scalar, in bits.
+pub const SCALAR_BITS: u32 = 128;
+/// The longest vector, in elements.
+pub const VECTOR_LENGTH: u32 = 256;
+/// The widest data value or vector, in bits.
+pub const DATA_BITS: u32 = 1_024;
+/// The deepest body of a made definition.
+pub const MADE_DEPTH: u32 = 2_000;
+/// The most made definitions.
+pub const MADE_DEFINITIONS: u32 = 4_096;
+/// The most flat wires of a net.
+pub const FLAT_WIRES: u32 = 200_000;
+/// The most events of a stimulus.
+pub const EVENTS: u32 = 100_000;
+/// The longest text of a stimulus, in bytes.
+pub const STIMULUS_BYTES: u32 = 67_108_864;
+/// The longest Verilog text that is read, in bytes.
+pub const VERILOG_BYTES: u32 = 67_108_864;
+/// The size of the pieces in which an answer is written, in bytes. The last piece may be shorter.
+pub const PIECE_BYTES: u32 = 1_024;
