@@ -1,0 +1,25 @@
+use Rattle.std.proofs.Common.{◌<◌, ◌+◌, ◌^◌, false, take, arith}
+use Rattle.chw_bits.specs.Bits.{number_of}
+use Rattle.chw_bits.proofs.Numbers.{number_of_more, number_of_take_lt, lt-pow}
+use Rattle.chw_bits.proofs.bits.Bits.number.Goals as goal
+
+pub overflow_mul-n : goal.overflow_mul-n
+overflow_mul-n c =
+    let bits = c.deref-bit-items.result.now in
+    let i = c.loop-bit.bit-index in
+    let more = number_of_more bits i false c.loop-bit-test.true in
+    let below : number_of (take (i + 1) bits) < 2 ^ 128 = lt-pow _ (i + 1) 128 (number_of_take_lt bits (i + 1)) (omega arith) in
+    omega arith
+
+pub overflow_add-n : goal.overflow_add-n
+overflow_add-n c =
+    let bits = c.deref-bit-items.result.now in
+    let i = c.loop-bit.bit-index in
+    let more = number_of_more bits i false c.loop-bit-test.true in
+    let below : number_of (take (i + 1) bits) < 2 ^ 128 = lt-pow _ (i + 1) 128 (number_of_take_lt bits (i + 1)) (omega arith) in
+    omega arith
+
+pub loop-bit-preserved : goal.loop-bit-preserved
+loop-bit-preserved c =
+    let more = number_of_more c.deref-bit-items.result.now c.loop-bit.bit-index false c.loop-bit-test.true in
+    omega arith
