@@ -1,5 +1,6 @@
 //! Each call once, on values worked by hand.
 use crate::Bits;
+use std::test::Fail;
 
 #[test]
 fn bits_of_a_number(rt: HostRuntime) -> Result<(), Fail> {
@@ -11,7 +12,7 @@ fn bits_of_a_number(rt: HostRuntime) -> Result<(), Fail> {
     assert_eq!(rt; shown, 100_101_100);
     assert_eq!(rt; bits.number(), Some(300));
     let text = bits.hex(rt.alloc()).expect(&rt, "three digits");
-    assert_eq!(rt; text.as_slice(), b"12c");
+    assert_eq!(rt; text.as_slice(), b"12c".as_slice());
     let same = bits.copy(rt.alloc()).expect(&rt, "nine bits");
     assert!(rt; same == bits);
     let wide = Bits::of_number(rt.alloc(), 129, 1).expect(&rt, "129 bits");
