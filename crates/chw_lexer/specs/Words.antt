@@ -1,0 +1,16 @@
+-- Tokens without their places: what a grammar speaks of.
+use Rattle.std.specs.Prelude.{ℕ, List, map, slice_range}
+use Rattle.chw_lexer.specs.declared.token.Sort.{Sort}
+use Rattle.chw_lexer.specs.declared.token.Token.{Token}
+
+pub record Word : Type 0 where
+  pub sort : Sort
+  pub bytes : List ℕ
+
+-- a token's word in its text
+abbrev pub word_of : List ℕ → Token → Word
+word_of text token = record { sort = token.sort; bytes = slice_range text token.span.from token.span.to }
+
+-- the words of the tokens of a text
+abbrev pub words_of : List ℕ → List Token → List Word
+words_of text tokens = map (word_of text) tokens

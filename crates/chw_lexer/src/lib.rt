@@ -1,0 +1,6 @@
+//! The lexer: cuts the text of a description into tokens, by the longest token at each place.
+#![tactic(auto)]
+
+pub mod token;
+
+pub use token::{LexFault, Sort, Span, Token};
