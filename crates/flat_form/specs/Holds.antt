@@ -1,0 +1,49 @@
+-- What holds of the names and the widths of a flat description.
+use Rattle.std.specs.Prelude.{◌≡◌, ℕ, ◌≤◌, Bool, false, List, [], ◌∷◌, ◌++◌, length, map, Option, Some, None, if◌then◌else◌, codes}
+use Rattle.std.specs.List.{list_any, AllByRecursion}
+use Rattle.std.specs.Str.{bytes_eq}
+use Rattle.flat_form.specs.declared.flat.Binding.{Binding}
+use Rattle.flat_form.specs.declared.flat.FlatText.{FlatText}
+use Rattle.flat_form.specs.declared.flat.Parameter.{Parameter}
+use Rattle.flat_form.specs.declared.flat.Right.{Right}
+use Rattle.flat_form.specs.declared.flat.Right.TheVariants.{Same, Register, Sum}
+
+abbrev pub is_among : List (List ℕ) → List ℕ → Bool
+is_among names name = list_any (bytes_eq name) names
+
+-- no name is among those after it
+abbrev pub AreDistinct : List (List ℕ) → Type 0
+AreDistinct [] = Unit {0}
+AreDistinct (name ∷ names) = (is_among names name ≡ false) × AreDistinct names
+
+-- the names of the primitives, which nothing else is called
+abbrev pub reserved : List (List ℕ)
+reserved = codes "register" ∷ codes "ap" ∷ codes "fmap" ∷ codes "addU" ∷ codes "unsafeSynchronizer" ∷ []
+
+-- the parameters and the bindings, in order
+abbrev pub signals : FlatText → List Parameter
+signals f = f.parameters ++ map (λ (b : Binding). record { name = b.name; width = b.width }) f.bindings
+
+abbrev pub names_of : List Parameter → List (List ℕ)
+names_of = map (λ (p : Parameter). p.name)
+
+-- the width of the first signal of a name
+abbrev pub width_of : List Parameter → List ℕ → Option ℕ
+width_of [] name = None
+width_of (signal ∷ signals) name = if bytes_eq signal.name name then Some signal.width else width_of signals name
+
+-- what a right side reads are signals of its width
+abbrev pub Reads : List Parameter → ℕ → Right → Type 0
+Reads signals n (Same y) = width_of signals y ≡ Some n
+Reads signals n (Register bits y) = width_of signals y ≡ Some n
+Reads signals n (Sum y z) = (width_of signals y ≡ Some n) × (width_of signals z ≡ Some n)
+
+pub record Holds (f : FlatText) : Type 0 where
+  pub distinct : AreDistinct (names_of (signals f))
+  pub unreserved : AllByRecursion (λ name. is_among reserved name ≡ false) (f.definition ∷ names_of (signals f))
+  pub widths : AllByRecursion (λ (p : Parameter). (1 ≤ p.width) × (p.width ≤ 128)) (signals f)
+  pub width : (1 ≤ f.width) × (f.width ≤ 128)
+  pub rights : AllByRecursion (λ (b : Binding). Reads (signals f) b.width b.right) f.bindings
+  pub body : width_of (signals f) f.body ≡ Some f.width
+  pub inputs : length f.inputs ≡ length f.parameters
+  pub ports : AreDistinct f.inputs

@@ -1,0 +1,5 @@
+pub mod FlatNet
+pub mod FlatValue
+pub mod Grammar
+pub mod Holds
+pub mod Spelling

@@ -1,0 +1,8 @@
+//! The flat form of a description: one domain, registers and sums of named signals. Its reader and its net.
+//!
+//! This crate is scaffolding: it serves `emit` until the whole language is read, and goes then.
+#![tactic(auto)]
+
+pub mod flat;
+
+pub use flat::{Binding, FlatText, NotFlat, Parameter, Right};

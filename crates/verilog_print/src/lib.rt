@@ -1,0 +1,2 @@
+//! The printer: a net as Verilog text.
+#![tactic(auto)]
