@@ -1,2 +1,4 @@
 pub mod Digits
+pub mod HexText
 pub mod Numbers
+pub mod RoundTrips

@@ -1,5 +1,5 @@
 -- Bits as numbers: a list of booleans, the most significant first.
-use Rattle.std.specs.Prelude.{ℕ, zero, suc, ◌+◌, ◌/◌, ◌%◌, ◌^◌, Bool, List, [], ◌∷◌, length, if◌then◌else◌, ◌==◌}
+use Rattle.std.specs.Prelude.{ℕ, zero, suc, ◌+◌, ◌-◌, ◌/◌, ◌%◌, ◌^◌, Bool, List, [], ◌∷◌, length, take, drop, if◌then◌else◌, ◌==◌}
 
 -- the number that bits mean: each set bit weighs 2 to the count of bits after it
 abbrev pub number_of : List Bool → ℕ
@@ -14,3 +14,7 @@ bit_of place n = n / 2 ^ place % 2 == 1
 abbrev pub bits_of : ℕ → ℕ → List Bool
 bits_of zero n = []
 bits_of (suc width) n = bit_of width n ∷ bits_of width n
+
+-- the bits from one place down to another, the least significant place 0
+abbrev pub cut_of : ℕ → ℕ → List Bool → List Bool
+cut_of high low bits = take (high + 1 - low) (drop (length bits - 1 - high) bits)

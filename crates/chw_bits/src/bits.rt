@@ -1,7 +1,7 @@
 //! `Bits`, a list of bits, the most significant first.
-ghost use Rattle.std.specs.Prelude.{◌≡◌, ◌<◌, ◌≤◌, ◌^◌, length, slice_index_or, false, IfOk, SomeIff};
+ghost use Rattle.std.specs.Prelude.{◌≡◌, ◌+◌, ◌<◌, ◌≤◌, ◌^◌, ◌++◌, length, slice_index_or, false, IfOk, SomeIff};
 ghost use Rattle.chw_base.specs.Outcome.{IfFault, OnMemory};
-ghost use Rattle.chw_bits.specs.Bits.{number_of, bits_of};
+ghost use Rattle.chw_bits.specs.Bits.{number_of, bits_of, cut_of};
 ghost use Rattle.std.specs.Prelude.{◌↔◌, IsTrue};
 ghost use Rattle.std.specs.Bool.{beq};
 ghost use Rattle.std.specs.Cmp.{partial_equiv_from_equiv, bool_eq_equiv};
@@ -18,7 +18,7 @@ use thiserror::Error;
 /// There are fewer than 2 to the 32.
 #[derive(Debug, Drop)]
 pub struct Bits {
-    bits: Vec<bool>,
+    pub(crate) bits: Vec<bool>,
 }
 
 impl Model for Bits {
@@ -60,6 +60,14 @@ impl Bits {
         self.bits[i as usize]
     }
 
+    /// The bits of a list, the most significant first.
+    pub fn of_list(bits: Vec<bool>) -> Bits
+        requires { length bits.items < 2 ^ 32 }
+        ensures { result ≡ bits.items }
+    {
+        Bits { bits }
+    }
+
     /// The lowest bits of a number, as many as the width, where it has no bit above them.
     ///
     /// `DoesNotFit` comes where the number isn't below 2 to the width.
@@ -97,6 +105,30 @@ impl Bits {
         ensures { IfOk result (λ b. b ≡ self.now) }
     {
         let bits = Vec::from_slice(alloc, &self.bits)?;
+        Ok(Bits { bits })
+    }
+}
+
+impl Bits {
+    /// These bits with others after them, these the most significant.
+    pub fn join(&self, alloc: Global, low: &Bits) -> Result<Bits, NoMemory>
+        requires { length self.now + length low.now < 2 ^ 32 }
+        ensures { IfOk result (λ b. b ≡ self.now ++ low.now) }
+    {
+        let mut bits = Vec::from_slice(alloc, &self.bits)?;
+        bits.extend_from_slice(&low.bits)?;
+        Ok(Bits { bits })
+    }
+
+    /// The bits from one place down to another, the least significant place 0.
+    pub fn cut(&self, alloc: Global, high: u32, low: u32) -> Result<Bits, NoMemory>
+        requires order { low ≤ high }
+        requires within { high < length self.now }
+        ensures { IfOk result (λ b. b ≡ cut_of high low self.now) }
+    {
+        let from = self.bits.len() - 1 - high as usize;
+        let to = self.bits.len() - low as usize;
+        let bits = Vec::from_slice(alloc, &self.bits[from..to])?;
         Ok(Bits { bits })
     }
 }

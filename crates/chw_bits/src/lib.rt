@@ -3,9 +3,12 @@
 
 pub mod bits;
 pub mod hex;
+pub mod laws;
 mod places;
+pub mod read_hex;
 
 pub use bits::{Bits, DoesNotFit};
+pub use read_hex::HexFault;
 
 #[cfg(test)]
 mod tests;
