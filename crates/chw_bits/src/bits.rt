@@ -1,8 +1,7 @@
 //! `Bits`, a list of bits, the most significant first.
-ghost use Rattle.std.specs.Prelude.{◌≡◌, ◌+◌, ◌<◌, ◌≤◌, ◌^◌, ◌++◌, length, slice_index_or, false, IfOk, SomeIff};
+ghost use Rattle.std.specs.Prelude.{◌≡◌, ◌+◌, ◌<◌, ◌≤◌, ◌^◌, ◌++◌, length, slice_index_or, false, IfOk, SomeIff, ◌↔◌, IsTrue};
 ghost use Rattle.chw_base.specs.Outcome.{IfFault, OnMemory};
 ghost use Rattle.chw_bits.specs.Bits.{number_of, bits_of, cut_of};
-ghost use Rattle.std.specs.Prelude.{◌↔◌, IsTrue};
 ghost use Rattle.std.specs.Bool.{beq};
 ghost use Rattle.std.specs.Cmp.{partial_equiv_from_equiv, bool_eq_equiv};
 ghost use Rattle.std.specs.Cmp.Lexicographic.{pointwise, lists_per, lists_equiv};
@@ -70,7 +69,7 @@ impl Bits {
 
     /// The lowest bits of a number, as many as the width, where it has no bit above them.
     ///
-    /// `DoesNotFit` comes where the number isn't below 2 to the width.
+    /// `DoesNotFit` comes where the number isn't below 2 to the width, before any memory is asked for.
     pub fn of_number(alloc: Global, width: u32, n: u128) -> Result<Bits, Or<DoesNotFit>>
         ensures bits { IfOk result (λ b. (n < 2 ^ width) × (b ≡ bits_of width n)) }
         ensures does_not_fit { IfFault result (λ _. 2 ^ width ≤ n) }
@@ -107,9 +106,7 @@ impl Bits {
         let bits = Vec::from_slice(alloc, &self.bits)?;
         Ok(Bits { bits })
     }
-}
 
-impl Bits {
     /// These bits with others after them, these the most significant.
     pub fn join(&self, alloc: Global, low: &Bits) -> Result<Bits, NoMemory>
         requires { length self.now + length low.now < 2 ^ 32 }
