@@ -1,5 +1,9 @@
+pub mod Calls
 pub mod Faults
 pub mod Files
+pub mod InMemory
+pub mod MemReading
+pub mod MemWriting
 pub mod Outcome
 pub mod Reading
 pub mod Writing

@@ -18,6 +18,11 @@ pub trait Index {
     ghost number_of_index_of: { (n : ℕ) → number_of (index_of n) ≡ n };
 }
 
+/// The law of the indices, for proofs: an index has the number that it was made of.
+pub fn law_of_index<I: Index>()
+    ensures { (n : ℕ) → I.number_of (I.index_of n) ≡ n }
+{}
+
 /// A variable of a term, counted from the innermost binder, 0.
 #[derive(Clone, Copy, Debug, PartialEq, Eq, PartialOrd, Ord, Hash)]
 pub struct VarIx {

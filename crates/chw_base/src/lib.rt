@@ -2,14 +2,21 @@
 //! find no memory, the limits, and the shelf and the sinks by which the program reaches the outside.
 #![tactic(auto)]
 
+mod calls;
 pub mod index;
 pub mod limits;
+pub mod mem_shelf;
+pub mod mem_sink;
 pub mod outcome;
 pub mod seq;
 pub mod shelf;
 pub mod sink;
 
-pub use index::{ConId, DataId, DefId, DomId, Index, MadeId, ModId, TyIx, VarIx, WireId};
+pub use index::{
+    ConId, DataId, DefId, DomId, Index, MadeId, ModId, TyIx, VarIx, WireId, law_of_index,
+};
+pub use mem_shelf::MemShelf;
+pub use mem_sink::MemSink;
 pub use outcome::{NoMemory, Or};
 pub use seq::{Name, Seq};
 pub use shelf::{Fetched, Shelf, ShelfFault};
