@@ -1,9 +1,11 @@
 pub mod Calls
+pub mod Draining
 pub mod Faults
 pub mod Files
 pub mod InMemory
 pub mod MemReading
 pub mod MemWriting
 pub mod Outcome
+pub mod Passing
 pub mod Reading
 pub mod Writing

@@ -3,6 +3,7 @@
 #![tactic(auto)]
 
 mod calls;
+pub mod file_shelf;
 pub mod index;
 pub mod limits;
 pub mod mem_shelf;
@@ -11,7 +12,9 @@ pub mod outcome;
 pub mod seq;
 pub mod shelf;
 pub mod sink;
+pub mod std_sink;
 
+pub use file_shelf::FileShelf;
 pub use index::{
     ConId, DataId, DefId, DomId, Index, MadeId, ModId, TyIx, VarIx, WireId, law_of_index,
 };
@@ -21,3 +24,4 @@ pub use outcome::{NoMemory, Or};
 pub use seq::{Name, Seq};
 pub use shelf::{Fetched, Shelf, ShelfFault};
 pub use sink::{Sink, SinkFault};
+pub use std_sink::StdSink;
