@@ -96,3 +96,36 @@ impl<'r, R: Files> Shelf for FileShelf<'r, R> {
         }
     }
 }
+
+#[cfg(test)]
+mod tests {
+    use super::*;
+    use std::test::Fail;
+
+    #[test]
+    fn reads_a_file_of_the_system(rt: HostRuntime) -> Result<(), Fail> {
+        let alloc = rt.alloc();
+        fs::write(&rt, "shelf_test", b"line\n")?;
+        let mut shelf = FileShelf::new(&rt);
+        let mut into = Vec::new(alloc);
+        assert!(rt;
+            matches!(
+                shelf.fetch(alloc, "shelf_test", 4, &mut into),
+                Ok(Fetched::TooLong)
+            )
+        );
+        assert!(rt;
+            matches!(
+                shelf.fetch(alloc, "shelf_test", 5, &mut into),
+                Ok(Fetched::Whole)
+            )
+        );
+        assert_eq!(rt; into.as_slice(), b"line\n".as_slice());
+        into.clear();
+        fs::remove_file(&rt, "shelf_test")?;
+        let missing = shelf.fetch(alloc, "shelf_test", 5, &mut into);
+        assert!(rt; matches!(missing, Err(Or::Fault(ShelfFault))));
+        assert_eq!(rt; shelf.faults, 1);
+        Ok(())
+    }
+}

@@ -71,3 +71,53 @@ impl<W: Write + Drop> Sink for StdSink<W> {
         }
     }
 }
+
+#[cfg(test)]
+mod tests {
+    use super::*;
+    use std::io;
+    use std::test::Fail;
+
+    // Takes one byte a call, as many as it has room for, and fails then.
+    #[derive(Drop)]
+    struct Narrow {
+        taken: Vec<u8>,
+        room: u32,
+        flushed: bool,
+    }
+
+    impl Write for Narrow {
+        fn write(&mut self, bytes: &[u8]) -> io::Result<usize> {
+            if self.room == 0 || bytes.is_empty() {
+                return Ok(0);
+            }
+            self.room -= 1;
+            self.flushed = false;
+            self.taken.push(bytes[0])?;
+            Ok(1)
+        }
+
+        fn flush(&mut self) -> io::Result<()> {
+            self.flushed = true;
+            Ok(())
+        }
+    }
+
+    #[test]
+    fn passes_whole_pieces_on(rt: HostRuntime) -> Result<(), Fail> {
+        let alloc = rt.alloc();
+        let to = Narrow {
+            taken: Vec::new(alloc),
+            room: 4,
+            flushed: false,
+        };
+        let mut sink = StdSink::new(to);
+        assert!(rt; sink.put(alloc, b"abc").is_ok());
+        assert!(rt; sink.to.flushed);
+        assert!(rt; sink.put(alloc, b"").is_ok());
+        assert!(rt; matches!(sink.put(alloc, b"de"), Err(Or::Fault(SinkFault))));
+        assert_eq!(rt; sink.to.taken.as_slice(), b"abcd".as_slice());
+        assert_eq!(rt; sink.faults, 1);
+        Ok(())
+    }
+}
