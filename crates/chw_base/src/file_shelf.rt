@@ -100,7 +100,35 @@ impl<'r, R: Files> Shelf for FileShelf<'r, R> {
 #[cfg(test)]
 mod tests {
     use super::*;
+    use std::io;
     use std::test::Fail;
+
+    // Is interrupted, gives one byte, and then fails.
+    #[derive(Drop)]
+    struct Faltering {
+        calls: u32,
+    }
+
+    impl Read for Faltering {
+        fn read(&mut self, bytes: &mut [u8]) -> io::Result<usize> {
+            self.calls = self.calls.saturating_add(1);
+            match self.calls {
+                1 => Err(io::Error::from(ErrorKind::Interrupted)),
+                2 if !bytes.is_empty() => Ok(1),
+                _ => Err(io::Error::from(ErrorKind::TimedOut)),
+            }
+        }
+    }
+
+    #[test]
+    fn fails_where_the_reader_fails(rt: HostRuntime) -> Result<(), Fail> {
+        let mut reader = Faltering { calls: 0 };
+        let mut into = Vec::new(rt.alloc());
+        let answer = drain(&mut reader, 5, &mut into);
+        assert!(rt; matches!(answer, Err(Or::Fault(ShelfFault))));
+        assert_eq!(rt; reader.calls, 3);
+        Ok(())
+    }
 
     #[test]
     fn reads_a_file_of_the_system(rt: HostRuntime) -> Result<(), Fail> {
