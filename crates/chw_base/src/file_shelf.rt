@@ -1,6 +1,6 @@
 //! The shelf of the files of the system.
 ghost use Rattle.std.specs.Prelude.{◌≡◌, [], None};
-ghost use Rattle.chw_base.specs.Draining.{Drains};
+ghost use Rattle.chw_base.specs.Draining.{Drains, DrainsSome};
 
 use crate::outcome::Or;
 use crate::shelf::{Fetched, Shelf, ShelfFault};
@@ -39,7 +39,10 @@ fn drain<F: Read>(file: &mut F, limit: u32, into: &mut Vec<u8>) -> Result<Fetche
         let room = BLOCK.min(limit + 1 - into.len());
         match file.read(&mut block[..room]) {
             Ok(0) => return Ok(Fetched::Whole),
-            Ok(n) if into.len() + n > limit => return Ok(Fetched::TooLong),
+            Ok(n) if into.len() + n > limit => {
+                into.clear();
+                return Ok(Fetched::TooLong);
+            }
             Ok(n) => into.extend_from_slice(&block[..n])?,
             Err(e) if e.kind() == ErrorKind::Interrupted => {}
             Err(_) => return Err(Or::Fault(ShelfFault)),
@@ -56,7 +59,7 @@ fn read_file<R: Files>(
     into: &mut Vec<u8>,
 ) -> Result<Fetched, Or<ShelfFault>>
     requires { into.old.items ≡ [] }
-    ensures { Drains None limit result into.new.items }
+    ensures { DrainsSome R.File.remaining limit result into.new.items }
 {
     match fs::open(rt, name) {
         Ok(mut file) => drain(&mut file, limit, into),
@@ -69,7 +72,7 @@ impl<'r, R: Files> Shelf for FileShelf<'r, R> {
 
     ghost faults = { λ s. s.faults };
 
-    ghost fetch_gives = { λ _ _ _ _ _ _. Unit {0} };
+    ghost fetch_gives = { λ _ _ limit answer bytes _. DrainsSome R.File.remaining limit answer bytes };
 
     fn fetch(
         &mut self,
@@ -79,11 +82,7 @@ impl<'r, R: Files> Shelf for FileShelf<'r, R> {
         into: &mut Vec<u8>,
     ) -> Result<Fetched, Or<ShelfFault>> {
         match read_file(self.rt, name, limit, into) {
-            Ok(Fetched::Whole) => Ok(Fetched::Whole),
-            Ok(found) => {
-                into.clear();
-                Ok(found)
-            }
+            Ok(found) => Ok(found),
             Err(Or::Memory) => {
                 into.clear();
                 Err(Or::Memory)
