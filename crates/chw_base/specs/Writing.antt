@@ -1,5 +1,5 @@
 -- What a sink answers to a put.
-use Rattle.std.specs.Prelude.{◌≡◌, ℕ, ◌≤◌, List, [], ◌∷◌, ◌++◌, take, Option, Result, Ok, Err}
+use Rattle.std.specs.Prelude.{◌≡◌, ℕ, ◌≤◌, List, ◌++◌, take, Option, Result, Ok, Err}
 use Rattle.std.specs.Option.{option_map}
 use Rattle.chw_base.specs.Faults.{Rose}
 use Rattle.chw_base.specs.declared.outcome.Or.{Or}
@@ -16,9 +16,3 @@ Writes bytes written written' before after (Ok _) = GrewBy bytes written written
 Writes bytes written written' before after (Err Memory) = (written' ≡ written) × (before ≤ after)
 Writes bytes written written' before after (Err (Fault _)) =
     ((k : ℕ) × GrewBy (take k bytes) written written') × (before ≤ after) × Rose before after
-
-module _ {S : Type 0} (gives : S → List ℕ → Result (Unit {0}) (Or SinkFault) → S → Type 0) where
-  -- the second sink is the first one after one call for each piece, in order, each taken whole
-  pub data PutsAll : S → List (List ℕ) → S → Type 0 where
-    none : (s : S) → PutsAll s [] s
-    more : (s t u : S) (piece : List ℕ) (pieces : List (List ℕ)) → PutsAll s pieces t → gives t piece (Ok tt) u → PutsAll s (pieces ++ piece ∷ []) u
