@@ -1,0 +1,3 @@
+pub mod Drivers
+pub mod Header
+pub mod Parts

@@ -1,0 +1,136 @@
+//! The declarations of wires, by the cells that drive them.
+ghost use Rattle.std.specs.Prelude.{◌≡◌, ◌++◌, ◌==◌, ◌<◌, ℕ, length, drop, slice_index_or, if◌then◌else◌, Some, None, OnOk, IfOk};
+ghost use Rattle.std.specs.List.{list_any};
+ghost use Rattle.netlist.specs.Text.{Scope, declaration, declarations};
+ghost use Rattle.netlist.specs.Wires.{driven, driver};
+ghost use Rattle.verilog_print.specs.Parts.{register_declaration, wire_declaration};
+ghost use Rattle.verilog_print.specs.Drivers.{cell_at};
+
+use crate::names::put_wire;
+use crate::pieces::{put, put_literal, put_range};
+use chw_base::{NoMemory, WireId};
+use chw_clock::Bits;
+use netlist::{Cell, Module};
+use std::alloc::Global;
+use std::slice;
+
+/// The wires that a cell drives.
+fn driven(cell: &Cell) -> &[WireId]
+    ensures { result.now ≡ driven cell.now }
+{
+    match cell {
+        Cell::Const(wire, ..)
+        | Cell::Copy(wire, ..)
+        | Cell::Join(wire, ..)
+        | Cell::Cut(wire, ..)
+        | Cell::Un(wire, ..)
+        | Cell::Bin(wire, ..)
+        | Cell::Mux(wire, ..)
+        | Cell::Reg(wire, ..)
+        | Cell::Ram(wire, ..) => slice::from_ref(wire),
+        Cell::Use(_, _, drives) => drives.as_slice(),
+    }
+}
+
+/// Notes the place of a cell at each of the wires that it drives.
+fn note(table: &mut Vec<Option<usize>>, wires: &[WireId], place: usize)
+    ensures len { length table.new.items ≡ length table.old.items }
+    ensures noted {
+        (k : ℕ) → k < length table.old.items →
+        slice_index_or table.new.items k None
+            ≡ (if list_any (λ w. w.number == k) wires.now then Some place else slice_index_or table.old.items k None)
+    }
+{
+    for wire in wires {
+        let number = wire.number as usize;
+        if number < table.len() {
+            table[number] = Some(place);
+        }
+    }
+}
+
+/// For each of this many wires, the place of the first cell that drives it.
+fn drivers(alloc: Global, cells: &[Cell], count: usize) -> Result<Vec<Option<usize>>, NoMemory>
+    ensures len { IfOk result (λ table. length table.items ≡ count) }
+    ensures drivers {
+        IfOk result (λ table. (k : ℕ) → k < count → cell_at cells.now (slice_index_or table.items k None) ≡ driver cells.now k)
+    }
+{
+    let mut table = vec![in alloc; None; count]?;
+    for place in (0..cells.len()).rev() {
+        note(&mut table, driven(&cells[place]), place);
+    }
+    Ok(table)
+}
+
+/// Writes the declaration of a wire that no register drives.
+fn declare_wire(out: &mut Vec<u8>, wire: usize, width: u32) -> Result<(), NoMemory>
+    ensures { OnOk result (out.new.items ≡ out.old.items ++ wire_declaration wire width) }
+{
+    put(out, b"  wire ")?;
+    put_range(out, width)?;
+    put(out, b" ")?;
+    put_wire(out, wire)?;
+    put(out, b";\n")?;
+    Ok(())
+}
+
+/// Writes the declaration of a register with its initial bits.
+fn declare_register(
+    alloc: Global,
+    out: &mut Vec<u8>,
+    wire: usize,
+    width: u32,
+    initial: &Bits,
+) -> Result<(), NoMemory>
+    ensures { OnOk result (out.new.items ≡ out.old.items ++ register_declaration wire width initial.now) }
+{
+    put(out, b"  reg ")?;
+    put_range(out, width)?;
+    put(out, b" ")?;
+    put_wire(out, wire)?;
+    put(out, b" = ")?;
+    put_literal(alloc, out, initial)?;
+    put(out, b";\n")?;
+    Ok(())
+}
+
+/// Writes the declaration of a wire, by the place of the cell that drives it.
+fn declare(
+    alloc: Global,
+    out: &mut Vec<u8>,
+    cells: &[Cell],
+    place: Option<usize>,
+    wire: usize,
+    width: u32,
+) -> Result<(), NoMemory>
+    ensures {
+        (scope : Scope) →
+        OnOk result (out.new.items ≡ out.old.items ++ declaration scope (cell_at cells.now place) wire width)
+    }
+{
+    let Some(place) = place else {
+        return declare_wire(out, wire, width);
+    };
+    match cells.get(place) {
+        Some(Cell::Reg(_, _, initial, _)) => declare_register(alloc, out, wire, width, initial),
+        _ => declare_wire(out, wire, width),
+    }
+}
+
+/// Writes the declarations of all wires that are no inputs, in order.
+pub fn put_declarations(alloc: Global, out: &mut Vec<u8>, top: &Module) -> Result<(), NoMemory>
+    ensures {
+        (scope : Scope) →
+        OnOk result (out.new.items
+            ≡ out.old.items ++ declarations scope top.now.cells top.now.inputs (drop top.now.inputs top.now.widths))
+    }
+{
+    let cells = top.cells.as_slice();
+    let widths = top.widths.as_slice();
+    let places = drivers(alloc, cells, widths.len())?;
+    for wire in top.inputs as usize..widths.len() {
+        declare(alloc, out, cells, places[wire], wire, widths[wire])?;
+    }
+    Ok(())
+}
