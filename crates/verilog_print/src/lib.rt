@@ -9,3 +9,6 @@ mod printer;
 mod wires;
 
 pub use printer::print;
+
+#[cfg(test)]
+mod tests;

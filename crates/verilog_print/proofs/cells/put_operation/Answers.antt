@@ -1,4 +1,4 @@
-use Rattle.std.proofs.Common.{◌≡◌, List, ℕ, ◌++◌, sym, ap, ◌∙◌, append_assoc}
+use Rattle.std.proofs.Common.{◌≡◌, List, ℕ, ◌++◌, ap, ◌∙◌, append_assoc}
 use Rattle.netlist.specs.Text.{name_in, top_scope}
 use Rattle.verilog_print.proofs.cells.put_operation.Goals as goal
 
