@@ -82,7 +82,13 @@ fn start_assign(out: &mut Vec<u8>, ports: &Ports, wire: WireId) -> Result<(), No
 }
 
 /// Writes the line of a constant.
-fn put_const(alloc: Global, out: &mut Vec<u8>, ports: &Ports, wire: WireId, bits: &Bits) -> Result<(), NoMemory>
+fn put_const(
+    alloc: Global,
+    out: &mut Vec<u8>,
+    ports: &Ports,
+    wire: WireId,
+    bits: &Bits,
+) -> Result<(), NoMemory>
     ensures { OnOk result (out.new.items ≡ out.old.items ++ cell_line (top_scope ports.now) (Cell.Const wire bits.now)) }
 {
     start_assign(out, ports, wire)?;
@@ -117,7 +123,12 @@ fn put_names(out: &mut Vec<u8>, ports: &Ports, wires: &[WireId]) -> Result<(), N
 }
 
 /// Writes the line of a join.
-fn put_join(out: &mut Vec<u8>, ports: &Ports, wire: WireId, parts: &[WireId]) -> Result<(), NoMemory>
+fn put_join(
+    out: &mut Vec<u8>,
+    ports: &Ports,
+    wire: WireId,
+    parts: &[WireId],
+) -> Result<(), NoMemory>
     ensures { OnOk result (out.new.items ≡ out.old.items ++ cell_line (top_scope ports.now) (Cell.Join wire parts.now)) }
 {
     start_assign(out, ports, wire)?;
@@ -158,7 +169,13 @@ fn put_cut(
 }
 
 /// Writes the line of an operator on one wire.
-fn put_un(out: &mut Vec<u8>, ports: &Ports, wire: WireId, op: Op1, a: WireId) -> Result<(), NoMemory>
+fn put_un(
+    out: &mut Vec<u8>,
+    ports: &Ports,
+    wire: WireId,
+    op: Op1,
+    a: WireId,
+) -> Result<(), NoMemory>
     ensures { OnOk result (out.new.items ≡ out.old.items ++ cell_line (top_scope ports.now) (Cell.Un wire op a)) }
 {
     start_assign(out, ports, wire)?;
@@ -169,7 +186,13 @@ fn put_un(out: &mut Vec<u8>, ports: &Ports, wire: WireId, op: Op1, a: WireId) ->
 }
 
 /// Writes an operator between its two wires.
-fn put_operation(out: &mut Vec<u8>, ports: &Ports, op: Op2, a: WireId, b: WireId) -> Result<(), NoMemory>
+fn put_operation(
+    out: &mut Vec<u8>,
+    ports: &Ports,
+    op: Op2,
+    a: WireId,
+    b: WireId,
+) -> Result<(), NoMemory>
     ensures { OnOk result (out.new.items ≡ out.old.items ++ operation (top_scope ports.now) op a b) }
 {
     put_operand(out, ports, a, is_left_signed(op))?;
@@ -259,7 +282,12 @@ fn put_register(
 }
 
 /// Writes the line of a cell.
-pub fn put_cell(alloc: Global, out: &mut Vec<u8>, ports: &Ports, cell: &Cell) -> Result<(), NoMemory>
+pub fn put_cell(
+    alloc: Global,
+    out: &mut Vec<u8>,
+    ports: &Ports,
+    cell: &Cell,
+) -> Result<(), NoMemory>
     requires { HasLine cell.now }
     ensures { OnOk result (out.new.items ≡ out.old.items ++ cell_line (top_scope ports.now) cell.now) }
 {

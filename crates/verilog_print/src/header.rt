@@ -64,10 +64,8 @@ fn put_clocks(out: &mut Vec<u8>, domains: &[Name]) -> Result<(), NoMemory>
 
 /// Writes the inputs; `after` says whether an item stands before them.
 fn put_inputs(out: &mut Vec<u8>, ports: &Ports, after: bool) -> Result<(), NoMemory>
-    ensures {
-        OnOk result (out.new.items
-            ≡ out.old.items ++ items_text after (map (input_item ports.now.domains) ports.now.inputs))
-    }
+    ensures { OnOk result (out.new.items
+        ≡ out.old.items ++ items_text after (map (input_item ports.now.domains) ports.now.inputs)) }
 {
     let mut before = after;
     for port in ports.inputs.as_slice() {
@@ -80,10 +78,8 @@ fn put_inputs(out: &mut Vec<u8>, ports: &Ports, after: bool) -> Result<(), NoMem
 
 /// Writes the outputs; `after` says whether an item stands before them.
 fn put_outputs(out: &mut Vec<u8>, ports: &Ports, after: bool) -> Result<(), NoMemory>
-    ensures {
-        OnOk result (out.new.items
-            ≡ out.old.items ++ items_text after (map (output_item ports.now.domains) ports.now.outputs))
-    }
+    ensures { OnOk result (out.new.items
+        ≡ out.old.items ++ items_text after (map (output_item ports.now.domains) ports.now.outputs)) }
 {
     let mut before = after;
     for port in ports.outputs.as_slice() {

@@ -15,7 +15,12 @@ use netlist::{Cell, Module, Net};
 use std::alloc::Global;
 
 /// Writes the lines of cells.
-fn put_cells(alloc: Global, out: &mut Vec<u8>, ports: &Ports, cells: &[Cell]) -> Result<(), NoMemory>
+fn put_cells(
+    alloc: Global,
+    out: &mut Vec<u8>,
+    ports: &Ports,
+    cells: &[Cell],
+) -> Result<(), NoMemory>
     requires { AllByRecursion HasLine cells.now }
     ensures { OnOk result (out.new.items ≡ out.old.items ++ flat_map (cell_line (top_scope ports.now)) cells.now) }
 {
@@ -26,11 +31,14 @@ fn put_cells(alloc: Global, out: &mut Vec<u8>, ports: &Ports, cells: &[Cell]) ->
 }
 
 /// Writes the assignment of an output.
-fn put_output_line(out: &mut Vec<u8>, ports: &Ports, port: &Port, wire: WireId) -> Result<(), NoMemory>
-    ensures {
-        OnOk result (out.new.items
-            ≡ out.old.items ++ assign_line (output_name ports.now.domains port.now) (name_in (top_scope ports.now) wire))
-    }
+fn put_output_line(
+    out: &mut Vec<u8>,
+    ports: &Ports,
+    port: &Port,
+    wire: WireId,
+) -> Result<(), NoMemory>
+    ensures { OnOk result (out.new.items
+        ≡ out.old.items ++ assign_line (output_name ports.now.domains port.now) (name_in (top_scope ports.now) wire)) }
 {
     put(out, b"  assign ")?;
     put_output(out, ports, port)?;
@@ -42,9 +50,7 @@ fn put_output_line(out: &mut Vec<u8>, ports: &Ports, port: &Port, wire: WireId) 
 
 /// Writes one assignment for each output.
 fn put_output_lines(out: &mut Vec<u8>, ports: &Ports, wires: &[WireId]) -> Result<(), NoMemory>
-    ensures {
-        OnOk result (out.new.items ≡ out.old.items ++ output_lines (top_scope ports.now) ports.now.outputs wires.now)
-    }
+    ensures { OnOk result (out.new.items ≡ out.old.items ++ output_lines (top_scope ports.now) ports.now.outputs wires.now) }
 {
     for (place, port) in ports.outputs.as_slice().iter().enumerate() {
         let Some(wire) = wires.get(place) else {

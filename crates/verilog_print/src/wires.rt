@@ -35,11 +35,9 @@ fn driven(cell: &Cell) -> &[WireId]
 /// Notes the place of a cell at each of the wires that it drives.
 fn note(table: &mut Vec<Option<usize>>, wires: &[WireId], place: usize)
     ensures len { length table.new.items ≡ length table.old.items }
-    ensures noted {
-        (k : ℕ) → k < length table.old.items →
+    ensures noted { (k : ℕ) → k < length table.old.items →
         slice_index_or table.new.items k None
-            ≡ (if list_any (λ w. w.number == k) wires.now then Some place else slice_index_or table.old.items k None)
-    }
+        ≡ (if list_any (λ w. w.number == k) wires.now then Some place else slice_index_or table.old.items k None) }
 {
     for wire in wires {
         let number = wire.number as usize;
@@ -52,9 +50,7 @@ fn note(table: &mut Vec<Option<usize>>, wires: &[WireId], place: usize)
 /// For each of this many wires, the place of the first cell that drives it.
 fn drivers(alloc: Global, cells: &[Cell], count: usize) -> Result<Vec<Option<usize>>, NoMemory>
     ensures len { IfOk result (λ table. length table.items ≡ count) }
-    ensures drivers {
-        IfOk result (λ table. (k : ℕ) → k < count → cell_at cells.now (slice_index_or table.items k None) ≡ driver cells.now k)
-    }
+    ensures drivers { IfOk result (λ table. (k : ℕ) → k < count → cell_at cells.now (slice_index_or table.items k None) ≡ driver cells.now k) }
 {
     let mut table = vec![in alloc; None; count]?;
     for place in (0..cells.len()).rev() {
@@ -104,10 +100,8 @@ fn declare(
     wire: usize,
     width: u32,
 ) -> Result<(), NoMemory>
-    ensures {
-        (scope : Scope) →
-        OnOk result (out.new.items ≡ out.old.items ++ declaration scope (cell_at cells.now place) wire width)
-    }
+    ensures { (scope : Scope) →
+        OnOk result (out.new.items ≡ out.old.items ++ declaration scope (cell_at cells.now place) wire width) }
 {
     let Some(place) = place else {
         return declare_wire(out, wire, width);
@@ -120,11 +114,9 @@ fn declare(
 
 /// Writes the declarations of all wires that are no inputs, in order.
 pub fn put_declarations(alloc: Global, out: &mut Vec<u8>, top: &Module) -> Result<(), NoMemory>
-    ensures {
-        (scope : Scope) →
+    ensures { (scope : Scope) →
         OnOk result (out.new.items
-            ≡ out.old.items ++ declarations scope top.now.cells top.now.inputs (drop top.now.inputs top.now.widths))
-    }
+        ≡ out.old.items ++ declarations scope top.now.cells top.now.inputs (drop top.now.inputs top.now.widths)) }
 {
     let cells = top.cells.as_slice();
     let widths = top.widths.as_slice();

@@ -11,8 +11,8 @@ some_before c =
     let inputs = stands_map (input_item ports.domains) ports.inputs (not c.is_empty-clocks.result) c.is_empty-inputs.result c.is_empty-inputs.ensures in
     let at_last = λ (b : Bool). if not b then true else not c.is_empty-inputs.result in
     elim c.if-clocks.branch [
-      then-clocks w ↦ w.put_outputs-is ∙ ap not w.if-clocks.true ∙ sym (inputs ∙ ap at_last w.if-clocks.true)
-    | else-clocks w ↦ w.put_outputs-is ∙ sym (inputs ∙ ap at_last w.if-clocks.false)
+      | then-clocks w ↦ w.put_outputs-is ∙ ap not w.if-clocks.true ∙ sym (inputs ∙ ap at_last w.if-clocks.true)
+      | else-clocks w ↦ w.put_outputs-is ∙ sym (inputs ∙ ap at_last w.if-clocks.false)
     ]
 
 pub returns : goal.returns

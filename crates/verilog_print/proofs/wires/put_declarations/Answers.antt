@@ -9,6 +9,6 @@ pub loop-wire-preserved : goal.loop-wire-preserved
 loop-wire-preserved c =
     let cells = c.as_slice-cells.result.now in
     let told : cell_at cells c.index.result.now ≡ driver cells c.loop-wire.wire =
-      ap (λ o. cell_at cells o) (get_or_read c.in_ok-places.places.items c.loop-wire.wire c.index.result.now (omega (arith, c.in_ok-places.ensures.len)) c.index.ensures None)
-      ∙ c.in_ok-places.ensures.drivers c.loop-wire.wire c.loop-wire-test.true in
+    ap (λ o. cell_at cells o) (get_or_read c.in_ok-places.places.items c.loop-wire.wire c.index.result.now (omega (arith, c.in_ok-places.ensures.len)) c.index.ensures None)
+    ∙ c.in_ok-places.ensures.drivers c.loop-wire.wire c.loop-wire-test.true in
     λ scope. declared scope cells c.as_slice-widths.result.now c.loop-wire.wire 0 _ c.loop-wire.out.items _ _ c.loop-wire-test.true told (c.in_ok-declare.ensures scope) (c.loop-wire.invariant scope)
