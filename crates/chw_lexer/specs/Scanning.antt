@@ -21,6 +21,11 @@ abbrev pub BeginsWith : (ℕ → Bool) → List ℕ → Type 0
 BeginsWith test [] = ⊥
 BeginsWith test (b ∷ bytes) = IsTrue (test b)
 
+-- whether there is a first byte that passes
+abbrev pub begins_with : (ℕ → Bool) → List ℕ → Bool
+begins_with test [] = false
+begins_with test (b ∷ bytes) = test b
+
 -- no first byte passes
 abbrev pub StopsAt : (ℕ → Bool) → List ℕ → Type 0
 StopsAt test [] = Unit {0}
