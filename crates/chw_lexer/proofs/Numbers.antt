@@ -99,3 +99,62 @@ module _ (signed : Bool) (bytes : List ℕ) (n : ℕ) (run : IsRun is_digit byte
               let shorter = width_within other more same parts in
               omega (arith, ap length parts.word_is ∙ length-append parts.value (parts.letter ∷ parts.width));
         }
+
+-- what begins with a digit is a numeral or a literal
+number_form : (sort : Sort) (b : ℕ) (bytes : List ℕ) → (48 ≤ b) × (b ≤ 57) → First sort b → HasForm sort (b ∷ bytes) → IsNumeral (b ∷ bytes) ⊎ IsUnsigned (is_letter false) (b ∷ bytes)
+number_form Lower b bytes digit first form = absurd (omega arith)
+number_form Upper b bytes digit first form = absurd (omega arith)
+number_form Key b bytes digit first form = absurd (omega arith)
+number_form Numeral b bytes digit first form = inl form
+number_form Literal b bytes digit first form =
+    elim (literal_parts (b ∷ bytes) form) [
+      inl parts ↦ inr parts
+    | inr negative ↦ let same : b ∷ bytes ≡ 45 ∷ negative.0 = negative.1 in let head : b ≡ 45 = cc in absurd (omega arith)
+    ]
+number_form Symbol b bytes digit first form = absurd (omega arith)
+
+pub number_word : (bytes : List ℕ) → BeginsWith is_digit bytes → (sort : Sort) (word more : List ℕ) → word ++ more ≡ bytes → HasForm sort word → IsNumeral word ⊎ IsUnsigned (is_letter false) word
+number_word bytes begins sort [] more same form = absurd (form_empty sort form)
+number_word [] begins sort (w ∷ word) more same form = absurd begins
+number_word (b ∷ bytes) begins sort (w ∷ word) more same form =
+    let head : w ≡ b = cc in
+    number_form sort w word (subst (λ x. (48 ≤ x) × (x ≤ 57)) (sym head) (digit_range b begins)) (form_first sort w word form) form
+
+-- a numeral before a literal is no longer than its value
+numeral_within : (bytes : List ℕ) (n : ℕ) (literal : IsLongestUnsigned (is_letter false) bytes n) (word more : List ℕ) → word ++ more ≡ bytes → IsNumeral word → length word ≤ n
+numeral_within bytes n literal word more same numeral =
+    let parts = literal.form in
+    let regroup : word ++ more ≡ parts.value ++ (parts.letter ∷ (parts.width ++ drop n bytes)) =
+        same ∙ sym (take-append-drop n bytes) ∙ ap (λ w. w ++ drop n bytes) parts.word_is ∙ append_assoc parts.value (parts.letter ∷ parts.width) (drop n bytes) in
+    let shorter : length word ≤ length parts.value =
+        within_run is_digit parts.value (parts.letter ∷ (parts.width ++ drop n bytes)) word more (numeral_digits parts.value parts.value_is) (letter_no_digit false parts.letter parts.letter_is) (numeral_digits word numeral) regroup in
+    omega (arith, length-take-le n bytes literal.within, ap length parts.word_is ∙ length-append parts.value (parts.letter ∷ parts.width))
+
+pub literal_token : (bytes : List ℕ) (n : ℕ) → BeginsWith is_digit bytes → IsLongestUnsigned (is_letter false) bytes n → IsTokenAt bytes Literal n
+literal_token bytes n begins literal = record {
+  within = literal.within;
+  longest = record {
+    form = unsigned_literal (take n bytes) literal.form;
+    longest = λ other word more same form.
+        let whole : word ++ more ≡ bytes = same ∙ take-append-drop n bytes in
+        let front : length (take n bytes) ≡ n = length-take-le n bytes literal.within in
+        elim (number_word bytes begins other word more whole form) [
+          inl numeral ↦ let shorter = numeral_within bytes n literal word more whole numeral in omega arith
+        | inr parts ↦ let shorter = literal.longest word more whole parts in omega arith
+        ];
+  };
+}
+
+pub numeral_token : (bytes : List ℕ) (n : ℕ) → BeginsWith is_digit bytes → BeginsNoUnsigned (is_letter false) bytes → IsRun is_digit bytes n → IsTokenAt bytes Numeral n
+numeral_token bytes n begins none run = record {
+  within = run.within;
+  longest = record {
+    form = begins_run is_digit is_digit bytes n (λ b digit. digit) begins run;
+    longest = λ other word more same form.
+        let whole : word ++ more ≡ bytes = same ∙ take-append-drop n bytes in
+        elim (number_word bytes begins other word more whole form) [
+          inl numeral ↦ within_run is_digit (take n bytes) (drop n bytes) word more run.passes run.stops (numeral_digits word numeral) same
+        | inr parts ↦ absurd (none word more whole parts)
+        ];
+  };
+}

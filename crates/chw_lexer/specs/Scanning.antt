@@ -16,6 +16,10 @@ is_of Digit b = is_digit b
 is_of LetterOrDigit b = is_letter_or_digit b
 is_of NameByte b = is_name_byte b
 
+-- neither a letter nor a digit nor `-`
+abbrev pub is_other : ℕ → Bool
+is_other b = not (is_letter_or_digit b || (b == 45))
+
 -- there is a first byte, and it passes
 abbrev pub BeginsWith : (ℕ → Bool) → List ℕ → Type 0
 BeginsWith test [] = ⊥
