@@ -1,8 +1,8 @@
 -- Numerals and literals as longest tokens.
-use Rattle.std.proofs.Common.{◌≡◌, ℕ, suc, zero, ◌+◌, ◌<◌, ◌≤◌, Bool, true, false, ◌||◌, ◌⊎◌, inl, inr, eqb, List, [], ◌∷◌, ◌++◌, length, take, drop, sym, refl, ap, ◌∙◌, subst, append_assoc, arith}
+use Rattle.std.proofs.Common.{◌≡◌, ℕ, suc, zero, ◌+◌, ◌<◌, ◌≤◌, Bool, true, false, ◌||◌, ◌⊎◌, inl, inr, eqb, List, [], ◌∷◌, ◌++◌, length, take, drop, sym, refl, ap, ◌∙◌, subst, append_assoc, add-one, get_or, ◌-◌, arith}
 use Rattle.std.specs.Prelude.{IsTrue}
 use Rattle.std.proofs.lemmas.Bool.{false≢true, or_cases, eqb-true}
-use Rattle.std.proofs.lemmas.List.{take-append-drop, take_at, length-append, length-take-le}
+use Rattle.std.proofs.lemmas.List.{take-append-drop, take_at, take_rest, length-append, length-take-le}
 use Rattle.chw_lexer.specs.Forms.{AllOf, is_digit, IsNumeral, HasForm}
 use Rattle.chw_lexer.specs.Tokens.{IsLongest}
 use Rattle.chw_lexer.specs.Scanning.{BeginsWith, StopsAt, IsRun, is_letter, IsUnsigned, IsLongestUnsigned, BeginsNoUnsigned, IsTokenAt, BeginsNoToken, begins_with}
@@ -158,3 +158,33 @@ numeral_token bytes n begins none run = record {
         ];
   };
 }
+
+begins_drop : (test : ℕ → Bool) (bytes : List ℕ) (n : ℕ) → begins_with test (drop n bytes) ≡ true → (drop n bytes ≡ get_or bytes n 0 ∷ drop (suc n) bytes) × IsTrue (test (get_or bytes n 0))
+begins_drop test [] zero begins = absurd (false≢true begins)
+begins_drop test [] (suc n) begins = absurd (false≢true begins)
+begins_drop test (b ∷ bytes) zero begins = (refl, begins)
+begins_drop test (b ∷ bytes) (suc n) begins = begins_drop test bytes n begins
+
+-- the same for parts of a slice
+abbrev pub from_on : List ℕ → ℕ → List ℕ
+from_on bytes n = take (length bytes - n) (drop n bytes)
+
+module _ (signed : Bool) (bytes : List ℕ) (n : ℕ) (run : IsRun is_digit bytes n) where
+  pub no_letter_from : begins_with (is_letter signed) (from_on bytes n) ≡ false → BeginsNoUnsigned (is_letter signed) bytes
+  no_letter_from none = no_letter signed bytes n run (ap (begins_with (is_letter signed)) (sym (take_rest bytes n)) ∙ none)
+
+  module _ (begins : begins_with (is_letter signed) (from_on bytes n) ≡ true) (m : ℕ) (digits : IsRun is_digit (from_on bytes (n + 1)) m) where
+    letter_here : (drop n bytes ≡ get_or bytes n 0 ∷ drop (suc n) bytes) × IsTrue (is_letter signed (get_or bytes n 0))
+    letter_here = begins_drop (is_letter signed) bytes n (ap (begins_with (is_letter signed)) (sym (take_rest bytes n)) ∙ begins)
+
+    digits_here : IsRun is_digit (drop (suc n) bytes) m
+    digits_here =
+        let same : from_on bytes (n + 1) ≡ drop (suc n) bytes = take_rest bytes (n + 1) ∙ ap (λ i. drop i bytes) (add-one n) in
+        subst (λ width. IsRun is_digit width m) same digits
+
+    pub no_width_from : m ≡ 0 → BeginsNoUnsigned (is_letter signed) bytes
+    no_width_from = no_width signed bytes n run (get_or bytes n 0) (drop (suc n) bytes) letter_here.0 m digits_here
+
+    pub whole_from : (n ≡ 0 → ⊥) → (m ≡ 0 → ⊥) → IsLongestUnsigned (is_letter signed) bytes (n + 1 + m)
+    whole_from some_value some_width =
+        whole signed bytes n run (get_or bytes n 0) (drop (suc n) bytes) letter_here.0 m digits_here letter_here.1 (omega arith) (omega arith)

@@ -1,9 +1,9 @@
 -- Symbols and negative literals as longest tokens.
-use Rattle.std.proofs.Common.{◌≡◌, ℕ, suc, zero, ◌+◌, ◌<◌, ◌≤◌, Bool, true, false, not, ◌&&◌, ◌||◌, ◌⊎◌, inl, inr, eqb, leb, List, [], ◌∷◌, ◌++◌, length, take, drop, sym, refl, ap, ◌∙◌, subst, add-one, arith}
+use Rattle.std.proofs.Common.{◌≡◌, ℕ, suc, zero, ◌+◌, ◌<◌, ◌≤◌, Bool, true, false, not, ◌&&◌, ◌||◌, ◌⊎◌, inl, inr, eqb, leb, List, [], ◌∷◌, ◌++◌, length, take, drop, sym, refl, ap, ◌∙◌, subst, add-one, ◌-◌, arith}
 use Rattle.std.specs.Prelude.{IsTrue, ◌==◌}
 use Rattle.std.proofs.lemmas.Bool.{false≢true, both_ways, and_parts, or_parts, not-true, or_cases, eqb-true, eq-eqb, le-leb, and_from}
 use Rattle.std.proofs.lemmas.Bool.Decides.{nat_tests}
-use Rattle.std.proofs.lemmas.List.{take-append-drop, length-take-le}
+use Rattle.std.proofs.lemmas.List.{take-append-drop, take_rest, length-take-le}
 use Rattle.chw_lexer.specs.Forms.{is_small_letter, is_capital, is_digit, is_letter_or_digit, is_symbol, HasForm}
 use Rattle.chw_lexer.specs.Tokens.{IsLongest}
 use Rattle.chw_lexer.specs.Scanning.{BeginsWith, begins_with, is_letter, is_other, IsUnsigned, IsLongestUnsigned, BeginsNoUnsigned, IsTokenAt, BeginsNoToken}
@@ -197,3 +197,23 @@ no_lambda_token bytes none sort word more same form =
       let tail : 92 ∷ more ≡ b ∷ bytes = cc in
       let head : b ≡ 92 = cc in
       both_ways (eqb b 92) none (eq-eqb b 92 head)
+
+-- the same for a slice and what follows its first byte
+abbrev pub after_first : List ℕ → List ℕ
+after_first bytes = take (length bytes - 1) (drop 1 bytes)
+
+module _ (bytes rest : List ℕ) (minus : bytes ≡ 45 ∷ rest) where
+  after_is : after_first bytes ≡ rest
+  after_is = take_rest bytes 1 ∙ ap (drop 1) minus
+
+  pub negative_after : (n : ℕ) → begins_with (λ b. b == 62) (after_first bytes) ≡ false → IsLongestUnsigned (is_letter true) (after_first bytes) n → IsTokenAt bytes Literal (n + 1)
+  negative_after n none literal =
+      let at_rest : IsTokenAt (45 ∷ rest) Literal (n + 1) =
+          negative_token rest n (ap (begins_with (λ b. b == 62)) (sym after_is) ∙ none) (subst (λ l. IsLongestUnsigned (is_letter true) l n) after_is literal) in
+      subst (λ l. IsTokenAt l Literal (n + 1)) (sym minus) at_rest
+
+  pub no_minus_after : begins_with (λ b. b == 62) (after_first bytes) ≡ false → BeginsNoUnsigned (is_letter true) (after_first bytes) → BeginsNoToken bytes
+  no_minus_after none no_literal =
+      let at_rest : BeginsNoToken (45 ∷ rest) =
+          no_minus_token rest (ap (begins_with (λ b. b == 62)) (sym after_is) ∙ none) (subst (BeginsNoUnsigned (is_letter true)) after_is no_literal) in
+      subst BeginsNoToken (sym minus) at_rest

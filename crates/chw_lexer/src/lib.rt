@@ -2,6 +2,7 @@
 #![tactic(auto)]
 
 mod piece;
+mod front;
 mod run;
 pub mod token;
 
