@@ -15,7 +15,7 @@ use Rattle.chw_lexer.proofs.Firsts.{First, form_first, form_empty, literal_parts
 abbrev pub MinusWord : List ℕ → Type 0
 MinusWord word = (word ≡ 45 ∷ 62 ∷ []) ⊎ ((rest : List ℕ) × (word ≡ 45 ∷ rest) × IsUnsigned (is_letter true) rest)
 
-minus_symbol : (bytes : List ℕ) → IsTrue (looks_like_symbol (45 ∷ bytes)) → 45 ∷ bytes ≡ 45 ∷ 62 ∷ []
+pub minus_symbol : (bytes : List ℕ) → IsTrue (looks_like_symbol (45 ∷ bytes)) → 45 ∷ bytes ≡ 45 ∷ 62 ∷ []
 minus_symbol [] look = absurd (false≢true look)
 minus_symbol (c ∷ []) look =
     elim (two_bytes 45 c look) [
@@ -45,7 +45,7 @@ minus_word bytes sort (w ∷ word) more same form =
     subst MinusWord (sym whole) (minus_form sort word (form_first sort 45 word at_minus) at_minus)
 
 -- an unsigned literal begins with no other byte than a digit
-no_digit_front : (letters : ℕ → Bool) (b : ℕ) (bytes word more : List ℕ) → is_digit b ≡ false → word ++ more ≡ b ∷ bytes → IsUnsigned letters word → ⊥
+pub no_digit_front : (letters : ℕ → Bool) (b : ℕ) (bytes word more : List ℕ) → is_digit b ≡ false → word ++ more ≡ b ∷ bytes → IsUnsigned letters word → ⊥
 no_digit_front letters b bytes [] more other same parts = unsigned_empty letters parts
 no_digit_front letters b bytes (w ∷ word) more other same parts =
     let head : w ≡ b = cc in
