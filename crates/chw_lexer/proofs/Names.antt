@@ -1,14 +1,13 @@
 -- A run is the longest token where all that begins there is made of bytes of the run.
-use Rattle.std.proofs.Common.{◌≡◌, ℕ, suc, zero, ◌+◌, ◌<◌, ◌≤◌, Bool, true, false, ◌||◌, List, [], ◌∷◌, ◌++◌, length, take, drop, sym, refl, ap, ◌∙◌, subst, arith}
+use Rattle.std.proofs.Common.{◌≡◌, ℕ, suc, zero, ◌≤◌, Bool, true, false, List, [], ◌∷◌, ◌++◌, take, drop, sym, ◌∙◌, subst, arith}
 use Rattle.std.specs.Prelude.{IsTrue}
 use Rattle.std.proofs.lemmas.Bool.{false≢true, or_left, or_right}
 use Rattle.std.proofs.lemmas.List.{take-append-drop}
-use Rattle.chw_lexer.specs.Forms.{AllOf, BeginsThen, is_small_letter, is_capital, is_digit, is_letter_or_digit, is_name_byte, is_keyword, HasForm}
-use Rattle.chw_lexer.specs.Tokens.{IsLongest}
-use Rattle.chw_lexer.specs.Scanning.{BeginsWith, StopsAt, IsRun, IsTokenAt}
+use Rattle.chw_lexer.specs.Forms.{AllOf, BeginsThen, is_small_letter, is_capital, is_letter_or_digit, is_name_byte, is_keyword, HasForm}
+use Rattle.chw_lexer.specs.Scanning.{BeginsWith, IsRun, IsTokenAt}
 use Rattle.chw_lexer.specs.declared.token.Sort.{Sort}
 use Rattle.chw_lexer.specs.declared.token.Sort.TheVariants.{Lower, Upper, Key, Numeral, Literal, Symbol}
-use Rattle.chw_lexer.proofs.Firsts.{First, form_first, form_empty, small_range, capital_range, keyword_begins}
+use Rattle.chw_lexer.proofs.Firsts.{First, form_first, small_range, capital_range, keyword_begins}
 use Rattle.chw_lexer.proofs.Runs.{within_run}
 
 -- the run from a first byte that passes

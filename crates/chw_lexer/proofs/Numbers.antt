@@ -1,14 +1,13 @@
 -- Numerals and literals as longest tokens.
-use Rattle.std.proofs.Common.{◌≡◌, ℕ, suc, zero, ◌+◌, ◌<◌, ◌≤◌, Bool, true, false, ◌||◌, ◌⊎◌, inl, inr, eqb, List, [], ◌∷◌, ◌++◌, length, take, drop, sym, refl, ap, ◌∙◌, subst, append_assoc, add-one, get_or, ◌-◌, arith}
+use Rattle.std.proofs.Common.{◌≡◌, ℕ, suc, zero, ◌+◌, ◌<◌, ◌≤◌, Bool, true, false, ◌⊎◌, inl, inr, eqb, List, [], ◌∷◌, ◌++◌, length, take, drop, sym, refl, ap, ◌∙◌, subst, append_assoc, add-one, get_or, ◌-◌, arith}
 use Rattle.std.specs.Prelude.{IsTrue}
 use Rattle.std.proofs.lemmas.Bool.{false≢true, or_cases, eqb-true}
 use Rattle.std.proofs.lemmas.List.{take-append-drop, take_at, take_rest, length-append, length-take-le}
 use Rattle.chw_lexer.specs.Forms.{AllOf, is_digit, IsNumeral, HasForm}
-use Rattle.chw_lexer.specs.Tokens.{IsLongest}
-use Rattle.chw_lexer.specs.Scanning.{BeginsWith, StopsAt, IsRun, is_letter, IsUnsigned, IsLongestUnsigned, BeginsNoUnsigned, IsTokenAt, BeginsNoToken, begins_with}
+use Rattle.chw_lexer.specs.Scanning.{BeginsWith, IsRun, is_letter, IsUnsigned, IsLongestUnsigned, BeginsNoUnsigned, IsTokenAt, begins_with}
 use Rattle.chw_lexer.specs.declared.token.Sort.{Sort}
 use Rattle.chw_lexer.specs.declared.token.Sort.TheVariants.{Lower, Upper, Key, Numeral, Literal, Symbol}
-use Rattle.chw_lexer.proofs.Firsts.{First, form_first, form_empty, digit_range, literal_parts, unsigned_literal, negative_literal, unsigned_first, unsigned_empty}
+use Rattle.chw_lexer.proofs.Firsts.{First, form_first, form_empty, digit_range, literal_parts, unsigned_literal}
 use Rattle.chw_lexer.proofs.Runs.{within_run, same_run}
 use Rattle.chw_lexer.proofs.Names.{begins_run}
 
@@ -29,10 +28,10 @@ pub letter_no_digit : (signed : Bool) (b : ℕ) → IsTrue (is_letter signed b) 
 letter_no_digit true b letter = ap is_digit (eqb-true _ _ letter)
 letter_no_digit false b letter =
     elim (or_cases (eqb b 117) _ letter) [
-      inl unsigned ↦ ap is_digit (eqb-true _ _ unsigned)
-    | inr more ↦ elim (or_cases (eqb b 98) _ more) [
-        inl bits ↦ ap is_digit (eqb-true _ _ bits)
-      | inr others ↦ ap is_digit (eqb-true _ _ others)
+      | inl unsigned ↦ ap is_digit (eqb-true _ _ unsigned)
+      | inr more ↦ elim (or_cases (eqb b 98) _ more) [
+        | inl bits ↦ ap is_digit (eqb-true _ _ bits)
+        | inr others ↦ ap is_digit (eqb-true _ _ others)
       ]
     ]
 
@@ -41,7 +40,7 @@ module _ (signed : Bool) (bytes : List ℕ) (n : ℕ) (run : IsRun is_digit byte
   pub unsigned_split : (word more : List ℕ) → word ++ more ≡ bytes → (parts : IsUnsigned (is_letter signed) word) → (parts.value ≡ take n bytes) × (parts.letter ∷ (parts.width ++ more) ≡ drop n bytes)
   unsigned_split word more same parts =
       let regroup : parts.value ++ (parts.letter ∷ (parts.width ++ more)) ≡ take n bytes ++ drop n bytes =
-          sym (append_assoc parts.value (parts.letter ∷ parts.width) more) ∙ ap (λ w. w ++ more) (sym parts.word_is) ∙ same ∙ sym (take-append-drop n bytes) in
+      sym (append_assoc parts.value (parts.letter ∷ parts.width) more) ∙ ap (λ w. w ++ more) (sym parts.word_is) ∙ same ∙ sym (take-append-drop n bytes) in
       same_run is_digit (take n bytes) (drop n bytes) parts.value (parts.letter ∷ (parts.width ++ more)) run.passes run.stops (numeral_digits parts.value parts.value_is) (letter_no_digit signed parts.letter parts.letter_is) regroup
 
   pub no_value : n ≡ 0 → BeginsNoUnsigned (is_letter signed) bytes
@@ -64,7 +63,7 @@ module _ (signed : Bool) (bytes : List ℕ) (n : ℕ) (run : IsRun is_digit byte
     width_within : (word more : List ℕ) → word ++ more ≡ bytes → (parts : IsUnsigned (is_letter signed) word) → length parts.width ≤ m
     width_within word more same parts =
         let shorter : length parts.width ≤ length (take m width) =
-            within_run is_digit (take m width) (drop m width) parts.width more digits.passes digits.stops (numeral_digits parts.width parts.width_is) (width_split letter width rest word more same parts ∙ sym (take-append-drop m width)) in
+        within_run is_digit (take m width) (drop m width) parts.width more digits.passes digits.stops (numeral_digits parts.width parts.width_is) (width_split letter width rest word more same parts ∙ sym (take-append-drop m width)) in
         let front : length (take m width) ≡ m = length-take-le m width digits.within in
         omega arith
 
@@ -82,7 +81,7 @@ module _ (signed : Bool) (bytes : List ℕ) (n : ℕ) (run : IsRun is_digit byte
         let word : List ℕ = take n bytes ++ letter ∷ take m width in
         let word_length : length word ≡ n + 1 + m = length-append (take n bytes) (letter ∷ take m width) ∙ omega arith in
         let bytes_are : bytes ≡ word ++ drop m width =
-            sym (take-append-drop n bytes) ∙ ap (λ r. take n bytes ++ r) (rest ∙ ap (λ r. letter ∷ r) (sym (take-append-drop m width))) ∙ sym (append_assoc (take n bytes) (letter ∷ take m width) (drop m width)) in
+        sym (take-append-drop n bytes) ∙ ap (λ r. take n bytes ++ r) (rest ∙ ap (λ r. letter ∷ r) (sym (take-append-drop m width))) ∙ sym (append_assoc (take n bytes) (letter ∷ take m width) (drop m width)) in
         record {
           within = omega (arith, ap length bytes_are ∙ length-append word (drop m width));
           form = record {
@@ -108,8 +107,8 @@ number_form Key b bytes digit first form = absurd (omega arith)
 number_form Numeral b bytes digit first form = inl form
 number_form Literal b bytes digit first form =
     elim (literal_parts (b ∷ bytes) form) [
-      inl parts ↦ inr parts
-    | inr negative ↦ let same : b ∷ bytes ≡ 45 ∷ negative.0 = negative.1 in let head : b ≡ 45 = cc in absurd (omega arith)
+      | inl parts ↦ inr parts
+      | inr negative ↦ let same : b ∷ bytes ≡ 45 ∷ negative.0 = negative.1 in let head : b ≡ 45 = cc in absurd (omega arith)
     ]
 number_form Symbol b bytes digit first form = absurd (omega arith)
 
@@ -125,9 +124,9 @@ numeral_within : (bytes : List ℕ) (n : ℕ) (literal : IsLongestUnsigned (is_l
 numeral_within bytes n literal word more same numeral =
     let parts = literal.form in
     let regroup : word ++ more ≡ parts.value ++ (parts.letter ∷ (parts.width ++ drop n bytes)) =
-        same ∙ sym (take-append-drop n bytes) ∙ ap (λ w. w ++ drop n bytes) parts.word_is ∙ append_assoc parts.value (parts.letter ∷ parts.width) (drop n bytes) in
+    same ∙ sym (take-append-drop n bytes) ∙ ap (λ w. w ++ drop n bytes) parts.word_is ∙ append_assoc parts.value (parts.letter ∷ parts.width) (drop n bytes) in
     let shorter : length word ≤ length parts.value =
-        within_run is_digit parts.value (parts.letter ∷ (parts.width ++ drop n bytes)) word more (numeral_digits parts.value parts.value_is) (letter_no_digit false parts.letter parts.letter_is) (numeral_digits word numeral) regroup in
+    within_run is_digit parts.value (parts.letter ∷ (parts.width ++ drop n bytes)) word more (numeral_digits parts.value parts.value_is) (letter_no_digit false parts.letter parts.letter_is) (numeral_digits word numeral) regroup in
     omega (arith, length-take-le n bytes literal.within, ap length parts.word_is ∙ length-append parts.value (parts.letter ∷ parts.width))
 
 pub literal_token : (bytes : List ℕ) (n : ℕ) → BeginsWith is_digit bytes → IsLongestUnsigned (is_letter false) bytes n → IsTokenAt bytes Literal n
@@ -139,8 +138,8 @@ literal_token bytes n begins literal = record {
         let whole : word ++ more ≡ bytes = same ∙ take-append-drop n bytes in
         let front : length (take n bytes) ≡ n = length-take-le n bytes literal.within in
         elim (number_word bytes begins other word more whole form) [
-          inl numeral ↦ let shorter = numeral_within bytes n literal word more whole numeral in omega arith
-        | inr parts ↦ let shorter = literal.longest word more whole parts in omega arith
+          | inl numeral ↦ let shorter = numeral_within bytes n literal word more whole numeral in omega arith
+          | inr parts ↦ let shorter = literal.longest word more whole parts in omega arith
         ];
   };
 }
@@ -153,8 +152,8 @@ numeral_token bytes n begins none run = record {
     longest = λ other word more same form.
         let whole : word ++ more ≡ bytes = same ∙ take-append-drop n bytes in
         elim (number_word bytes begins other word more whole form) [
-          inl numeral ↦ within_run is_digit (take n bytes) (drop n bytes) word more run.passes run.stops (numeral_digits word numeral) same
-        | inr parts ↦ absurd (none word more whole parts)
+          | inl numeral ↦ within_run is_digit (take n bytes) (drop n bytes) word more run.passes run.stops (numeral_digits word numeral) same
+          | inr parts ↦ absurd (none word more whole parts)
         ];
   };
 }

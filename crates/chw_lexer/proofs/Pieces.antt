@@ -1,5 +1,5 @@
 -- Runs of white space and comments as gaps.
-use Rattle.std.proofs.Common.{◌≡◌, ℕ, suc, zero, ◌+◌, ◌-◌, ◌<◌, ◌≤◌, Bool, true, false, not, eqb, List, [], ◌∷◌, ◌++◌, length, ◌⊎◌, inl, inr, take, drop, get_or, sym, refl, ap, ◌∙◌, subst, add-one, arith}
+use Rattle.std.proofs.Common.{◌≡◌, ℕ, suc, ◌+◌, ◌<◌, ◌≤◌, false, not, eqb, List, [], ◌∷◌, ◌++◌, length, inr, take, get_or, sym, refl, ap, ◌∙◌, subst, arith}
 use Rattle.std.specs.Prelude.{◌==◌}
 use Rattle.std.proofs.lemmas.Bool.{not-false, eqb-true}
 use Rattle.std.proofs.lemmas.List.{take_all, take_more, drop_more}
@@ -19,7 +19,7 @@ whole_comment line n run more =
     let front : take (n + 1) line ≡ take n line ++ 10 ∷ [] = take_more line n 0 more ∙ ap (λ b. take n line ++ b ∷ []) feed in
     let count : 2 + n + 1 ≡ suc (suc (n + 1)) = omega arith in
     let whole : 45 ∷ 45 ∷ (take n line ++ 10 ∷ []) ≡ take (2 + n + 1) (45 ∷ 45 ∷ line) =
-        ap (λ l. 45 ∷ 45 ∷ l) (sym front) ∙ ap (λ k. take k (45 ∷ 45 ∷ line)) (sym count) in
+    ap (λ l. 45 ∷ 45 ∷ l) (sym front) ∙ ap (λ k. take k (45 ∷ 45 ∷ line)) (sym count) in
     subst Gap whole (comment (take n line) [] run.passes none)
 
 pub last_comment : (line : List ℕ) (n : ℕ) → IsRun (λ b. not (b == 10)) line n → length line ≤ n → LastGap (45 ∷ 45 ∷ line)

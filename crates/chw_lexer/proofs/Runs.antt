@@ -1,9 +1,9 @@
 -- Fronts of bytes that pass a test, against the longest one.
-use Rattle.std.proofs.Common.{◌≡◌, ℕ, suc, zero, ◌+◌, ◌<◌, ◌≤◌, Bool, true, false, List, [], ◌∷◌, ◌++◌, length, take, drop, get_or, sym, refl, ap, ◌∙◌, subst, arith}
+use Rattle.std.proofs.Common.{◌≡◌, ℕ, suc, zero, ◌<◌, ◌≤◌, Bool, true, false, List, [], ◌∷◌, ◌++◌, length, take, drop, get_or, sym, refl, ap, ◌∙◌, subst, arith}
 use Rattle.std.proofs.lemmas.Bool.{false≢true}
 use Rattle.std.proofs.lemmas.List.{take_all}
 use Rattle.chw_lexer.specs.Forms.{AllOf}
-use Rattle.chw_lexer.specs.Scanning.{BeginsWith, StopsAt, IsRun}
+use Rattle.chw_lexer.specs.Scanning.{StopsAt}
 
 -- a front that passes is no longer than one that passes and is followed by a byte that doesn't
 pub within_run : (test : ℕ → Bool) (front rest other more : List ℕ) → AllOf test front → StopsAt test rest → AllOf test other → other ++ more ≡ front ++ rest → length other ≤ length front

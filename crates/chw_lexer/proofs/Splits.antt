@@ -1,6 +1,6 @@
 -- A text splits as its rest behind a piece does.
-use Rattle.std.proofs.Common.{◌≡◌, ℕ, suc, zero, ◌+◌, ◌-◌, ◌<◌, ◌≤◌, Bool, true, false, List, [], ◌∷◌, ◌++◌, length, ◌⊎◌, inl, inr, take, drop, sym, refl, ap, ◌∙◌, subst, append_assoc, add-zero, arith}
-use Rattle.std.proofs.lemmas.List.{take-append-drop, take_rest, length-append, length-take-le, length-drop, drop-drop, append-nil, drop_all}
+use Rattle.std.proofs.Common.{◌≡◌, ℕ, ◌+◌, ◌≤◌, List, [], ◌∷◌, ◌++◌, length, inl, inr, take, drop, sym, refl, ap, ◌∙◌, subst, append_assoc, arith}
+use Rattle.std.proofs.lemmas.List.{take-append-drop, length-append, length-take-le, length-drop, drop-drop, append-nil, drop_all}
 use Rattle.chw_lexer.specs.Tokens.{Gap, LastGap, IsLongest, token, TokensFrom, BeginsNothing, NoTokenFrom}
 use Rattle.chw_lexer.specs.Tokens.Gap.{none}
 use Rattle.chw_lexer.specs.Tokens.TokensFrom.{ends, next}
@@ -79,7 +79,7 @@ module _ (text : List ℕ) (at : ℕ) (before : List Token) (so_far : SplitsBefo
         within = let fits = length-drop at text in let inside = so_far.within in let front = found.within in omega arith;
         tokens = λ more splits.
             let all : TokensFrom 0 text (before ++ token sort at (at + n) ∷ more) =
-                so_far.tokens (token sort at (at + n) ∷ more) (next_at at at (at + n) rest [] (take n rest) (drop (at + n) text) sort more none longest (omega arith) place (sym (parts n)) splits) in
+            so_far.tokens (token sort at (at + n) ∷ more) (next_at at at (at + n) rest [] (take n rest) (drop (at + n) text) sort more none longest (omega arith) place (sym (parts n)) splits) in
             subst (TokensFrom 0 text) (sym (append_assoc before (token sort at (at + n) ∷ []) more)) all;
         faults = λ fault faults. so_far.faults fault (later_at at (at + n) rest [] (take n rest) (drop (at + n) text) sort fault none longest (place ∙ omega arith) (sym (parts n)) faults);
       }
@@ -93,6 +93,6 @@ module _ (text : List ℕ) (at : ℕ) (before : List Token) (so_far : SplitsBefo
   pub fault_step : FaultAt (drop at text) → NoTokenFrom 0 text at
   fault_step fault = so_far.faults at (first (drop at text) fault)
     where
-    first : (rest : List ℕ) → FaultAt rest → NoTokenFrom at rest at
-    first [] fault = absurd fault
-    first (b ∷ rest) fault = here_at at at (b ∷ rest) [] b rest none fault (omega arith) refl
+      first : (rest : List ℕ) → FaultAt rest → NoTokenFrom at rest at
+      first [] fault = absurd fault
+      first (b ∷ rest) fault = here_at at at (b ∷ rest) [] b rest none fault (omega arith) refl

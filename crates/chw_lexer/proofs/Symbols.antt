@@ -1,12 +1,10 @@
 -- Symbols and negative literals as longest tokens.
-use Rattle.std.proofs.Common.{◌≡◌, ℕ, suc, zero, ◌+◌, ◌<◌, ◌≤◌, Bool, true, false, not, ◌&&◌, ◌||◌, ◌⊎◌, inl, inr, eqb, leb, List, [], ◌∷◌, ◌++◌, length, take, drop, sym, refl, ap, ◌∙◌, subst, add-one, ◌-◌, arith}
+use Rattle.std.proofs.Common.{◌≡◌, ℕ, ◌+◌, ◌≤◌, Bool, true, false, ◌⊎◌, inl, inr, eqb, leb, List, [], ◌∷◌, ◌++◌, length, take, drop, sym, refl, ap, ◌∙◌, subst, add-one, ◌-◌, arith}
 use Rattle.std.specs.Prelude.{IsTrue, ◌==◌}
-use Rattle.std.proofs.lemmas.Bool.{false≢true, both_ways, and_parts, or_parts, not-true, or_cases, eqb-true, eq-eqb, le-leb, and_from}
-use Rattle.std.proofs.lemmas.Bool.Decides.{nat_tests}
+use Rattle.std.proofs.lemmas.Bool.{false≢true, both_ways, and_parts, or_parts, not-true, eq-eqb, le-leb, and_from}
 use Rattle.std.proofs.lemmas.List.{take-append-drop, take_rest, length-take-le}
 use Rattle.chw_lexer.specs.Forms.{is_small_letter, is_capital, is_digit, is_letter_or_digit, is_symbol, HasForm}
-use Rattle.chw_lexer.specs.Tokens.{IsLongest}
-use Rattle.chw_lexer.specs.Scanning.{BeginsWith, begins_with, is_letter, is_other, IsUnsigned, IsLongestUnsigned, BeginsNoUnsigned, IsTokenAt, BeginsNoToken}
+use Rattle.chw_lexer.specs.Scanning.{begins_with, is_letter, is_other, IsUnsigned, IsLongestUnsigned, BeginsNoUnsigned, IsTokenAt, BeginsNoToken}
 use Rattle.chw_lexer.specs.declared.token.Sort.{Sort}
 use Rattle.chw_lexer.specs.declared.token.Sort.TheVariants.{Lower, Upper, Key, Numeral, Literal, Symbol}
 use Rattle.chw_lexer.proofs.Firsts.{First, form_first, form_empty, literal_parts, negative_literal, unsigned_first, unsigned_empty, looks_like_symbol, symbol_looks, two_bytes}
@@ -19,8 +17,8 @@ pub minus_symbol : (bytes : List ℕ) → IsTrue (looks_like_symbol (45 ∷ byte
 minus_symbol [] look = absurd (false≢true look)
 minus_symbol (c ∷ []) look =
     elim (two_bytes 45 c look) [
-      inl arrow ↦ ap (λ x. 45 ∷ x ∷ []) arrow.1
-    | inr lambda ↦ absurd (omega (arith, lambda.0))
+      | inl arrow ↦ ap (λ x. 45 ∷ x ∷ []) arrow.1
+      | inr lambda ↦ absurd (omega (arith, lambda.0))
     ]
 minus_symbol (c ∷ d ∷ bytes) look = absurd (false≢true look)
 
@@ -31,8 +29,8 @@ minus_form Key bytes first form = absurd (omega arith)
 minus_form Numeral bytes first form = absurd (omega arith)
 minus_form Literal bytes first form =
     elim (literal_parts (45 ∷ bytes) form) [
-      inl parts ↦ absurd (omega (arith, unsigned_first (is_letter false) 45 bytes parts))
-    | inr negative ↦ inr negative
+      | inl parts ↦ absurd (omega (arith, unsigned_first (is_letter false) 45 bytes parts))
+      | inr negative ↦ inr negative
     ]
 minus_form Symbol bytes first form = inl (minus_symbol bytes (symbol_looks (45 ∷ bytes) form))
 
@@ -58,11 +56,11 @@ arrow_token bytes = record {
   longest = record {
     form = refl;
     longest = λ other word more same form. elim (minus_word (62 ∷ bytes) other word more same form) [
-      inl arrow ↦ omega (arith, ap length arrow)
-    | inr negative ↦
-        let regroup : 45 ∷ (negative.0 ++ more) ≡ 45 ∷ 62 ∷ bytes = ap (λ w. w ++ more) (sym negative.1) ∙ same in
-        let tail : negative.0 ++ more ≡ 62 ∷ bytes = cc in
-        absurd (no_digit_front (is_letter true) 62 bytes negative.0 more refl tail negative.2)
+      | inl arrow ↦ omega (arith, ap length arrow)
+      | inr negative ↦
+          let regroup : 45 ∷ (negative.0 ++ more) ≡ 45 ∷ 62 ∷ bytes = ap (λ w. w ++ more) (sym negative.1) ∙ same in
+          let tail : negative.0 ++ more ≡ 62 ∷ bytes = cc in
+          absurd (no_digit_front (is_letter true) 62 bytes negative.0 more refl tail negative.2)
     ];
   };
 }
@@ -84,12 +82,12 @@ negative_token bytes n none literal = rw add-one (record {
         let whole : word ++ more ≡ 45 ∷ bytes = same ∙ ap (λ r. 45 ∷ r) (take-append-drop n bytes) in
         let front : length (take n bytes) ≡ n = length-take-le n bytes literal.within in
         elim (minus_word bytes other word more whole form) [
-          inl arrow ↦ absurd (no_arrow bytes more none (ap (λ w. w ++ more) (sym arrow) ∙ whole))
-        | inr negative ↦
-            let regroup : 45 ∷ (negative.0 ++ more) ≡ 45 ∷ bytes = ap (λ w. w ++ more) (sym negative.1) ∙ whole in
-            let tail : negative.0 ++ more ≡ bytes = cc in
-            let shorter = literal.longest negative.0 more tail negative.2 in
-            omega (arith, ap length negative.1)
+          | inl arrow ↦ absurd (no_arrow bytes more none (ap (λ w. w ++ more) (sym arrow) ∙ whole))
+          | inr negative ↦
+              let regroup : 45 ∷ (negative.0 ++ more) ≡ 45 ∷ bytes = ap (λ w. w ++ more) (sym negative.1) ∙ whole in
+              let tail : negative.0 ++ more ≡ bytes = cc in
+              let shorter = literal.longest negative.0 more tail negative.2 in
+              omega (arith, ap length negative.1)
         ];
   };
 })
@@ -97,11 +95,11 @@ negative_token bytes n none literal = rw add-one (record {
 pub no_minus_token : (bytes : List ℕ) → begins_with (λ b. b == 62) bytes ≡ false → BeginsNoUnsigned (is_letter true) bytes → BeginsNoToken (45 ∷ bytes)
 no_minus_token bytes none no_literal sort word more same form =
     elim (minus_word bytes sort word more same form) [
-      inl arrow ↦ no_arrow bytes more none (ap (λ w. w ++ more) (sym arrow) ∙ same)
-    | inr negative ↦
-        let regroup : 45 ∷ (negative.0 ++ more) ≡ 45 ∷ bytes = ap (λ w. w ++ more) (sym negative.1) ∙ same in
-        let tail : negative.0 ++ more ≡ bytes = cc in
-        no_literal negative.0 more tail negative.2
+      | inl arrow ↦ no_arrow bytes more none (ap (λ w. w ++ more) (sym arrow) ∙ same)
+      | inr negative ↦
+          let regroup : 45 ∷ (negative.0 ++ more) ≡ 45 ∷ bytes = ap (λ w. w ++ more) (sym negative.1) ∙ same in
+          let tail : negative.0 ++ more ≡ bytes = cc in
+          no_literal negative.0 more tail negative.2
     ]
 
 -- what begins with another byte is a symbol
@@ -109,8 +107,7 @@ other_range : (b : ℕ) → IsTrue (is_other b) → ((97 ≤ b) × (b ≤ 122) �
 other_range b other =
     let outer = or_parts (is_letter_or_digit b) (eqb b 45) (not-true _ other) in
     let letters = or_parts (is_small_letter b) _ outer.0 in
-    let more = or_parts (is_capital b) (is_digit b) letters.1 in
-    (
+    let more = or_parts (is_capital b) (is_digit b) letters.1 in (
       λ small. both_ways _ letters.0 (and_from (leb 97 b) _ (le-leb 97 b small.0) (le-leb b 122 small.1)),
       λ capital. both_ways _ more.0 (and_from (leb 65 b) _ (le-leb 65 b capital.0) (le-leb b 90 capital.1)),
       λ digit. both_ways _ more.1 (and_from (leb 48 b) _ (le-leb 48 b digit.0) (le-leb b 57 digit.1)),
@@ -124,8 +121,8 @@ other_form Key b bytes other first form = absurd ((other_range b other).0 first)
 other_form Numeral b bytes other first form = absurd ((other_range b other).2 first)
 other_form Literal b bytes other first form =
     elim first [
-      inl digit ↦ absurd ((other_range b other).2 digit)
-    | inr minus ↦ absurd ((other_range b other).3 minus)
+      | inl digit ↦ absurd ((other_range b other).2 digit)
+      | inr minus ↦ absurd ((other_range b other).3 minus)
     ]
 other_form Symbol b bytes other first form = form
 
@@ -138,8 +135,8 @@ other_symbol b [] other symbol look =
     inl (refl, symbol, λ slash. both_ways (eqb b 47) (not-true _ (and_parts _ _ (and_parts _ _ look).1).1) (eq-eqb b 47 slash))
 other_symbol b (c ∷ []) other symbol look =
     elim (two_bytes b c look) [
-      inl arrow ↦ absurd ((other_range b other).3 arrow.0)
-    | inr lambda ↦ inr (lambda.0, ap (λ x. x ∷ c ∷ []) lambda.0 ∙ ap (λ y. 47 ∷ y ∷ []) lambda.1)
+      | inl arrow ↦ absurd ((other_range b other).3 arrow.0)
+      | inr lambda ↦ inr (lambda.0, ap (λ x. x ∷ c ∷ []) lambda.0 ∙ ap (λ y. 47 ∷ y ∷ []) lambda.1)
     ]
 other_symbol b (c ∷ d ∷ bytes) other symbol look = absurd (false≢true look)
 
@@ -158,8 +155,8 @@ single_token b bytes other symbol no_slash = record {
   longest = record {
     form = symbol;
     longest = λ sort word more same form. elim (other_word b bytes other sort word more same form) [
-      inl single ↦ omega (arith, ap length single.0)
-    | inr lambda ↦ absurd (no_slash lambda.0)
+      | inl single ↦ omega (arith, ap length single.0)
+      | inr lambda ↦ absurd (no_slash lambda.0)
     ];
   };
 }
@@ -170,8 +167,8 @@ lambda_token bytes = record {
   longest = record {
     form = refl;
     longest = λ sort word more same form. elim (other_word 47 (92 ∷ bytes) refl sort word more same form) [
-      inl single ↦ omega (arith, ap length single.0)
-    | inr lambda ↦ omega (arith, ap length lambda.1)
+      | inl single ↦ omega (arith, ap length single.0)
+      | inr lambda ↦ omega (arith, ap length lambda.1)
     ];
   };
 }
@@ -180,23 +177,23 @@ lambda_token bytes = record {
 pub no_single_token : (b : ℕ) (bytes : List ℕ) → IsTrue (is_other b) → is_symbol (b ∷ []) ≡ false → (b ≡ 47 → ⊥) → BeginsNoToken (b ∷ bytes)
 no_single_token b bytes other no_symbol no_slash sort word more same form =
     elim (other_word b bytes other sort word more same form) [
-      inl single ↦ both_ways _ no_symbol single.1
-    | inr lambda ↦ no_slash lambda.0
+      | inl single ↦ both_ways _ no_symbol single.1
+      | inr lambda ↦ no_slash lambda.0
     ]
 
 pub no_lambda_token : (bytes : List ℕ) → begins_with (λ b. b == 92) bytes ≡ false → BeginsNoToken (47 ∷ bytes)
 no_lambda_token bytes none sort word more same form =
     elim (other_word 47 bytes refl sort word more same form) [
-      inl single ↦ single.2 refl
-    | inr lambda ↦ no_backslash bytes none (ap (λ w. w ++ more) (sym lambda.1) ∙ same)
+      | inl single ↦ single.2 refl
+      | inr lambda ↦ no_backslash bytes none (ap (λ w. w ++ more) (sym lambda.1) ∙ same)
     ]
   where
-  no_backslash : (bytes : List ℕ) → begins_with (λ b. b == 92) bytes ≡ false → 47 ∷ 92 ∷ more ≡ 47 ∷ bytes → ⊥
-  no_backslash [] none same = let tail : 92 ∷ more ≡ [] = cc in cc
-  no_backslash (b ∷ bytes) none same =
-      let tail : 92 ∷ more ≡ b ∷ bytes = cc in
-      let head : b ≡ 92 = cc in
-      both_ways (eqb b 92) none (eq-eqb b 92 head)
+    no_backslash : (bytes : List ℕ) → begins_with (λ b. b == 92) bytes ≡ false → 47 ∷ 92 ∷ more ≡ 47 ∷ bytes → ⊥
+    no_backslash [] none same = let tail : 92 ∷ more ≡ [] = cc in cc
+    no_backslash (b ∷ bytes) none same =
+        let tail : 92 ∷ more ≡ b ∷ bytes = cc in
+        let head : b ≡ 92 = cc in
+        both_ways (eqb b 92) none (eq-eqb b 92 head)
 
 -- the same for a slice and what follows its first byte
 abbrev pub after_first : List ℕ → List ℕ
@@ -209,11 +206,11 @@ module _ (bytes rest : List ℕ) (minus : bytes ≡ 45 ∷ rest) where
   pub negative_after : (n : ℕ) → begins_with (λ b. b == 62) (after_first bytes) ≡ false → IsLongestUnsigned (is_letter true) (after_first bytes) n → IsTokenAt bytes Literal (n + 1)
   negative_after n none literal =
       let at_rest : IsTokenAt (45 ∷ rest) Literal (n + 1) =
-          negative_token rest n (ap (begins_with (λ b. b == 62)) (sym after_is) ∙ none) (subst (λ l. IsLongestUnsigned (is_letter true) l n) after_is literal) in
+      negative_token rest n (ap (begins_with (λ b. b == 62)) (sym after_is) ∙ none) (subst (λ l. IsLongestUnsigned (is_letter true) l n) after_is literal) in
       subst (λ l. IsTokenAt l Literal (n + 1)) (sym minus) at_rest
 
   pub no_minus_after : begins_with (λ b. b == 62) (after_first bytes) ≡ false → BeginsNoUnsigned (is_letter true) (after_first bytes) → BeginsNoToken bytes
   no_minus_after none no_literal =
       let at_rest : BeginsNoToken (45 ∷ rest) =
-          no_minus_token rest (ap (begins_with (λ b. b == 62)) (sym after_is) ∙ none) (subst (BeginsNoUnsigned (is_letter true)) after_is no_literal) in
+      no_minus_token rest (ap (begins_with (λ b. b == 62)) (sym after_is) ∙ none) (subst (BeginsNoUnsigned (is_letter true)) after_is no_literal) in
       subst BeginsNoToken (sym minus) at_rest

@@ -1,12 +1,12 @@
 -- A text has one splitting, or one first place where no token begins, and not both.
-use Rattle.std.proofs.Common.{◌≡◌, ℕ, suc, zero, ◌+◌, ◌<◌, ◌≤◌, Bool, true, false, List, [], ◌∷◌, ◌++◌, length, ◌⊎◌, inl, inr, take, sym, refl, ap, ◌∙◌, subst, arith}
+use Rattle.std.proofs.Common.{◌≡◌, ℕ, ◌+◌, ◌<◌, ◌≤◌, true, false, List, [], ◌∷◌, ◌++◌, length, inl, inr, take, sym, refl, ap, ◌∙◌, subst, arith}
 use Rattle.std.proofs.lemmas.Bool.{false≢true, both_ways}
 use Rattle.std.proofs.lemmas.List.{append-nil, append_cancel_left, length-append, take_at}
-use Rattle.chw_lexer.specs.Forms.{AllOf, is_digit, is_keyword, IsNumeral, HasForm}
-use Rattle.chw_lexer.specs.Tokens.{Gap, LastGap, IsLongest, token, TokensFrom, BeginsNothing, NoTokenFrom, InOrder}
+use Rattle.chw_lexer.specs.Forms.{is_digit, IsNumeral, HasForm}
+use Rattle.chw_lexer.specs.Tokens.{Gap, IsLongest, TokensFrom, NoTokenFrom, InOrder}
 use Rattle.chw_lexer.specs.Tokens.TokensFrom.{ends, next}
 use Rattle.chw_lexer.specs.Tokens.NoTokenFrom.{here, later}
-use Rattle.chw_lexer.specs.Scanning.{is_letter, IsUnsigned}
+use Rattle.chw_lexer.specs.Scanning.{is_letter}
 use Rattle.chw_lexer.specs.declared.token.Sort.{Sort}
 use Rattle.chw_lexer.specs.declared.token.Sort.TheVariants.{Lower, Upper, Key, Numeral, Literal, Symbol}
 use Rattle.chw_lexer.specs.declared.token.Token.{Token}
@@ -20,12 +20,12 @@ use Rattle.chw_lexer.proofs.Gaps.{same_gap, form_no_gap, nothing_no_gap, last_ga
 numeral_no_literal : (word : List ℕ) → IsNumeral word → HasForm Literal word → ⊥
 numeral_no_literal word numeral literal =
     elim (literal_parts word literal) [
-      inl parts ↦
-        let split : parts.value ++ parts.letter ∷ parts.width ≡ word ++ [] = sym parts.word_is ∙ sym (append-nil word) in
-        let ends : parts.letter ∷ parts.width ≡ [] =
-            (same_run is_digit word [] parts.value (parts.letter ∷ parts.width) (numeral_digits word numeral) tt (numeral_digits parts.value parts.value_is) (letter_no_digit false parts.letter parts.letter_is) split).1 in
-        cc
-    | inr negative ↦ false≢true (subst IsNumeral negative.1 numeral).0
+      | inl parts ↦
+          let split : parts.value ++ parts.letter ∷ parts.width ≡ word ++ [] = sym parts.word_is ∙ sym (append-nil word) in
+          let ends : parts.letter ∷ parts.width ≡ [] =
+          (same_run is_digit word [] parts.value (parts.letter ∷ parts.width) (numeral_digits word numeral) tt (numeral_digits parts.value parts.value_is) (letter_no_digit false parts.letter parts.letter_is) split).1 in
+          cc
+      | inr negative ↦ false≢true (subst IsNumeral negative.1 numeral).0
     ]
 
 -- `->` is no literal
@@ -35,11 +35,11 @@ symbol_no_literal b bytes (inr minus) other literal symbol =
     let whole : b ∷ bytes ≡ 45 ∷ bytes = ap (λ x. x ∷ bytes) minus in
     let arrow = minus_symbol bytes (symbol_looks (45 ∷ bytes) (subst (HasForm Symbol) whole symbol)) in
     elim (literal_parts (45 ∷ bytes) (subst (HasForm Literal) whole literal)) [
-      inl parts ↦ omega (arith, unsigned_first (is_letter false) 45 bytes parts)
-    | inr negative ↦
-        let front : 45 ∷ negative.0 ≡ 45 ∷ 62 ∷ [] = sym negative.1 ∙ arrow in
-        let rest : negative.0 ≡ 62 ∷ [] = cc in
-        no_digit_front (is_letter true) 62 [] negative.0 [] refl (append-nil negative.0 ∙ rest) negative.2
+      | inl parts ↦ omega (arith, unsigned_first (is_letter false) 45 bytes parts)
+      | inr negative ↦
+          let front : 45 ∷ negative.0 ≡ 45 ∷ 62 ∷ [] = sym negative.1 ∙ arrow in
+          let rest : negative.0 ≡ 62 ∷ [] = cc in
+          no_digit_front (is_letter true) 62 [] negative.0 [] refl (append-nil negative.0 ∙ rest) negative.2
     ]
 
 -- a word that begins with this byte has at most one form
@@ -68,8 +68,7 @@ same_longest sort other word rest longer more first second same =
     let within : length longer ≤ length word = first.longest other longer more same second.form in
     let around : length word ≤ length longer = second.longest sort word rest (sym same) first.form in
     let lengths : length longer ≡ length word = omega arith in
-    let word_is : longer ≡ word = sym (take_at longer more (length word) lengths) ∙ ap (take (length word)) same ∙ take_at word rest (length word) refl in
-    (
+    let word_is : longer ≡ word = sym (take_at longer more (length word) lengths) ∙ ap (take (length word)) same ∙ take_at word rest (length word) refl in (
       same_sort sort other word first.form (subst (HasForm other) word_is second.form),
       word_is,
       append_cancel_left word more rest (ap (λ w. w ++ more) (sym word_is) ∙ same),

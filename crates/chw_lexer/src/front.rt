@@ -3,7 +3,7 @@ ghost use Rattle.std.specs.Prelude.{◌≡◌, ◌<◌, ◌==◌, ℕ, List, [],
 ghost use Rattle.chw_lexer.specs.Forms.{is_small_letter, is_capital, is_digit, is_keyword, is_symbol};
 ghost use Rattle.chw_lexer.specs.Scanning.{begins_with, is_letter, is_other, BeginsWith, IsLongestUnsigned, BeginsNoUnsigned, IsTokenAt, BeginsNoToken};
 
-use crate::run::{Class, run_len};
+use crate::run::{Class, is_digit, run_len};
 use crate::token::Sort;
 
 /// A token of this sort, of so many bytes.
@@ -24,7 +24,10 @@ pub fn token_at(bytes: &[u8]) -> Option<Front>
         Some(lower_at(bytes))
     } else if is_capital(first) {
         let len = run_len(bytes, Class::LetterOrDigit);
-        Some(Front { sort: Sort::Upper, len })
+        Some(Front {
+            sort: Sort::Upper,
+            len,
+        })
     } else if is_digit(first) {
         Some(number_at(bytes))
     } else if first == b'-' {
@@ -46,19 +49,17 @@ fn is_capital(byte: u8) -> bool
     byte >= b'A' && byte <= b'Z'
 }
 
-fn is_digit(byte: u8) -> bool
-    ensures { result ≡ is_digit byte }
-{
-    byte >= b'0' && byte <= b'9'
-}
-
 /// The name or keyword with which the bytes begin.
 fn lower_at(bytes: &[u8]) -> Front
     requires { BeginsWith is_small_letter bytes.now }
     ensures { IsTokenAt bytes.now result.sort result.len }
 {
     let len = run_len(bytes, Class::NameByte);
-    let sort = if is_keyword(&bytes[..len]) { Sort::Key } else { Sort::Lower };
+    let sort = if is_keyword(&bytes[..len]) {
+        Sort::Key
+    } else {
+        Sort::Lower
+    };
     Front { sort, len }
 }
 
@@ -83,8 +84,14 @@ fn number_at(bytes: &[u8]) -> Front
     ensures { IsTokenAt bytes.now result.sort result.len }
 {
     match unsigned_len(bytes, false) {
-        Some(len) => Front { sort: Sort::Literal, len },
-        None => Front { sort: Sort::Numeral, len: run_len(bytes, Class::Digit) },
+        Some(len) => Front {
+            sort: Sort::Literal,
+            len,
+        },
+        None => Front {
+            sort: Sort::Numeral,
+            len: run_len(bytes, Class::Digit),
+        },
     }
 }
 
@@ -121,10 +128,16 @@ fn minus_at(bytes: &[u8]) -> Option<Front>
 {
     let rest = &bytes[1..];
     if begins_with(rest, b'>') {
-        return Some(Front { sort: Sort::Symbol, len: 2 });
+        return Some(Front {
+            sort: Sort::Symbol,
+            len: 2,
+        });
     }
     match unsigned_len(rest, true) {
-        Some(len) => Some(Front { sort: Sort::Literal, len: len + 1 }),
+        Some(len) => Some(Front {
+            sort: Sort::Literal,
+            len: len + 1,
+        }),
         None => None,
     }
 }
@@ -145,9 +158,19 @@ fn symbol_at(bytes: &[u8]) -> Option<Front>
     ensures none { IfNone result (BeginsNoToken bytes.now) }
 {
     if bytes[0] == b'/' {
-        if begins_with(&bytes[1..], b'\\') { Some(Front { sort: Sort::Symbol, len: 2 }) } else { None }
+        if begins_with(&bytes[1..], b'\\') {
+            Some(Front {
+                sort: Sort::Symbol,
+                len: 2,
+            })
+        } else {
+            None
+        }
     } else if is_symbol(bytes[0]) {
-        Some(Front { sort: Sort::Symbol, len: 1 })
+        Some(Front {
+            sort: Sort::Symbol,
+            len: 1,
+        })
     } else {
         None
     }
@@ -158,7 +181,23 @@ fn is_symbol(byte: u8) -> bool
     ensures { result ≡ is_symbol (byte ∷ []) }
 {
     match byte {
-        b';' | b':' | b'=' | b'|' | b'(' | b')' | b'{' | b'}' | b'[' | b']' | b',' | b'.' | b'\\' | b'@' | b'+' | b'*' | b'_' => true,
+        b';'
+        | b':'
+        | b'='
+        | b'|'
+        | b'('
+        | b')'
+        | b'{'
+        | b'}'
+        | b'['
+        | b']'
+        | b','
+        | b'.'
+        | b'\\'
+        | b'@'
+        | b'+'
+        | b'*'
+        | b'_' => true,
         _ => false,
     }
 }

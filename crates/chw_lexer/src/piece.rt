@@ -42,5 +42,9 @@ fn comment_of(line: &[u8]) -> Piece
     ensures { IsPiece (45 ∷ 45 ∷ line.now) result }
 {
     let len = run_len(line, Class::Line);
-    if len < line.len() { Piece::Space(2 + len + 1) } else { Piece::LastComment }
+    if len < line.len() {
+        Piece::Space(2 + len + 1)
+    } else {
+        Piece::LastComment
+    }
 }

@@ -31,7 +31,8 @@ fn is_of(class: Class, byte: u8) -> bool
     }
 }
 
-fn is_digit(byte: u8) -> bool
+/// Whether the byte is `0` to `9`.
+pub fn is_digit(byte: u8) -> bool
     ensures { result ≡ is_digit byte }
 {
     byte >= b'0' && byte <= b'9'

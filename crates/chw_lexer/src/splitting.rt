@@ -27,7 +27,13 @@ pub fn lex(alloc: Global, text: &[u8]) -> Result<Seq<Token>, Or<LexFault>>
             Piece::LastComment => return Ok(tokens.into()),
             Piece::Word(sort, len) => {
                 let to = at + len;
-                tokens.push(Token { sort, span: Span { from: at as u32, to: to as u32 } })?;
+                tokens.push(Token {
+                    sort,
+                    span: Span {
+                        from: at as u32,
+                        to: to as u32,
+                    },
+                })?;
                 at = to;
             }
             Piece::Nothing => return Err(Or::Fault(LexFault { at: at as u32 })),
@@ -78,7 +84,10 @@ mod tests {
             (" \t\r\n", ""),
             ("domain Sys; #", "fault 12"),
             ("domain Sys;", "Key 0 6; Upper 7 10; Symbol 10 11; "),
-            ("domains of_x x_1 oF", "Lower 0 7; Lower 8 12; Lower 13 16; Lower 17 19; "),
+            (
+                "domains of_x x_1 oF",
+                "Lower 0 7; Lower 8 12; Lower 13 16; Lower 17 19; ",
+            ),
             ("U_1", "Upper 0 1; Symbol 1 2; Numeral 2 3; "),
             ("_x _", "Symbol 0 1; Lower 1 2; Symbol 3 4; "),
             ("12u", "Numeral 0 2; Lower 2 3; "),
@@ -90,27 +99,40 @@ mod tests {
             ("a->b", "Lower 0 1; Symbol 1 3; Lower 3 4; "),
             ("->-3s8", "Symbol 0 2; Literal 2 6; "),
             ("\\/\\/", "fault 3"),
-            (":=|(){}[],.@+*", "Symbol 0 1; Symbol 1 2; Symbol 2 3; Symbol 3 4; Symbol 4 5; Symbol 5 6; Symbol 6 7; Symbol 7 8; Symbol 8 9; Symbol 9 10; Symbol 10 11; Symbol 11 12; Symbol 12 13; Symbol 13 14; "),
+            (
+                ":=|(){}[],.@+*",
+                "Symbol 0 1; Symbol 1 2; Symbol 2 3; Symbol 3 4; Symbol 4 5; Symbol 5 6; Symbol 6 7; Symbol 7 8; Symbol 8 9; Symbol 9 10; Symbol 10 11; Symbol 11 12; Symbol 12 13; Symbol 13 14; ",
+            ),
             ("a--b->#\nc", "Lower 0 1; Lower 8 9; "),
             ("a ---", "Lower 0 1; "),
             ("--\n--\nA", "Upper 6 7; "),
         ];
         for (text, want) in rows {
-            assert_eq!(rt; shown(rt.alloc(), text.as_bytes())?.as_str(), want, "at {text}");
+            assert_eq!(rt;
+                shown(rt.alloc(), text.as_bytes())?.as_str(),
+                want,
+                "at {text}"
+            );
         }
         Ok(())
     }
 
     #[test]
     fn comments_hold_any_bytes(rt: HostRuntime) -> Result<(), Fail> {
-        assert_eq!(rt; shown(rt.alloc(), b"--\xff\x00\xfe\r\n1")?.as_str(), "Numeral 7 8; ");
+        assert_eq!(rt;
+            shown(rt.alloc(), b"--\xff\x00\xfe\r\n1")?.as_str(),
+            "Numeral 7 8; "
+        );
         assert_eq!(rt; shown(rt.alloc(), b"1\xff")?.as_str(), "fault 1");
         Ok(())
     }
 
     #[test]
     fn words_are_slices(rt: HostRuntime) {
-        let token = Token { sort: Sort::Lower, span: Span { from: 1, to: 4 } };
+        let token = Token {
+            sort: Sort::Lower,
+            span: Span { from: 1, to: 4 },
+        };
         assert_eq!(rt; word(b"(top)", token), b"top".as_slice());
     }
 }

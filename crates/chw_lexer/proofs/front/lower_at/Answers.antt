@@ -1,4 +1,4 @@
-use Rattle.std.proofs.Common.{rules, ◌≡◌, ◌<◌, ℕ, List, [], ◌∷◌, length, take, drop, get_or, ◌+◌, ◌-◌, ◌≤◌, Bool, true, false, ◌++◌, sym, refl, ap, ◌∙◌, subst, arith}
+use Rattle.std.proofs.Common.{sym, ◌∙◌}
 use Rattle.chw_lexer.proofs.Names.{lower_token, key_token}
 use Rattle.chw_lexer.proofs.front.lower_at.Goals as goal
 

@@ -1,4 +1,3 @@
-use Rattle.std.proofs.Common.{rules, ◌≡◌, ◌<◌, ℕ, List, [], ◌∷◌, length, take, drop, get_or, ◌+◌, ◌-◌, ◌≤◌, Bool, true, false, ◌++◌, sym, refl, ap, ◌∙◌, subst, arith}
 use Rattle.chw_lexer.proofs.Numbers.{literal_token, numeral_token}
 use Rattle.chw_lexer.proofs.front.number_at.Goals as goal
 

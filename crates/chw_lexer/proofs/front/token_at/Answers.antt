@@ -1,4 +1,4 @@
-use Rattle.std.proofs.Common.{rules, ◌≡◌, ◌<◌, ℕ, List, [], ◌∷◌, length, take, drop, get_or, ◌+◌, ◌-◌, ◌≤◌, Bool, true, false, ◌++◌, sym, refl, ap, ◌∙◌, subst, arith}
+use Rattle.std.proofs.Common.{◌≡◌, ◌<◌, ℕ, List, [], ◌∷◌, length, get_or, Bool, true, sym, ◌∙◌, arith}
 use Rattle.chw_lexer.specs.Forms.{is_capital}
 use Rattle.chw_lexer.specs.Scanning.{BeginsWith}
 use Rattle.chw_lexer.proofs.Names.{upper_token}

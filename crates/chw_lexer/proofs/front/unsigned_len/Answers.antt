@@ -6,9 +6,9 @@ use Rattle.chw_lexer.proofs.front.unsigned_len.Goals.{then-value-eq0-via-then-va
 pub returns-then-value-eq0-clause-none : goal.returns-then-value-eq0-clause-none
 returns-then-value-eq0-clause-none c =
     elim c.then-value-eq0.branch [
-      then-value-eq0-via-then-value-eq0 w ↦ no_value c.args.signed c.args.bytes.now c.run_len-value.result c.run_len-value.ensures w.if-value-eq0.true
-    | then-value-eq0-via-else-value-eq0+then-not-begins_with_letter w ↦
-        no_letter_from c.args.signed c.args.bytes.now c.run_len-value.result c.run_len-value.ensures (sym w.begins_with_letter.ensures ∙ w.if-not-begins_with_letter.true)
+      | then-value-eq0-via-then-value-eq0 w ↦ no_value c.args.signed c.args.bytes.now c.run_len-value.result c.run_len-value.ensures w.if-value-eq0.true
+      | then-value-eq0-via-else-value-eq0+then-not-begins_with_letter w ↦
+          no_letter_from c.args.signed c.args.bytes.now c.run_len-value.result c.run_len-value.ensures (sym w.begins_with_letter.ensures ∙ w.if-not-begins_with_letter.true)
     ]
 
 pub returns-then-width-eq0-clause-none : goal.returns-then-width-eq0-clause-none

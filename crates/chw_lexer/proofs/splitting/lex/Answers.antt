@@ -1,7 +1,7 @@
-use Rattle.std.proofs.Common.{◌≡◌, ℕ, ◌+◌, ◌-◌, List, length, take, drop, is_ok, sym, ◌∙◌, ap, subst, arith}
+use Rattle.std.proofs.Common.{ℕ, ◌+◌, ◌-◌, List, length, take, drop, is_ok, sym, ap, subst, arith}
 use Rattle.std.proofs.ResultArms.{chosen}
 use Rattle.std.proofs.lemmas.List.{take_rest}
-use Rattle.chw_lexer.specs.Tokens.{TokensFrom, InOrder}
+use Rattle.chw_lexer.specs.Tokens.{TokensFrom}
 use Rattle.chw_lexer.specs.Scanning.{IsPiece}
 use Rattle.chw_lexer.specs.declared.piece.Piece.{Piece}
 use Rattle.chw_lexer.specs.declared.piece.Piece.TheVariants.{Space, LastComment, Word, Nothing}
