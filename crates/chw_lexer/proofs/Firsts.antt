@@ -26,11 +26,6 @@ AllOf-from_list_all test (b ∷ bytes) each =
     let parts = and_parts _ _ each in
     (parts.0, AllOf-from_list_all test bytes parts.1)
 
--- bytes that pass one test pass a wider one
-pub AllOf-wider : (test wider : ℕ → Bool) → ((b : ℕ) → IsTrue (test b) → IsTrue (wider b)) → (bytes : List ℕ) → AllOf test bytes → AllOf wider bytes
-AllOf-wider test wider widens [] each = tt
-AllOf-wider test wider widens (b ∷ bytes) each = (widens b each.0, AllOf-wider test wider widens bytes each.1)
-
 -- a keyword is letters
 abbrev looks_like_name : List ℕ → Bool
 looks_like_name [] = false

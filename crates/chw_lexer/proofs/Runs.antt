@@ -1,7 +1,6 @@
 -- Fronts of bytes that pass a test, against the longest one.
-use Rattle.std.proofs.Common.{◌≡◌, ℕ, suc, zero, ◌<◌, ◌≤◌, Bool, true, false, List, [], ◌∷◌, ◌++◌, length, take, drop, get_or, sym, refl, ap, ◌∙◌, subst, arith}
+use Rattle.std.proofs.Common.{◌≡◌, ℕ, suc, zero, ◌<◌, ◌≤◌, Bool, true, List, [], ◌∷◌, ◌++◌, length, take, get_or, sym, refl, ap, ◌∙◌, arith}
 use Rattle.std.proofs.lemmas.Bool.{false≢true}
-use Rattle.std.proofs.lemmas.List.{take_all}
 use Rattle.chw_lexer.specs.Forms.{AllOf}
 use Rattle.chw_lexer.specs.Scanning.{StopsAt}
 
@@ -37,18 +36,3 @@ passes_more test [] zero within passes here = absurd (omega arith)
 passes_more test [] (suc n) within passes here = absurd (omega arith)
 passes_more test (b ∷ bytes) zero within passes here = (here, tt)
 passes_more test (b ∷ bytes) (suc n) within passes here = (passes.0, passes_more test bytes n (omega arith) passes.1 here)
-
-pub stops_here : (test : ℕ → Bool) (bytes : List ℕ) (n : ℕ) → test (get_or bytes n 0) ≡ false → StopsAt test (drop n bytes)
-stops_here test [] zero here = tt
-stops_here test [] (suc n) here = tt
-stops_here test (b ∷ bytes) zero here = here
-stops_here test (b ∷ bytes) (suc n) here = stops_here test bytes n here
-
--- no byte is left at the end
-pub stops_at_end : (test : ℕ → Bool) (bytes : List ℕ) → StopsAt test (drop (length bytes) bytes)
-stops_at_end test [] = tt
-stops_at_end test (b ∷ bytes) = stops_at_end test bytes
-
--- all of the bytes pass
-pub passes_all : (test : ℕ → Bool) (bytes : List ℕ) → AllOf test (take (length bytes) bytes) → AllOf test bytes
-passes_all test bytes passes = let P : List ℕ → Type 0 = λ front. AllOf test front in subst P (take_all (length bytes) bytes (omega arith)) passes

@@ -54,9 +54,6 @@ pub record SplitsBefore (text : List ℕ) (at : ℕ) (before : List Token) : Typ
   pub tokens : (more : List Token) → TokensFrom at (drop at text) more → TokensFrom 0 text (before ++ more)
   pub faults : (fault : ℕ) → NoTokenFrom at (drop at text) fault → NoTokenFrom 0 text fault
 
-pub nothing_before : (text : List ℕ) → SplitsBefore text 0 []
-nothing_before text = record { within = omega arith; tokens = λ more splits. splits; faults = λ fault here. here }
-
 module _ (text : List ℕ) (at : ℕ) (before : List Token) (so_far : SplitsBefore text at before) where
   parts : (n : ℕ) → take n (drop at text) ++ drop (at + n) text ≡ drop at text
   parts n = ap (λ r. take n (drop at text) ++ r) (sym (drop-drop n at text)) ∙ take-append-drop n (drop at text)

@@ -1,10 +1,10 @@
 -- Symbols and negative literals as longest tokens.
-use Rattle.std.proofs.Common.{◌≡◌, ℕ, ◌+◌, ◌≤◌, Bool, true, false, ◌⊎◌, inl, inr, eqb, leb, List, [], ◌∷◌, ◌++◌, length, take, drop, sym, refl, ap, ◌∙◌, subst, add-one, ◌-◌, arith}
+use Rattle.std.proofs.Common.{eqb-true, get_or, ◌≡◌, ℕ, ◌+◌, ◌≤◌, Bool, true, false, ◌⊎◌, inl, inr, eqb, leb, List, [], ◌∷◌, ◌++◌, length, take, drop, sym, refl, ap, ◌∙◌, subst, add-one, ◌-◌, arith}
 use Rattle.std.specs.Prelude.{IsTrue, ◌==◌}
 use Rattle.std.proofs.lemmas.Bool.{false≢true, both_ways, and_parts, or_parts, not-true, eq-eqb, le-leb, and_from}
 use Rattle.std.proofs.lemmas.List.{take-append-drop, take_rest, length-take-le}
 use Rattle.chw_lexer.specs.Forms.{is_small_letter, is_capital, is_digit, is_letter_or_digit, is_symbol, HasForm}
-use Rattle.chw_lexer.specs.Scanning.{begins_with, is_letter, is_other, IsUnsigned, IsLongestUnsigned, BeginsNoUnsigned, IsTokenAt, BeginsNoToken}
+use Rattle.chw_lexer.specs.Scanning.{BeginsWith, begins_with, is_letter, is_other, IsUnsigned, IsLongestUnsigned, BeginsNoUnsigned, IsTokenAt, BeginsNoToken}
 use Rattle.chw_lexer.specs.declared.token.Sort.{Sort}
 use Rattle.chw_lexer.specs.declared.token.Sort.TheVariants.{Lower, Upper, Key, Numeral, Literal, Symbol}
 use Rattle.chw_lexer.proofs.Firsts.{First, form_first, form_empty, literal_parts, negative_literal, unsigned_first, unsigned_empty, looks_like_symbol, symbol_looks, two_bytes}
@@ -49,21 +49,6 @@ no_digit_front letters b bytes (w ∷ word) more other same parts =
     let head : w ≡ b = cc in
     let digit = unsigned_first letters w word parts in
     both_ways (is_digit b) other (and_from (leb 48 b) _ (le-leb 48 b (omega arith)) (le-leb b 57 (omega arith)))
-
-pub arrow_token : (bytes : List ℕ) → IsTokenAt (45 ∷ 62 ∷ bytes) Symbol 2
-arrow_token bytes = record {
-  within = omega arith;
-  longest = record {
-    form = refl;
-    longest = λ other word more same form. elim (minus_word (62 ∷ bytes) other word more same form) [
-      | inl arrow ↦ omega (arith, ap length arrow)
-      | inr negative ↦
-          let regroup : 45 ∷ (negative.0 ++ more) ≡ 45 ∷ 62 ∷ bytes = ap (λ w. w ++ more) (sym negative.1) ∙ same in
-          let tail : negative.0 ++ more ≡ 62 ∷ bytes = cc in
-          absurd (no_digit_front (is_letter true) 62 bytes negative.0 more refl tail negative.2)
-    ];
-  };
-}
 
 -- no `>` follows
 no_arrow : (bytes more : List ℕ) → begins_with (λ b. b == 62) bytes ≡ false → 45 ∷ 62 ∷ more ≡ 45 ∷ bytes → ⊥
@@ -214,3 +199,28 @@ module _ (bytes rest : List ℕ) (minus : bytes ≡ 45 ∷ rest) where
       let at_rest : BeginsNoToken (45 ∷ rest) =
       no_minus_token rest (ap (begins_with (λ b. b == 62)) (sym after_is) ∙ none) (subst (BeginsNoUnsigned (is_letter true)) after_is no_literal) in
       subst BeginsNoToken (sym minus) at_rest
+
+-- the same for a slice, by its first byte
+slash_front : (bytes : List ℕ) → get_or bytes 0 0 ≡ 47 → BeginsWith is_other bytes → bytes ≡ 47 ∷ after_first bytes
+slash_front [] slash begins = absurd begins
+slash_front (b ∷ bytes) slash begins = ap (λ x. x ∷ bytes) slash ∙ ap (λ r. 47 ∷ r) (sym (take_rest (b ∷ bytes) 1))
+
+backslash_front : (rest : List ℕ) → begins_with (λ b. b == 92) rest ≡ true → rest ≡ 92 ∷ drop 1 rest
+backslash_front [] backslash = absurd (false≢true backslash)
+backslash_front (b ∷ rest) backslash = ap (λ x. x ∷ rest) (eqb-true b 92 backslash)
+
+pub lambda_front : (bytes : List ℕ) → BeginsWith is_other bytes → get_or bytes 0 0 ≡ 47 → begins_with (λ b. b == 92) (after_first bytes) ≡ true → IsTokenAt bytes Symbol 2
+lambda_front bytes begins slash backslash =
+    let whole : bytes ≡ 47 ∷ 92 ∷ drop 1 (after_first bytes) = slash_front bytes slash begins ∙ ap (λ r. 47 ∷ r) (backslash_front (after_first bytes) backslash) in
+    subst (λ l. IsTokenAt l Symbol 2) (sym whole) (lambda_token (drop 1 (after_first bytes)))
+
+pub no_lambda_front : (bytes : List ℕ) → BeginsWith is_other bytes → get_or bytes 0 0 ≡ 47 → begins_with (λ b. b == 92) (after_first bytes) ≡ false → BeginsNoToken bytes
+no_lambda_front bytes begins slash none = subst BeginsNoToken (sym (slash_front bytes slash begins)) (no_lambda_token (after_first bytes) none)
+
+pub single_front : (bytes : List ℕ) → BeginsWith is_other bytes → (get_or bytes 0 0 ≡ 47 → ⊥) → is_symbol (get_or bytes 0 0 ∷ []) ≡ true → IsTokenAt bytes Symbol 1
+single_front [] begins no_slash symbol = absurd begins
+single_front (b ∷ bytes) begins no_slash symbol = single_token b bytes begins symbol no_slash
+
+pub no_single_front : (bytes : List ℕ) → BeginsWith is_other bytes → (get_or bytes 0 0 ≡ 47 → ⊥) → is_symbol (get_or bytes 0 0 ∷ []) ≡ false → BeginsNoToken bytes
+no_single_front [] begins no_slash no_symbol = absurd begins
+no_single_front (b ∷ bytes) begins no_slash no_symbol = no_single_token b bytes begins no_symbol no_slash
