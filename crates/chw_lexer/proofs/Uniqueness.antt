@@ -1,5 +1,5 @@
 -- A text has one splitting, or one first place where no token begins, and not both.
-use Rattle.std.proofs.Common.{◌≡◌, ℕ, ◌+◌, ◌<◌, ◌≤◌, true, false, List, [], ◌∷◌, ◌++◌, length, inl, inr, take, sym, refl, ap, ◌∙◌, subst, arith}
+use Rattle.std.proofs.Common.{get_or, suc, zero, ◌≡◌, ℕ, ◌+◌, ◌<◌, ◌≤◌, true, false, List, [], ◌∷◌, ◌++◌, length, inl, inr, take, sym, refl, ap, ◌∙◌, subst, arith}
 use Rattle.std.proofs.lemmas.Bool.{false≢true, both_ways}
 use Rattle.std.proofs.lemmas.List.{append-nil, append_cancel_left, length-append, take_at}
 use Rattle.chw_lexer.specs.Forms.{is_digit, IsNumeral, HasForm}
@@ -133,3 +133,9 @@ in_order (next at gap word rest sort tokens gaps longest splits) end same =
     let outer = length-append gap (word ++ rest) in
     let inner = length-append word rest in
     (omega arith, omega arith, omega arith, in_order splits end (omega arith))
+
+-- tokens in order lie between the two places
+pub lies_between : (from to : ℕ) (tokens : List Token) → InOrder from to tokens → (k : ℕ) (d : Token) → k < length tokens → ((get_or tokens k d).span.from ≤ (get_or tokens k d).span.to) × ((get_or tokens k d).span.to ≤ to)
+lies_between from to [] order k d inside = absurd (omega arith)
+lies_between from to (t ∷ tokens) order zero d inside = (omega (arith, order.1), order.2)
+lies_between from to (t ∷ tokens) order (suc k) d inside = lies_between t.span.to to tokens order.3 k d (omega arith)

@@ -1,6 +1,7 @@
 //! Laws of the splitting of a text.
-ghost use Rattle.std.specs.Prelude.{◌≡◌, ℕ, List, length};
+ghost use Rattle.std.specs.Prelude.{◌≡◌, ℕ, List, length, All};
 ghost use Rattle.chw_lexer.specs.Tokens.{Tokens, NoToken, InOrder};
+ghost use Rattle.chw_lexer.specs.Words.{LiesIn};
 ghost use Rattle.chw_lexer.specs.declared.token.Token.{Token};
 
 /// A text splits into at most one list of tokens.
@@ -21,4 +22,9 @@ pub fn no_fault()
 /// The tokens of a text stand in it one behind the other.
 pub fn tokens_in_order()
     ensures { (text : List ℕ) (tokens : List Token) → Tokens text tokens → InOrder 0 (length text) tokens }
+{}
+
+/// Each token of a text lies in it.
+pub fn tokens_lie_in()
+    ensures { (text : List ℕ) (tokens : List Token) → Tokens text tokens → All (LiesIn text) tokens }
 {}

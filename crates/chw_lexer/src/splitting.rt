@@ -1,8 +1,8 @@
 //! The splitting of a text into tokens.
-ghost use Rattle.std.specs.Prelude.{◌≡◌, ◌^◌, ◌<◌, ◌≤◌, length, IfOk};
+ghost use Rattle.std.specs.Prelude.{◌≡◌, ◌^◌, ◌<◌, length, IfOk};
 ghost use Rattle.chw_base.specs.Outcome.{IfFault};
 ghost use Rattle.chw_lexer.specs.Tokens.{Tokens, NoToken, InOrder};
-ghost use Rattle.chw_lexer.specs.Words.{word_of};
+ghost use Rattle.chw_lexer.specs.Words.{word_of, LiesIn};
 
 use crate::piece::{Piece, piece_at};
 use crate::token::{LexFault, Span, Token};
@@ -44,8 +44,7 @@ pub fn lex(alloc: Global, text: &[u8]) -> Result<Seq<Token>, Or<LexFault>>
 
 /// The bytes of a token in its text.
 pub fn word<'a>(text: &'a [u8], token: Token) -> &'a [u8]
-    requires in_order { token.span.from ≤ token.span.to }
-    requires within { token.span.to ≤ length text.now }
+    requires { LiesIn text.now token }
     ensures { result.now ≡ (word_of text.now token).bytes }
 {
     &text[token.span.from as usize..token.span.to as usize]
