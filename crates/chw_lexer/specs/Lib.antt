@@ -1,3 +1,4 @@
 pub mod Forms
+pub mod Scanning
 pub mod Tokens
 pub mod Words

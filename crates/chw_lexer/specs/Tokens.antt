@@ -1,5 +1,5 @@
 -- The splitting of a text into tokens by the longest token, and the first place where none begins.
-use Rattle.std.specs.Prelude.{◌≡◌, ℕ, ◌+◌, ◌≤◌, Bool, false, not, ◌==◌, IsTrue, List, [], ◌∷◌, ◌++◌, length, ◌⊎◌}
+use Rattle.std.specs.Prelude.{◌≡◌, ℕ, ◌+◌, ◌<◌, ◌≤◌, false, not, ◌==◌, IsTrue, List, [], ◌∷◌, ◌++◌, length, ◌⊎◌}
 use Rattle.chw_lexer.specs.Forms.{AllOf, HasForm, is_white}
 use Rattle.chw_lexer.specs.declared.token.Sort.{Sort}
 use Rattle.chw_lexer.specs.declared.token.Token.{Token}
@@ -53,3 +53,8 @@ pub data NoTokenFrom : ℕ → List ℕ → ℕ → Type 0 where
 -- this is the first place, outside white space and comments, at which no token begins
 abbrev pub NoToken : List ℕ → ℕ → Type 0
 NoToken text fault = NoTokenFrom 0 text fault
+
+-- the tokens stand one behind the other from one place to another, and each has a byte at least
+abbrev pub InOrder : (from to : ℕ) → List Token → Type 0
+InOrder from to [] = Unit {0}
+InOrder from to (t ∷ tokens) = (from ≤ t.span.from) × (t.span.from < t.span.to) × (t.span.to ≤ to) × InOrder t.span.to to tokens

@@ -1,11 +1,15 @@
 -- Tokens without their places: what a grammar speaks of.
-use Rattle.std.specs.Prelude.{ℕ, List, map, slice_range}
+use Rattle.std.specs.Prelude.{ℕ, ◌≤◌, List, length, map, slice_range}
 use Rattle.chw_lexer.specs.declared.token.Sort.{Sort}
 use Rattle.chw_lexer.specs.declared.token.Token.{Token}
 
 pub record Word : Type 0 where
   pub sort : Sort
   pub bytes : List ℕ
+
+-- the token's place is within the text
+abbrev pub LiesIn : List ℕ → Token → Type 0
+LiesIn text token = (token.span.from ≤ token.span.to) × (token.span.to ≤ length text)
 
 -- a token's word in its text
 abbrev pub word_of : List ℕ → Token → Word

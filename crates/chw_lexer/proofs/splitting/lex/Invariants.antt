@@ -1,0 +1,9 @@
+use Rattle.std.proofs.Common.{length, ◌-◌}
+use Rattle.chw_lexer.proofs.Splits.{SplitsBefore}
+use Rattle.chw_lexer.proofs.splitting.lex.Given as goal
+
+abbrev pub invariant-loop-at : goal.invariant-loop-at
+invariant-loop-at l = SplitsBefore l.text l.at l.tokens.items
+
+abbrev pub decreases-loop-at : goal.decreases-loop-at
+decreases-loop-at l = length l.text - l.at
