@@ -3,9 +3,12 @@
 
 pub mod cell;
 mod copies;
+mod cycle;
+mod drivers;
 pub mod flatten;
 pub mod net;
+pub mod ordering;
 mod search;
 
 pub use flatten::TooLarge;
-pub use net::{Cell, Flat, Module, Net, Op1, Op2, RamIn};
+pub use net::{Cell, Flat, Loop, Module, Net, Op1, Op2, Order, RamIn};

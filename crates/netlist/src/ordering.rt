@@ -1,0 +1,46 @@
+//! An order of the cells of a flat net, or a loop.
+ghost use Rattle.std.specs.Prelude.{◌≡◌, ℕ, List, IfOk};
+ghost use Rattle.chw_base.specs.Outcome.{IfFault};
+ghost use Rattle.chw_base.specs.declared.index.WireId.{WireId};
+ghost use Rattle.netlist.specs.Orders.{IsLoop, IsOrder};
+ghost use Rattle.netlist.specs.Sound.{Sound};
+ghost use Rattle.netlist.specs.declared.net.Flat.{Flat};
+
+use crate::drivers::drivers;
+use crate::net::{Flat, Loop, Order};
+use crate::search::{Search, Step};
+use chw_base::{Or, Seq, WireId};
+use std::alloc::Global;
+
+/// An order of the cells of a flat net, or a loop of its wires. A net that has one hasn't the other.
+pub fn order(alloc: Global, flat: &Flat) -> Result<Order, Or<Loop>>
+    requires { Sound flat.now }
+    ensures order { IfOk result (λ o. IsOrder flat.now o.cells) }
+    ensures loop_ { IfFault result (λ l. IsLoop flat.now l.cycle) }
+{
+    let cells = flat.cells.as_slice();
+    let drivers = drivers(alloc, flat)?;
+    let mut search = Search::new(alloc, cells)?;
+    for place in 0..cells.len() {
+        if let Some(wire) = cells[place].target() {
+            let step = Step {
+                place: place as u32,
+                wire,
+            };
+            match search.visit(alloc, cells, &drivers, step) {
+                Ok(()) => {}
+                Err(Or::Memory) => return Err(Or::Memory),
+                Err(Or::Fault(cycle)) => return Err(Or::Fault(Loop { cycle })),
+            }
+        }
+    }
+    Ok(Order {
+        cells: Seq::from(search.places),
+    })
+}
+
+/// Where a flat net has an order, it has no loop.
+pub fn an_order_excludes_loops()
+    ensures { (flat : Flat) (places : List ℕ) (cycle : List WireId) →
+        Sound flat → IsOrder flat places → IsLoop flat cycle → ⊥ }
+{}
