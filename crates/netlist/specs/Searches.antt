@@ -31,7 +31,7 @@ pub record IsSearch (cells : List Cell) (drivers : List (Option ℕ)) (visits : 
   pub once : (i j : ℕ) → i < length places → j < length places → slice_index places i ≡ slice_index places j → i ≡ j
   pub after : (j k w place : ℕ) → j < length places → awaited_at cells (slice_index places j) k ≡ Some w
       → slice_index_or drivers w None ≡ Some place → (i : ℕ) × (i < j) × (slice_index places i ≡ place)
-  pub open : (d : ℕ) (s : Step) → d < length path → visit_at visits (slice_index_or path d s).place ≡ Open d
+  pub opened : (d : ℕ) (s : Step) → d < length path → visit_at visits (slice_index_or path d s).place ≡ Open d
   pub drives : (d : ℕ) (s : Step) → d < length path → target_at cells (slice_index_or path d s).place ≡ Some (slice_index_or path d s).wire.number
   pub on_path : (place d : ℕ) → visit_at visits place ≡ Open d
       → (d < length path) × ((s : Step) → (slice_index_or path d s).place ≡ place)
