@@ -1,9 +1,11 @@
 -- What each step of a search keeps.
-use Rattle.std.proofs.Common.{◌≡◌, ◌≢◌, ℕ, ◌+◌, ◌-◌, ◌<◌, ◌≤◌, ◌⊎◌, inl, inr, List, [], ◌∷◌, ◌++◌, length, get_or, set, refl, sym, ◌∙◌, ap, subst, arith, length-append, length-set, Option, Some, None, sum, sum_by}
+use Rattle.std.proofs.Common.{◌≡◌, ◌≢◌, ℕ, ◌+◌, ◌-◌, ◌<◌, ◌≤◌, ◌⊎◌, inl, inr, List, [], ◌∷◌, ◌++◌, length, get_or, set, refl, sym, ◌∙◌, ap, subst, arith, length-append, length-set, Option, Some, None, sum, sum_by, map, replicate, option_map, zero, suc}
 use Rattle.std.proofs.lemmas.Bool.{cases_eq, cases_lt}
-use Rattle.std.proofs.lemmas.List.{get_or_append_left, get_or_push, length_push}
+use Rattle.std.proofs.lemmas.List.{length-replicate, length-map, get_or-replicate, get_or_append_left, get_or_push, length_push}
 use Rattle.std.proofs.lemmas.List.Sums.{sum_by-set}
-use Rattle.netlist.specs.Feeds.{awaited_at, target_at}
+use Rattle.std.proofs.lemmas.Option.{slice_get_past}
+use Rattle.chw_base.specs.declared.index.WireId.{WireId}
+use Rattle.netlist.specs.Feeds.{awaited, awaited_at, awaited_wire, target_at}
 use Rattle.netlist.specs.Searches.{EndsIn, IsMet, IsSearch, MayBegin, WentOn, visit_at, visit_work, work_of}
 use Rattle.netlist.specs.declared.net.Cell.{Cell}
 use Rattle.netlist.specs.declared.search.Step.{Step}
@@ -271,3 +273,36 @@ module _ (cells : List Cell) (drivers : List (Option ℕ)) (visits : List Visit)
       | inr x ↦ sym (x.1) ∙ e
       ];
   }
+
+-- all are ahead at first
+never_begun : (n q : ℕ) (v : Visit) → visit_at (replicate n Ahead) q ≡ v → (v ≡ Ahead → ⊥) → ⊥
+never_begun n q v e h =
+    let l : q < length (replicate n Ahead) = visit_within (replicate n Ahead) q v e h in
+    h (sym e ∙ get_or-replicate n q Ahead Ahead (omega (arith, length-replicate n Ahead)))
+
+-- a cell waits for no wire beyond their number
+none_further : (cells : List Cell) (q i w : ℕ) → get_or (map (λ cell. length (awaited cell)) cells) q 0 ≤ i → awaited_at cells q i ≡ Some w → ⊥
+none_further [] q i w l a = cc
+none_further (cell ∷ cells) zero i w l a =
+    let none : awaited_wire cell i ≡ None = ap (λ o. option_map (λ (v : WireId). v.number) o) (slice_get_past (awaited cell) i l) in
+    cc
+none_further (cell ∷ cells) (suc q) i w l a = none_further cells q i w l a
+
+-- a search that has done nothing
+pub start_knows : (cells : List Cell) (drivers : List (Option ℕ)) → IsSearch cells drivers (replicate (length cells) Ahead)
+    (map (λ cell. length (awaited cell)) cells) [] []
+start_knows cells drivers =
+    let len : Cell → ℕ = λ cell. length (awaited cell) in
+    record {
+      visits_size = length-replicate (length cells) Ahead;
+      unmet_size = length-map cells len;
+      done = λ i l. absurd (omega (arith, l));
+      placed = λ q e. absurd (never_begun (length cells) q Done e (λ h. cc));
+      once = λ i j l m e. absurd (omega (arith, l));
+      after = λ j n w q l a d. absurd (omega (arith, l));
+      opened = λ d s l. absurd (omega (arith, l));
+      drives = λ d s l. absurd (omega (arith, l));
+      on_path = λ q d e. absurd (never_begun (length cells) q (Open d) e (λ h. cc));
+      met = λ q i w driver l a d. absurd (none_further cells q i w l a);
+      waits = λ d s l. absurd (omega (arith, l));
+    }

@@ -23,7 +23,7 @@ turned_at m xs i h l = elim (cases_lt i (length xs - m)) [
         get_or-append_right (drop m xs) (take m xs) (length xs - m) i 0 (length-drop m xs) b ∙ get_or-take m xs (i - (length xs - m)) 0 (omega arith), inr (omega arith))
   ]
 
-Feeds_at : (cells : List Cell) (v w v' w' : ℕ) → v ≡ v' → w ≡ w' → Feeds cells v' w' → Feeds cells v w
+pub Feeds_at : (cells : List Cell) (v w v' w' : ℕ) → v ≡ v' → w ≡ w' → Feeds cells v' w' → Feeds cells v w
 Feeds_at cells v w v' w' e f h = rw (e, f) h
 
 module _ (cells : List Cell) (m : ℕ) (xs : List ℕ) (below : m < length xs) (c : IsCycle cells xs) where

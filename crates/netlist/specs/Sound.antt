@@ -1,6 +1,6 @@
 -- What a flat net meets as a module: widths that agree, and one driver for each wire that is no input.
 use Rattle.std.specs.Prelude.{◌≡◌, ℕ, ◌+◌, ◌-◌, ◌<◌, ◌≤◌, Bool, List, length, map, take, sum_by, All, Option, Some, slice_get, slice_index}
-use Rattle.chw_base.specs.declared.TheConstants.{FLAT_WIRES}
+use Rattle.chw_base.specs.declared.limits.TheConstants.{FLAT_WIRES}
 use Rattle.chw_base.specs.declared.index.DomId.{DomId}
 use Rattle.chw_base.specs.declared.index.WireId.{WireId}
 use Rattle.chw_clock.specs.declared.event.Port.{Port}

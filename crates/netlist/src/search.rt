@@ -1,7 +1,7 @@
 //! The search for an order.
-ghost use Rattle.std.specs.Prelude.{◌≡◌, ℕ, ◌-◌, ◌<◌, List, [], Option, Some, length, map, slice_index, IfOk, OnOk};
+ghost use Rattle.std.specs.Prelude.{◌≡◌, ℕ, ◌-◌, ◌<◌, List, [], Option, Some, length, map, option_map, slice_index, IfOk, OnOk};
 ghost use Rattle.chw_base.specs.Outcome.{IfFault};
-ghost use Rattle.netlist.specs.Feeds.{awaited, target_at};
+ghost use Rattle.netlist.specs.Feeds.{awaited, awaited_at, target_at};
 ghost use Rattle.netlist.specs.Orders.{IsCycle, LeastFirst, wire_numbers};
 ghost use Rattle.netlist.specs.Searches.{EndsIn, Goes, IsFound, IsMet, IsTable, Knows, MayBegin, Stayed, visit_at};
 ghost use Rattle.netlist.specs.declared.search.Visit.TheVariants.{Done};
@@ -51,20 +51,37 @@ pub(crate) enum Found {
     Closing(usize),
 }
 
+// One of the wires that the cell at a place waits for, if there are as many.
+fn wire_awaited(cells: &[Cell], place: u32, k: usize) -> Option<WireId>
+    ensures { option_map (λ w. w.number) result ≡ awaited_at cells.now place k }
+{
+    match cells.get(place as usize) {
+        Some(cell) => cell.awaited(k),
+        None => None,
+    }
+}
+
+// How far the search has come with the cell at a place.
+fn visit_of(visits: &[Visit], place: u32) -> Visit
+    ensures { result ≡ visit_at visits.now place }
+{
+    match visits.get(place as usize) {
+        Some(visit) => *visit,
+        None => Visit::Ahead,
+    }
+}
+
 // Looks at one of the wires that a cell waits for.
-fn look(visits: &[Visit], cells: &[Cell], drivers: &[Option<u32>], place: usize, k: usize) -> Found
-    requires place { place < length cells.now }
-    requires table { IsTable (length drivers.now) cells.now drivers.now }
-    requires visits { length visits.now ≡ length cells.now }
+fn look(visits: &[Visit], cells: &[Cell], drivers: &[Option<u32>], place: u32, k: usize) -> Found
     ensures { IsFound cells.now drivers.now visits.now place k result }
 {
-    let Some(wire) = cells[place].awaited(k) else {
+    let Some(wire) = wire_awaited(cells, place, k) else {
         return Found::Met;
     };
     let Some(driver) = driver_of(drivers, wire) else {
         return Found::Met;
     };
-    match visits[driver as usize] {
+    match visit_of(visits, driver) {
         Visit::Done => Found::Met,
         Visit::Ahead => Found::Next(Step {
             place: driver,
@@ -78,7 +95,10 @@ fn look(visits: &[Visit], cells: &[Cell], drivers: &[Option<u32>], place: usize,
 fn awaited_lens(alloc: Global, cells: &[Cell]) -> Result<Vec<usize>, NoMemory>
     ensures { IfOk result (λ lens. lens.items ≡ map (λ cell. length (awaited cell)) cells.now) }
 {
-    let lens = cells.iter().map(|cell| cell.awaited_len()).collect(alloc)?;
+    let mut lens = Vec::new(alloc);
+    for cell in cells {
+        lens.push(cell.awaited_len())?;
+    }
     Ok(lens)
 }
 
@@ -159,7 +179,7 @@ impl Search {
             self.close(cells, drivers, step)?;
             return Ok(());
         }
-        match look(&self.visits, cells, drivers, place, unmet - 1) {
+        match look(&self.visits, cells, drivers, step.place, unmet - 1) {
             Found::Met => self.pass(cells, drivers, place),
             Found::Next(next) => self.begin(cells, drivers, next)?,
             Found::Closing(depth) => return Err(Or::Fault(cycle(alloc, &self.path[depth..])?)),
