@@ -6,7 +6,7 @@ ghost use Rattle.netlist.specs.Orders.{IsLoop, IsOrder};
 ghost use Rattle.netlist.specs.Sound.{Sound};
 ghost use Rattle.netlist.specs.declared.net.Flat.{Flat};
 
-use crate::drivers::drivers;
+use crate::drivers::{drivers, wire_driven};
 use crate::net::{Flat, Loop, Order};
 use crate::search::{Search, Step};
 use chw_base::{Or, Seq, WireId};
@@ -22,7 +22,7 @@ pub fn order(alloc: Global, flat: &Flat) -> Result<Order, Or<Loop>>
     let drivers = drivers(alloc, flat)?;
     let mut search = Search::new(alloc, cells)?;
     for place in 0..cells.len() {
-        if let Some(wire) = cells[place].target() {
+        if let Some(wire) = wire_driven(cells, place) {
             let step = Step {
                 place: place as u32,
                 wire,

@@ -1,5 +1,5 @@
 //! The search for an order.
-ghost use Rattle.std.specs.Prelude.{◌≡◌, ℕ, ◌-◌, ◌<◌, List, [], Option, Some, length, map, option_map, slice_index, IfOk, OnOk};
+ghost use Rattle.std.specs.Prelude.{◌≡◌, ℕ, ◌-◌, ◌<◌, List, [], ◌∷◌, ◌++◌, Option, Some, MatchOption, length, map, option_map, slice_index, IfOk, OnOk};
 ghost use Rattle.chw_base.specs.Outcome.{IfFault};
 ghost use Rattle.netlist.specs.Feeds.{awaited, awaited_at, target_at};
 ghost use Rattle.netlist.specs.Orders.{IsCycle, LeastFirst, wire_numbers};
@@ -91,6 +91,13 @@ fn look(visits: &[Visit], cells: &[Cell], drivers: &[Option<u32>], place: u32, k
     }
 }
 
+// The last step of a path.
+fn last_step(path: &[Step]) -> Option<Step>
+    ensures { MatchOption result (path.now ≡ []) (EndsIn path.now) }
+{
+    path.last().copied()
+}
+
 // For each cell, how many wires it waits for.
 fn awaited_lens(alloc: Global, cells: &[Cell]) -> Result<Vec<usize>, NoMemory>
     ensures { IfOk result (λ lens. lens.items ≡ map (λ cell. length (awaited cell)) cells.now) }
@@ -124,6 +131,7 @@ impl Search {
         requires step { MayBegin cells.now self.old.visits.items self.old.path.items step }
         ensures knows { OnOk result (Knows cells.now drivers.now self.new) }
         ensures goes { OnOk result (Goes self.old self.new) }
+        ensures path { OnOk result (self.new.path.items ≡ self.old.path.items ++ step ∷ []) }
     {
         let depth = self.path.len();
         self.path.push(step)?;
@@ -201,7 +209,7 @@ impl Search {
         ensures stayed { OnOk result (Stayed self.old.visits.items self.new.visits.items) }
         ensures fault { IfFault result (λ c. IsCycle cells.now (wire_numbers c) × LeastFirst (wire_numbers c)) }
     {
-        while let Some(step) = self.path.last().copied() {
+        while let Some(step) = last_step(&self.path) {
             self.turn(alloc, cells, drivers, step)?;
         }
         Ok(())
@@ -227,10 +235,12 @@ impl Search {
         ensures done { OnOk result (visit_at self.new.visits.items step.place ≡ Done) }
         ensures fault { IfFault result (λ c. IsCycle cells.now (wire_numbers c) × LeastFirst (wire_numbers c)) }
     {
-        if self.visits[step.place as usize] == Visit::Ahead {
-            self.begin(cells, drivers, step)?;
-            self.run(alloc, cells, drivers)?;
+        match visit_of(&self.visits, step.place) {
+            Visit::Ahead => {
+                self.begin(cells, drivers, step)?;
+                self.run(alloc, cells, drivers)
+            }
+            Visit::Open(_) | Visit::Done => Ok(()),
         }
-        Ok(())
     }
 }
