@@ -17,17 +17,18 @@ last_or_none path None e = nil_from_length path (none_left path e) where
   none_left : (path : List Step) → None ≡ slice_get path (length path - 1) → length path ≡ 0
   none_left [] e = refl
   none_left (s ∷ ss) e = elim ((slice_get_cases (s ∷ ss) (length (s ∷ ss) - 1)).1) [
-      inl x ↦ let h = x.2 in absurd (cc)
+    | inl x ↦ let h = x.2 in absurd (cc)
     | inr x ↦ absurd (omega (arith, x.0))
-    ]
+  ]
 last_or_none path (Some step) e =
     let is : slice_get path (length path - 1) ≡ Some step = sym e in
     let l : length path - 1 < length path = slice_get_within path (length path - 1) step is in
     let n : (length path - 1) + 1 ≡ length path = omega arith in
     let at : get_or path (length path - 1) step ≡ step = get_or_from_slice_get path (length path - 1) step step is in
-    let more = take_more path (length path - 1) step l in
-    (take (length path - 1) path,
-      sym (take_all (length path) path (omega arith)) ∙ ap (λ m. take m path) (sym n) ∙ more ∙ ap (λ s. take (length path - 1) path ++ s ∷ []) at)
+    let more = take_more path (length path - 1) step l in (
+      take (length path - 1) path,
+      sym (take_all (length path) path (omega arith)) ∙ ap (λ m. take m path) (sym n) ∙ more ∙ ap (λ s. take (length path - 1) path ++ s ∷ []) at,
+    )
 
 pub stayed_at_first : (visits : List Visit) → Stayed visits visits
 stayed_at_first visits = record { done = λ q e. e; begun = λ q e. e }
@@ -64,7 +65,7 @@ pub done_after : (cells : List Cell) (drivers : List (Option ℕ)) (visits visit
 done_after cells drivers visits visits' unmet unmet' path path' places places' step k e k' e' s =
     let one : path ++ step ∷ [] ≡ step ∷ [] = ap (λ ss. ss ++ step ∷ []) e in
     let k1 : IsSearch cells drivers visits unmet (step ∷ []) places =
-        subst (λ (ss : List Step). IsSearch cells drivers visits unmet ss places) one k in
+    subst (λ (ss : List Step). IsSearch cells drivers visits unmet ss places) one k in
     let o : visit_at visits step.place ≡ Open 0 = k1.opened 0 step (omega arith) in
     done_at_end cells drivers visits' unmet' path' places' k' e' step.place (λ a. let b = s.begun step.place a in cc)
 
@@ -74,8 +75,8 @@ pub ordered : (n : ℕ) (cells : List Cell) (drivers : List (Option ℕ)) (visit
     → OrdersCells cells places
 ordered n cells drivers visits unmet path places t k all = record {
   within = λ i l.
-    let in_visits : get_or places i 0 < length visits = visit_within visits (get_or places i 0) Done (k.done i l) (λ e. cc) in
-    omega (arith, k.visits_size);
+      let in_visits : get_or places i 0 < length visits = visit_within visits (get_or places i 0) Done (k.done i l) (λ e. cc) in
+      omega (arith, k.visits_size);
   once = k.once;
   all = λ p l. k.placed p (all p l);
   after = λ j i w p l a d. k.after j i w p l a (t.finds p w d);

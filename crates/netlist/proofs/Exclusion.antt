@@ -40,7 +40,7 @@ module _ (cells : List Cell) (places wires : List ℕ) (once : (p q w : ℕ) →
   climbs (suc n) i l h =
       let b = climbs n i (omega arith) h in
       let f : Feeds cells (get_or wires n 0) (get_or wires (suc n) 0) =
-          let g = c.feeds n (omega arith) in rw add-one at g in
+      let g = c.feeds n (omega arith) in rw add-one at g in
       let s = fed_stands (get_or wires n 0) (get_or wires (suc n) 0) f in
       let later : b.0 < s.0 = fed_after (get_or wires n 0) (get_or wires (suc n) 0) b.0 s.0 f b.2 s.1 in
       (s.0, omega (arith, b.1), s.1)

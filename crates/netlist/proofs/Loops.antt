@@ -79,7 +79,7 @@ module _ (n : ℕ) (cells : List Cell) (drivers : List (Option ℕ)) (visits : L
       let driven : target_at cells f.1.0 ≡ Some f.0 = t.drives f.1.0 f.0 f.1.2 in
       let place : (get_or path depth step).place ≡ f.1.0 = (k.on_path f.1.0 depth f.1.3).1 step in
       let here : target_at cells f.1.0 ≡ Some (get_or path depth step).wire.number =
-          subst (λ (p : ℕ). target_at cells p ≡ Some (get_or path depth step).wire.number) place (k.drives depth step below) in
+      subst (λ (p : ℕ). target_at cells p ≡ Some (get_or path depth step).wire.number) place (k.drives depth step below) in
       let same : f.0 ≡ (get_or path depth step).wire.number = same_Some _ _ (sym driven ∙ here) in
       ((get_or path j step).place, i, k.drives j step (omega arith), rw last (f.1.1 ∙ ap Some same))
 
@@ -88,14 +88,14 @@ module _ (n : ℕ) (cells : List Cell) (drivers : List (Option ℕ)) (visits : L
       let x : get_or drivers (at a) None ≡ Some (get_or path a step).place = t.finds (get_or path a step).place (at a) (at_target a l) in
       let y : get_or drivers (at b) None ≡ Some (get_or path b step).place = t.finds (get_or path b step).place (at b) (at_target b m) in
       let p : (get_or path a step).place ≡ (get_or path b step).place =
-          same_Some _ _ (sym x ∙ ap (λ w. get_or drivers w None) h ∙ y) in
+      same_Some _ _ (sym x ∙ ap (λ w. get_or drivers w None) h ∙ y) in
       let o : Open a ≡ Open b = sym (k.opened a step l) ∙ ap (λ q. visit_at visits q) p ∙ k.opened b step m in
       cc
 
   back_once : (a b : ℕ) → a < length path - depth → b < length path - depth → get_or back a 0 ≡ get_or back b 0 → a ≡ b
   back_once a b l m h =
       let same : length path - 1 - a ≡ length path - 1 - b =
-          at_once (length path - 1 - a) (length path - 1 - b) (omega (arith, below)) (omega (arith, below)) (sym (back_at a l) ∙ h ∙ back_at b m) in
+      at_once (length path - 1 - a) (length path - 1 - b) (omega (arith, below)) (omega (arith, below)) (sym (back_at a l) ∙ h ∙ back_at b m) in
       omega (arith, below)
 
   back_feeds : (a : ℕ) → a + 1 < length path - depth → Feeds cells (get_or back a 0) (get_or back (a + 1) 0)

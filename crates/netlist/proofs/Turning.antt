@@ -17,11 +17,20 @@ length-turn_of m xs h = omega (arith, length-append (drop m xs) (take m xs), len
 turned_at : (m : ℕ) (xs : List ℕ) (i : ℕ) → m ≤ length xs → i < length xs
     → (j : ℕ) × (j < length xs) × (get_or (turn_of m xs) i 0 ≡ get_or xs j 0) × ((i + m ≡ j) ⊎ (i + m ≡ j + length xs))
 turned_at m xs i h l = elim (cases_lt i (length xs - m)) [
-    inl a ↦ (m + i, omega arith, let lt : i < length (drop m xs) = omega (arith, length-drop m xs) in
-        get_or_append_left (drop m xs) (take m xs) 0 i lt ∙ get_or-drop m xs i 0, inl (omega arith))
-  | inr b ↦ (i - (length xs - m), omega arith,
-        get_or-append_right (drop m xs) (take m xs) (length xs - m) i 0 (length-drop m xs) b ∙ get_or-take m xs (i - (length xs - m)) 0 (omega arith), inr (omega arith))
-  ]
+  | inl a ↦ (
+    m + i,
+    omega arith,
+    let lt : i < length (drop m xs) = omega (arith, length-drop m xs) in
+        get_or_append_left (drop m xs) (take m xs) 0 i lt ∙ get_or-drop m xs i 0,
+    inl (omega arith),
+  )
+  | inr b ↦ (
+    i - (length xs - m),
+    omega arith,
+    get_or-append_right (drop m xs) (take m xs) (length xs - m) i 0 (length-drop m xs) b ∙ get_or-take m xs (i - (length xs - m)) 0 (omega arith),
+    inr (omega arith),
+  )
+]
 
 pub Feeds_at : (cells : List Cell) (v w v' w' : ℕ) → v ≡ v' → w ≡ w' → Feeds cells v' w' → Feeds cells v w
 Feeds_at cells v w v' w' e f h = rw (e, f) h
@@ -33,9 +42,9 @@ module _ (cells : List Cell) (m : ℕ) (xs : List ℕ) (below : m < length xs) (
       let b = turned_at m xs (i + 1) (omega arith) l in
       Feeds_at cells _ _ (get_or xs a.0 0) (get_or xs b.0 0) a.2 b.2
       (elim (cases_lt (a.0 + 1) (length xs)) [
-          inl h ↦ let e : b.0 ≡ a.0 + 1 = omega (arith, a.3, b.3) in rw e (c.feeds a.0 h)
+        | inl h ↦ let e : b.0 ≡ a.0 + 1 = omega (arith, a.3, b.3) in rw e (c.feeds a.0 h)
         | inr h ↦ let e : b.0 ≡ 0 = omega (arith, a.3, b.3) in rw e (c.closes a.0 (omega arith))
-        ])
+      ])
 
   turned_closes : (i : ℕ) → i + 1 ≡ length xs → Feeds cells (get_or (turn_of m xs) i 0) (get_or (turn_of m xs) 0 0)
   turned_closes i l =
@@ -43,9 +52,9 @@ module _ (cells : List Cell) (m : ℕ) (xs : List ℕ) (below : m < length xs) (
       let b = turned_at m xs 0 (omega arith) (omega arith) in
       Feeds_at cells _ _ (get_or xs a.0 0) (get_or xs b.0 0) a.2 b.2
       (elim (cases_lt (a.0 + 1) (length xs)) [
-          inl h ↦ let e : b.0 ≡ a.0 + 1 = omega (arith, a.3, b.3) in rw e (c.feeds a.0 h)
+        | inl h ↦ let e : b.0 ≡ a.0 + 1 = omega (arith, a.3, b.3) in rw e (c.feeds a.0 h)
         | inr h ↦ let e : b.0 ≡ 0 = omega (arith, a.3, b.3) in rw e (c.closes a.0 (omega arith))
-        ])
+      ])
 
   turned_once : (i j : ℕ) → i < length xs → j < length xs → get_or (turn_of m xs) i 0 ≡ get_or (turn_of m xs) j 0 → i ≡ j
   turned_once i j k l e =
@@ -78,13 +87,15 @@ pub cycle_of : (cells : List Cell) (wires : List WireId) (m : ℕ) → m < lengt
 cycle_of cells wires m l h c =
     let num : WireId → ℕ = λ w. w.number in
     let e : wire_numbers (drop m wires ++ take m wires) ≡ turn_of m (wire_numbers wires) =
-        map-append num (drop m wires) (take m wires) ∙ ap (λ xs. xs ++ map num (take m wires)) (sym (drop-map num m wires)) ∙ ap (λ xs. drop m (map num wires) ++ xs) (sym (take-map num m wires)) in
+    map-append num (drop m wires) (take m wires) ∙ ap (λ xs. xs ++ map num (take m wires)) (sym (drop-map num m wires)) ∙ ap (λ xs. drop m (map num wires) ++ xs) (sym (take-map num m wires)) in
     let n : length (wire_numbers wires) ≡ length wires = length-map wires num in
     let lt : m < length (wire_numbers wires) = omega arith in
     let d : WireId = record { number = 0 } in
-    rw e (turned_cycle cells m (wire_numbers wires) lt c
-      , turned_least cells m (wire_numbers wires) lt c (λ i k. let k' : i < length wires = omega arith in
-        rw (get_or-map num wires i d 0 k') (h i d k')))
+    rw e (
+      turned_cycle cells m (wire_numbers wires) lt c,
+      turned_least cells m (wire_numbers wires) lt c (λ i k. let k' : i < length wires = omega arith in
+          rw (get_or-map num wires i d 0 k') (h i d k')),
+    )
 
 -- the same of the lists that the code has at hand
 pub cycle_given : (cells : List Cell) (back read cut out : List WireId) (m : ℕ) → read ≡ back → cut ≡ back → m < length read
@@ -93,6 +104,6 @@ pub cycle_given : (cells : List Cell) (back read cut out : List WireId) (m : ℕ
 cycle_given cells back read cut out m r c l h o k =
     let l' : m < length back = omega (arith, ap length r) in
     let h' : All (λ w. get_or (wire_numbers back) m 0 ≤ w.number) back =
-        subst (λ (ws : List WireId). All (λ w. get_or (wire_numbers ws) m 0 ≤ w.number) ws) r h in
+    subst (λ (ws : List WireId). All (λ w. get_or (wire_numbers ws) m 0 ≤ w.number) ws) r h in
     let o' : out ≡ drop m back ++ take m back = o ∙ ap (λ ws. drop m ws ++ take m ws) c in
     rw o' (cycle_of cells back m l' h' k)

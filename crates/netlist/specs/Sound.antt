@@ -1,11 +1,12 @@
 -- What a flat net meets as a module: widths that agree, and one driver for each wire that is no input.
-use Rattle.std.specs.Prelude.{◌≡◌, ℕ, ◌+◌, ◌-◌, ◌<◌, ◌≤◌, Bool, List, length, map, take, sum_by, All, Option, Some, slice_get, slice_index}
+use Rattle.std.specs.Prelude.{◌≡◌, ℕ, ◌+◌, ◌-◌, ◌<◌, ◌≤◌, Bool, List, [], ◌∷◌, length, map, take, sum_by, Option, Some, slice_get, slice_index}
+use Rattle.std.specs.List.{AllByRecursion}
 use Rattle.chw_base.specs.declared.limits.TheConstants.{FLAT_WIRES}
 use Rattle.chw_base.specs.declared.index.DomId.{DomId}
 use Rattle.chw_base.specs.declared.index.WireId.{WireId}
 use Rattle.chw_clock.specs.declared.event.Port.{Port}
 use Rattle.chw_clock.specs.declared.event.Ports.{Ports}
-use Rattle.netlist.specs.Feeds.{target_at}
+use Rattle.netlist.specs.Feeds.{target, target_at}
 use Rattle.netlist.specs.declared.net.Cell.{Cell}
 use Rattle.netlist.specs.declared.net.Cell.TheVariants.{Const, Copy, Join, Cut, Un, Bin, Mux, Reg, Ram, Use}
 use Rattle.netlist.specs.declared.net.Flat.{Flat}
@@ -66,13 +67,13 @@ Fits2 widths Sar w a b = AreShifted widths w a b
 abbrev pub FitsRam : List ℕ → WireId → List (List Bool) → WireId → WireId → WireId → WireId → Type 0
 FitsRam widths w words read enable place value =
     (1 ≤ length words) × (length words ≤ 1024) × HasWidth widths read 12 × HasWidth widths enable 1 × HasWidth widths place 12
-    × ((n : ℕ) × HasWidth widths w n × HasWidth widths value n × All (λ word. length word ≡ n) words)
+    × ((n : ℕ) × HasWidth widths w n × HasWidth widths value n × AllByRecursion (λ word. length word ≡ n) words)
 
 -- a cell among this many domains and wires of these widths: what it names exists, widths agree, and it is no use
 abbrev pub FitsCell : ℕ → List ℕ → Cell → Type 0
 FitsCell domains widths (Const w bits) = HasWidth widths w (length bits)
 FitsCell domains widths (Copy w a) = (n : ℕ) × HasWidth widths w n × HasWidth widths a n
-FitsCell domains widths (Join w parts) = All (IsWire widths) parts × HasWidth widths w (width_of_all widths parts)
+FitsCell domains widths (Join w parts) = AllByRecursion (IsWire widths) parts × HasWidth widths w (width_of_all widths parts)
 FitsCell domains widths (Cut w a high low) =
     (low ≤ high) × HasWidth widths w (high - low + 1) × ((n : ℕ) × (high < n) × HasWidth widths a n)
 FitsCell domains widths (Un w op a) = Fits1 widths op w a
@@ -84,20 +85,31 @@ FitsCell domains widths (Ram w domain words inputs) =
     (domain.number < domains) × FitsRam widths w words inputs.read inputs.enable inputs.place inputs.value
 FitsCell domains widths (Use m reads drives) = ⊥
 
+-- of so many wires, each but the first ones, which are inputs, is driven by exactly one of the cells
+pub record DrivenOnce (inputs wires : ℕ) (cells : List Cell) : Type 0 where
+  -- no cell drives an input
+  pub free : (place w : ℕ) → target_at cells place ≡ Some w → inputs ≤ w
+  -- every other wire is driven
+  pub driven : (w : ℕ) → inputs ≤ w → w < wires → (place : ℕ) × (target_at cells place ≡ Some w)
+  -- no two cells drive one wire
+  pub once : (p q w : ℕ) → target_at cells p ≡ Some w → target_at cells q ≡ Some w → p ≡ q
+
+-- the cells drive the wires in order, from this one on
+abbrev pub DrivesFrom : ℕ → List Cell → Type 0
+DrivesFrom w [] = Unit {0}
+DrivesFrom w (cell ∷ cells) = (target cell ≡ Some w) × DrivesFrom (w + 1) cells
+
+-- a flat net that is well formed as a module
 pub record Sound (flat : Flat) : Type 0 where
   -- there are at most as many wires as the limit
   pub few : length flat.widths ≤ FLAT_WIRES
   -- a wire has from 1 to 4,096 bits
-  pub widths : All (λ n. (1 ≤ n) × (n ≤ 4096)) flat.widths
+  pub widths : AllByRecursion (λ n. (1 ≤ n) × (n ≤ 4096)) flat.widths
   -- the first wires are the inputs of the ports
   pub inputs : map (λ port. port.width) flat.ports.inputs ≡ take (length flat.ports.inputs) flat.widths
   -- the outputs are wires as wide as those of the ports
   pub outputs : map (λ w. slice_get flat.widths w.number) flat.outputs ≡ map (λ port. Some port.width) flat.ports.outputs
   -- what each cell names exists, and its widths agree
-  pub cells : All (FitsCell (length flat.ports.domains) flat.widths) flat.cells
-  -- no cell drives an input
-  pub free : (place w : ℕ) → target_at flat.cells place ≡ Some w → length flat.ports.inputs ≤ w
-  -- every other wire is driven
-  pub driven : (w : ℕ) → length flat.ports.inputs ≤ w → w < length flat.widths → (place : ℕ) × (target_at flat.cells place ≡ Some w)
-  -- no two cells drive one wire
-  pub once : (p q w : ℕ) → target_at flat.cells p ≡ Some w → target_at flat.cells q ≡ Some w → p ≡ q
+  pub cells : AllByRecursion (FitsCell (length flat.ports.domains) flat.widths) flat.cells
+  -- each wire that is no input is driven by one cell
+  pub drivers : DrivenOnce (length flat.ports.inputs) (length flat.widths) flat.cells

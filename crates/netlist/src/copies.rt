@@ -101,4 +101,3 @@ pub(crate) fn copy_cells(alloc: Global, cells: &Seq<Cell>) -> Result<Seq<Cell>, 
     }
     Ok(Seq::from(copy))
 }
-

@@ -6,9 +6,13 @@ mod copies;
 mod cycle;
 mod drivers;
 pub mod flatten;
+pub mod laws;
 pub mod net;
 pub mod ordering;
 mod search;
 
 pub use flatten::TooLarge;
 pub use net::{Cell, Flat, Loop, Module, Net, Op1, Op2, Order, RamIn};
+
+#[cfg(test)]
+mod tests;

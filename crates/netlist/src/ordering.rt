@@ -1,10 +1,8 @@
 //! An order of the cells of a flat net, or a loop.
-ghost use Rattle.std.specs.Prelude.{◌≡◌, ℕ, List, IfOk};
+ghost use Rattle.std.specs.Prelude.{IfOk};
 ghost use Rattle.chw_base.specs.Outcome.{IfFault};
-ghost use Rattle.chw_base.specs.declared.index.WireId.{WireId};
 ghost use Rattle.netlist.specs.Orders.{IsLoop, IsOrder};
 ghost use Rattle.netlist.specs.Sound.{Sound};
-ghost use Rattle.netlist.specs.declared.net.Flat.{Flat};
 
 use crate::drivers::{drivers, wire_driven};
 use crate::net::{Flat, Loop, Order};
@@ -38,9 +36,3 @@ pub fn order(alloc: Global, flat: &Flat) -> Result<Order, Or<Loop>>
         cells: Seq::from(search.places),
     })
 }
-
-/// Where a flat net has an order, it has no loop.
-pub fn an_order_excludes_loops()
-    ensures { (flat : Flat) (places : List ℕ) (cycle : List WireId) →
-        Sound flat → IsOrder flat places → IsLoop flat cycle → ⊥ }
-{}

@@ -6,5 +6,5 @@ use Rattle.netlist.proofs.drivers.drivers.Given as goal
 abbrev pub invariant-loop-place : goal.invariant-loop-place
 invariant-loop-place l = record {
   size : length l.drivers.items ≡ length l.flat.widths;
-  filled : Filled l.flat.cells l.drivers.items l.place
+  filled : Filled l.flat.cells l.drivers.items l.place;
 }

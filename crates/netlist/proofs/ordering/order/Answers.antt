@@ -22,7 +22,7 @@ loop-place-preserved c =
     let flat = c.args.flat.now in
     let cells : c.as_slice-cells.result.now ≡ flat.cells = c.as_slice-cells.ensures in
     elim c.match-wire_driven.branch [
-        in-Some+in-Ok w ↦
+      | in-Some+in-Ok w ↦
           rw (w.search-is) record {
             knows = rw (c.as_slice-cells.ensures, w.deref.ensures.value) at w.in-Ok.ensures.knows;
             ended = w.in-Ok.ensures.ended;
@@ -32,13 +32,13 @@ loop-place-preserved c =
           let here : None ≡ target_at c.as_slice-cells.result.now c.loop-place.place = w.in_default.ensures in
           let n : length c.as_slice-cells.result.now ≡ length flat.cells = ap length cells in
           absurd (target_is_some (length flat.ports.domains) flat.widths flat.cells c.requires.cells c.loop-place.place
-              (omega (arith, c.loop-place-test.true)) (here ∙ ap (λ (cs : List Cell). target_at cs c.loop-place.place) cells))
-      ]
+          (omega (arith, c.loop-place-test.true)) (here ∙ ap (λ (cs : List Cell). target_at cs c.loop-place.place) cells))
+    ]
 
 pub returns-clause-order : goal.returns-clause-order
 returns-clause-order c =
     let flat = c.args.flat.now in
     let n : length c.as_slice-cells.result.now ≡ length flat.cells = ap length c.as_slice-cells.ensures in
     rw c.from.ensures (ordered (length flat.widths) flat.cells c.in_ok-drivers.drivers.items c.loop-place.search.visits.items
-        c.loop-place.search.unmet.items c.loop-place.search.path.items c.loop-place.search.places.items c.in_ok-drivers.ensures
-        c.loop-place.invariant.knows (λ p l. c.loop-place.invariant.done p (omega (arith, c.loop-place-test.false))))
+    c.loop-place.search.unmet.items c.loop-place.search.path.items c.loop-place.search.places.items c.in_ok-drivers.ensures
+    c.loop-place.invariant.knows (λ p l. c.loop-place.invariant.done p (omega (arith, c.loop-place-test.false))))

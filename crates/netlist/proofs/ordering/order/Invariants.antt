@@ -8,5 +8,5 @@ abbrev pub invariant-loop-place : goal.invariant-loop-place
 invariant-loop-place l = record {
   knows : Knows l.flat.cells l.drivers.items l.search;
   ended : l.search.path.items ≡ [];
-  done : (p : ℕ) → p < l.place → visit_at l.search.visits.items p ≡ Done
+  done : (p : ℕ) → p < l.place → visit_at l.search.visits.items p ≡ Done;
 }

@@ -15,10 +15,10 @@ returns c =
     let is : path ≡ front ++ c.args.step ∷ [] = c.requires.last.1 in
     let n : vec_len c.args.self.now.path ≡ length path = omega (arith, c.args.self.now.path.ok.0) in
     let popped : c.pop.new.self.items ≡ front =
-        c.pop.ensures.rest ∙ rest_of_push path front c.args.step (vec_len c.args.self.now.path) is n in
+    c.pop.ensures.rest ∙ rest_of_push path front c.args.step (vec_len c.args.self.now.path) is n in
     let pushed : c.push.new.self.items ≡ places ++ c.args.step.place ∷ [] = c.in_ok-push.ensures.items in
     let knows : IsSearch c.args.cells.now c.args.drivers.now visits unmet (front ++ c.args.step ∷ []) places =
-        subst (λ (ss : List Step). IsSearch c.args.cells.now c.args.drivers.now visits unmet ss places) is c.requires.knows in
+    subst (λ (ss : List Step). IsSearch c.args.cells.now c.args.drivers.now visits unmet ss places) is c.requires.knows in
     record {
       knows = rw (popped, pushed) (close_keeps c.args.cells.now c.args.drivers.now visits unmet front places c.args.step knows
           c.requires.all_met);

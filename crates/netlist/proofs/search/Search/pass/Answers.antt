@@ -10,10 +10,10 @@ returns c =
     let unmet = c.args.self.now.unmet.items in
     let within : c.args.place < length unmet = some_within unmet c.args.place c.requires.some in
     let is : c.index_mut.result.now ≡ get_or unmet c.args.place 0 =
-        get_or_read unmet c.args.place c.index_mut.result.now within c.index_mut.ensures.value 0 in
+    get_or_read unmet c.args.place c.index_mut.result.now within c.index_mut.ensures.value 0 in
     let left : (c.index_mut.result.now - 1) + 1 ≡ get_or unmet c.args.place 0 = omega arith in
     let here : IsMet c.args.cells.now c.args.drivers.now c.args.self.now.visits.items c.args.place (c.index_mut.result.now - 1) =
-        rw is c.requires.met in
+    rw is c.requires.met in
     record {
       knows = pass_keeps c.args.cells.now c.args.drivers.now c.args.self.now.visits.items unmet c.args.self.now.path.items
           c.args.self.now.places.items c.requires.knows c.args.place (c.index_mut.result.now - 1) left within here;

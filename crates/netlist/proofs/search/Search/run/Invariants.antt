@@ -5,7 +5,7 @@ use Rattle.netlist.proofs.search.Search.run.Given as goal
 abbrev pub invariant-loop-step : goal.invariant-loop-step
 invariant-loop-step l = record {
   knows : Knows l.cells l.drivers l.self;
-  stayed : Stayed l.initial.self.visits.items l.self.visits.items
+  stayed : Stayed l.initial.self.visits.items l.self.visits.items;
 }
 
 abbrev pub decreases-loop-step : goal.decreases-loop-step
