@@ -1,6 +1,18 @@
 //! Nets: modules of wires and cells, the text that they have in Verilog, and the bits of their wires at each event.
 #![tactic(auto)]
 
+pub mod cell;
+mod copies;
+mod cycle;
+mod drivers;
+pub mod flatten;
+pub mod laws;
 pub mod net;
+pub mod ordering;
+mod search;
 
-pub use net::{Cell, Flat, Module, Net, Op1, Op2, RamIn};
+pub use flatten::TooLarge;
+pub use net::{Cell, Flat, Loop, Module, Net, Op1, Op2, Order, RamIn};
+
+#[cfg(test)]
+mod tests;

@@ -1,7 +1,8 @@
-//! Nets and flat nets.
+//! Nets and flat nets, orders of their cells, and loops of their wires.
 
 use chw_base::{DomId, ModId, Seq, WireId};
 use chw_clock::{Bits, Ports};
+use thiserror::Error;
 
 /// An operator on one wire: IEEE 1364-2005, clauses 5.1.10 and 5.1.11.
 #[derive(Clone, Copy, Debug, PartialEq, Eq)]
@@ -82,4 +83,20 @@ pub struct Flat {
     pub widths: Seq<u32>,
     pub outputs: Seq<WireId>,
     pub cells: Seq<Cell>,
+}
+
+/// An order of the cells of a flat net: each but a register or RAM after those that drive what it reads.
+#[derive(Debug, Drop)]
+pub struct Order {
+    /// The places of all cells, each once.
+    pub cells: Seq<u32>,
+}
+
+/// A loop: wires of which each is read by the cell that drives the next, and the last by the one that drives the first, where none of
+/// these cells is a register or RAM.
+#[derive(Debug, Drop, Error)]
+#[error("a loop of wires passes no register and no RAM")]
+pub struct Loop {
+    /// The wires, the one with the least number first.
+    pub cycle: Seq<WireId>,
 }

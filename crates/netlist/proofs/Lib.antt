@@ -1,0 +1,7 @@
+pub mod Ends
+pub mod Exclusion
+pub mod Lists
+pub mod Loops
+pub mod Searching
+pub mod Tables
+pub mod Turning
