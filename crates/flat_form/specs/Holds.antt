@@ -32,10 +32,10 @@ abbrev pub width_of : List Parameter → List ℕ → Option ℕ
 width_of [] name = None
 width_of (signal ∷ signals) name = if bytes_eq signal.name name then Some signal.width else width_of signals name
 
--- what a right side reads are signals of its width
+-- what a right side reads are signals of its width, and a register's initial bits are as many
 abbrev pub Reads : List Parameter → ℕ → Right → Type 0
 Reads signals n (Same y) = width_of signals y ≡ Some n
-Reads signals n (Register bits y) = width_of signals y ≡ Some n
+Reads signals n (Register bits y) = (length bits ≡ n) × (width_of signals y ≡ Some n)
 Reads signals n (Sum y z) = (width_of signals y ≡ Some n) × (width_of signals z ≡ Some n)
 
 pub record Holds (f : FlatText) : Type 0 where

@@ -2,4 +2,5 @@ pub mod FlatNet
 pub mod FlatValue
 pub mod Grammar
 pub mod Holds
-pub mod Spelling
+pub mod Marks
+pub mod Signs

@@ -4,5 +4,9 @@
 #![tactic(auto)]
 
 pub mod flat;
+mod lists;
+mod mark;
+mod owned;
+mod parts;
 
 pub use flat::{Binding, FlatText, NotFlat, Parameter, Right};

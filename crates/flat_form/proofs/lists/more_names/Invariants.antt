@@ -1,0 +1,12 @@
+use Rattle.std.proofs.Common.{◌≡◌, ℕ, List, ◌∷◌, ◌++◌, length}
+use Rattle.std.specs.Prelude.{codes}
+use Rattle.std.specs.List.{flat_map}
+use Rattle.flat_form.specs.Grammar as grammar
+use Rattle.flat_form.specs.Marks.{signs}
+use Rattle.flat_form.proofs.lists.more_names.Given as goal
+
+abbrev pub invariant-loop : goal.invariant-loop
+invariant-loop l = (others : List (List ℕ)) × (l.names.items ≡ l.fn.first ∷ others) × (signs l.marks ≡ flat_map grammar.comma_name others ++ signs l.rest)
+
+abbrev pub decreases-loop : goal.decreases-loop
+decreases-loop l = length l.rest
