@@ -1,2 +1,4 @@
+pub mod Many
 pub mod Numbers
 pub mod Patterns
+pub mod Unique

@@ -26,7 +26,7 @@ domain = record { number = 0 }
 -- the place of the first of these names that is this one; their count where none is
 abbrev pub place_of : List (List ℕ) → List ℕ → ℕ
 place_of [] name = 0
-place_of (n ∷ names) name = if bytes_eq n name then 0 else place_of names name + 1
+place_of (n ∷ names) name = if bytes_eq name n then 0 else place_of names name + 1
 
 -- the wire of a name, among the names of all signals
 abbrev pub wire_of : List (List ℕ) → List ℕ → WireId

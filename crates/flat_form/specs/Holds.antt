@@ -20,9 +20,13 @@ AreDistinct (name ∷ names) = (is_among names name ≡ false) × AreDistinct na
 abbrev pub reserved : List (List ℕ)
 reserved = codes "register" ∷ codes "ap" ∷ codes "fmap" ∷ codes "addU" ∷ codes "unsafeSynchronizer" ∷ []
 
+-- the signal of a binding
+abbrev pub signal_of : Binding → Parameter
+signal_of b = record { name = b.name; width = b.width }
+
 -- the parameters and the bindings, in order
 abbrev pub signals : FlatText → List Parameter
-signals f = f.parameters ++ map (λ (b : Binding). record { name = b.name; width = b.width }) f.bindings
+signals f = f.parameters ++ map signal_of f.bindings
 
 abbrev pub names_of : List Parameter → List (List ℕ)
 names_of = map (λ (p : Parameter). p.name)
@@ -30,7 +34,7 @@ names_of = map (λ (p : Parameter). p.name)
 -- the width of the first signal of a name
 abbrev pub width_of : List Parameter → List ℕ → Option ℕ
 width_of [] name = None
-width_of (signal ∷ signals) name = if bytes_eq signal.name name then Some signal.width else width_of signals name
+width_of (signal ∷ signals) name = if bytes_eq name signal.name then Some signal.width else width_of signals name
 
 -- what a right side reads are signals of its width, and a register's initial bits are as many
 abbrev pub Reads : List Parameter → ℕ → Right → Type 0

@@ -4,3 +4,4 @@ pub mod Grammar
 pub mod Holds
 pub mod Marks
 pub mod Signs
+pub mod Tables

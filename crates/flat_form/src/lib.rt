@@ -6,7 +6,9 @@
 pub mod flat;
 mod lists;
 mod mark;
+mod marking;
 mod owned;
 mod parts;
+mod table;
 
 pub use flat::{Binding, FlatText, NotFlat, Parameter, Right};

@@ -14,6 +14,12 @@ use crate::parts;
 use chw_base::{Name, NoMemory, Seq};
 use std::alloc::Global;
 
+/// The marks that a list has still to be read from.
+#[derive(Clone, Copy)]
+struct Left<'a> {
+    marks: &'a [Mark<'a>],
+}
+
 /// The widths of the parameters, the width of the result, and what follows `=`.
 pub fn types<'a>(
     alloc: Global,
@@ -24,12 +30,12 @@ pub fn types<'a>(
     ensures none { IfOk result (λ read. IfNone read ((widths : List ℕ) (n : ℕ) (rest : List Sign) → signs marks.now ≡ grammar.types domain.now widths n ++ rest → ⊥)) }
 {
     let mut widths = Vec::new(alloc);
-    let mut rest = marks;
-    while let Some((width, after)) = parts::signal_then(rest, domain, b"->") {
+    let mut left = Left { marks };
+    while let Some((width, after)) = parts::signal_then(left.marks, domain, b"->") {
         widths.push(width)?;
-        rest = after;
+        left.marks = after;
     }
-    let Some((width, rest)) = parts::signal_then(rest, domain, b"=") else {
+    let Some((width, rest)) = parts::signal_then(left.marks, domain, b"=") else {
         return Ok(None);
     };
     Ok(Some((widths, width, rest)))
@@ -45,13 +51,13 @@ pub fn lambdas<'a>(
     ensures none { IfOk result (λ read. IfNone read ((ps : List Parameter) (rest : List Sign) → signs marks.now ≡ grammar.lambdas domain.now ps ++ rest → ⊥)) }
 {
     let mut parameters = Vec::new(alloc);
-    let mut rest = marks;
-    while let Some((name, width, after)) = parts::lambda(rest, domain) {
+    let mut left = Left { marks };
+    while let Some((name, width, after)) = parts::lambda(left.marks, domain) {
         let name = owned(alloc, name)?;
         parameters.push(Parameter { name, width })?;
-        rest = after;
+        left.marks = after;
     }
-    let Some(rest) = follow(rest, &[Mark::Keyword(b"letrec"), Mark::Symbol(b"{")]) else {
+    let Some(rest) = follow(left.marks, &[Mark::Keyword(b"letrec"), Mark::Symbol(b"{")]) else {
         return Ok(None);
     };
     Ok(Some((parameters, rest)))
@@ -112,12 +118,12 @@ pub fn bindings<'a>(
     ensures none { IfOk result (λ read. IfNone read ((bs : List Binding) (rest : List Sign) → signs marks.now ≡ grammar.bindings domain.now bs ++ rest → ⊥)) }
 {
     let mut bindings = Vec::new(alloc);
-    let mut rest = marks;
-    while let Some((binding, after)) = binding(alloc, rest, domain)? {
+    let mut left = Left { marks };
+    while let Some((binding, after)) = binding(alloc, left.marks, domain)? {
         bindings.push(binding)?;
-        rest = after;
+        left.marks = after;
     }
-    let Some(rest) = follow(rest, &[Mark::Symbol(b"}")]) else {
+    let Some(rest) = follow(left.marks, &[Mark::Symbol(b"}")]) else {
         return Ok(None);
     };
     Ok(Some((bindings, rest)))
@@ -134,12 +140,12 @@ fn more_names<'a>(
 {
     let mut names = Vec::new(alloc);
     names.push(first)?;
-    let mut rest = marks;
-    while let Some((name, after)) = parts::comma_name(rest) {
+    let mut left = Left { marks };
+    while let Some((name, after)) = parts::comma_name(left.marks) {
         names.push(owned(alloc, name)?)?;
-        rest = after;
+        left.marks = after;
     }
-    let Some(rest) = follow(rest, &[Mark::Symbol(b")")]) else {
+    let Some(rest) = follow(left.marks, &[Mark::Symbol(b")")]) else {
         return Ok(None);
     };
     Ok(Some((names, rest)))

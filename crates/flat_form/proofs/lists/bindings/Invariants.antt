@@ -5,8 +5,8 @@ use Rattle.flat_form.specs.Grammar as grammar
 use Rattle.flat_form.specs.Marks.{signs}
 use Rattle.flat_form.proofs.lists.bindings.Given as goal
 
-abbrev pub invariant-loop : goal.invariant-loop
-invariant-loop l = signs l.marks ≡ flat_map (grammar.binding l.domain) l.bindings.items ++ signs l.rest
+abbrev pub invariant-loop-bindings : goal.invariant-loop-bindings
+invariant-loop-bindings l = signs l.marks ≡ flat_map (grammar.binding l.domain) l.bindings.items ++ signs l.left.marks.now
 
-abbrev pub decreases-loop : goal.decreases-loop
-decreases-loop l = length l.rest
+abbrev pub decreases-loop-bindings : goal.decreases-loop-bindings
+decreases-loop-bindings l = length l.left.marks.now
