@@ -1,4 +1,5 @@
 pub mod Many
 pub mod Numbers
 pub mod Patterns
+pub mod Places
 pub mod Unique
