@@ -1,3 +1,4 @@
+pub mod Decimals
 pub mod Many
 pub mod Numbers
 pub mod Patterns

@@ -1,10 +1,10 @@
 -- The net of a flat description: one module, whose wires are the parameters and then the bindings, in order, and a cell for each binding.
-use Rattle.std.specs.Prelude.{ℕ, ◌+◌, List, [], ◌∷◌, length, map, if◌then◌else◌}
+use Rattle.std.specs.Prelude.{ℕ, ◌+◌, List, [], ◌∷◌, length, if◌then◌else◌}
 use Rattle.std.specs.Str.{bytes_eq}
 use Rattle.chw_base.specs.declared.index.DomId.{DomId}
 use Rattle.chw_base.specs.declared.index.WireId.{WireId}
 use Rattle.chw_clock.specs.declared.event.Port.{Port}
-use Rattle.flat_form.specs.Holds.{names_of, signals}
+use Rattle.flat_form.specs.Holds.{names_of, signals, widths_of}
 use Rattle.flat_form.specs.declared.flat.Binding.{Binding}
 use Rattle.flat_form.specs.declared.flat.FlatText.{FlatText}
 use Rattle.flat_form.specs.declared.flat.Parameter.{Parameter}
@@ -53,7 +53,7 @@ input_ports _ _ = []
 abbrev pub module_of : FlatText → Module
 module_of f = record {
   inputs = length f.parameters;
-  widths = map (λ (p : Parameter). p.width) (signals f);
+  widths = widths_of (signals f);
   outputs = wire_of (names_of (signals f)) f.body ∷ [];
   cells = cells_of (names_of (signals f)) (length f.parameters) f.bindings;
 }

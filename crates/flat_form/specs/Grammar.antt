@@ -5,7 +5,7 @@ use Rattle.chw_bits.specs.Bits.{number_of}
 use Rattle.chw_lexer.specs.Tokens.{Tokens}
 use Rattle.chw_lexer.specs.Words.{words_of}
 use Rattle.chw_lexer.specs.declared.token.Token.{Token}
-use Rattle.flat_form.specs.Holds.{Holds}
+use Rattle.flat_form.specs.Holds.{Holds, widths_of}
 use Rattle.flat_form.specs.Signs.{Sign, lower, upper, keyword, symbol, number, literal, sign_of, unsigned_type, signal_type, domain_and_payload, adder_type}
 use Rattle.flat_form.specs.declared.flat.Binding.{Binding}
 use Rattle.flat_form.specs.declared.flat.FlatText.{FlatText}
@@ -101,9 +101,6 @@ names (name ∷ others) = one_name name ++ (flat_map comma_name others ++ close)
 -- `(OUTPUT);`
 abbrev pub ending : List ℕ → List Sign
 ending output = symbol (codes "(") ∷ lower output ∷ symbol (codes ")") ∷ symbol (codes ";") ∷ []
-
-abbrev pub widths_of : List Parameter → List ℕ
-widths_of = map (λ (p : Parameter). p.width)
 
 -- what the words of a description say
 abbrev pub description : FlatText → List Sign

@@ -3,12 +3,15 @@
 //! This crate is scaffolding: it serves `emit` until the whole language is read, and goes then.
 #![tactic(auto)]
 
+mod build;
+mod check;
 pub mod flat;
 mod lists;
 mod mark;
 mod marking;
 mod owned;
 mod parts;
+mod read;
 mod table;
 
 pub use flat::{Binding, FlatText, NotFlat, Parameter, Right};

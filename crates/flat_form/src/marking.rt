@@ -1,8 +1,8 @@
 //! From tokens to marks.
-ghost use Rattle.std.specs.Prelude.{◌≡◌, ◌^◌, ◌<◌, map, slice_range, IfOk, SomeIff};
+ghost use Rattle.std.specs.Prelude.{◌≡◌, ◌^◌, ◌<◌, length, map, slice_range, IfOk, IfSome, SomeIff};
 ghost use Rattle.chw_lexer.specs.Words.{word_of, words_of};
 ghost use Rattle.flat_form.specs.Marks.{sign, signs};
-ghost use Rattle.flat_form.specs.Signs.{decimal_value, letter_place, literal_sign, numeral_sign, sign_of};
+ghost use Rattle.flat_form.specs.Signs.{decimal_value, letter_place, literal_sign, numeral_sign, sign_of, value_sign};
 
 use crate::mark::Mark;
 use chw_base::NoMemory;
@@ -31,29 +31,44 @@ fn decimal(digits: &[u8]) -> Option<u128>
 }
 
 /// What a numeral says.
-fn numeral_mark(bytes: &[u8]) -> Mark<'_>
-    ensures { sign result ≡ numeral_sign (decimal_value bytes.now) }
+fn numeral_mark(digits: &[u8]) -> Mark<'static>
+    ensures { sign result ≡ numeral_sign (decimal_value digits.now) }
 {
-    match decimal(bytes) {
-        Some(n) if n <= 128 => Mark::Number(n as u32),
-        _ => Mark::Other,
-    }
+    let Some(n) = decimal(digits) else {
+        return Mark::Other;
+    };
+    if n <= 128 { Mark::Number(n as u32) } else { Mark::Other }
+}
+
+/// What a literal of the letter `u` says.
+fn value_mark(value: &[u8], width: &[u8]) -> Mark<'static>
+    ensures { sign result ≡ value_sign (decimal_value value.now) (decimal_value width.now) }
+{
+    let Some(value) = decimal(value) else {
+        return Mark::Other;
+    };
+    let Some(width) = decimal(width) else {
+        return Mark::Other;
+    };
+    if width <= 128 { Mark::Literal(value, width as u32) } else { Mark::Other }
+}
+
+/// The place of a literal's letter.
+fn letter(bytes: &[u8]) -> Option<usize>
+    ensures place { result ≡ letter_place bytes.now }
+    ensures within { IfSome result (λ k. k < length bytes.now) }
+{
+    bytes.iter().position(|b| !(48 <= *b && *b <= 57))
 }
 
 /// What a literal says.
-fn literal_mark(bytes: &[u8]) -> Mark<'_>
+fn literal_mark(bytes: &[u8]) -> Mark<'static>
     ensures { sign result ≡ literal_sign bytes.now (letter_place bytes.now) }
 {
-    let Some(k) = bytes.iter().position(|b| !(48 <= *b && *b <= 57)) else {
+    let Some(k) = letter(bytes) else {
         return Mark::Other;
     };
-    if bytes[k] != b'u' {
-        return Mark::Other;
-    }
-    match (decimal(&bytes[..k]), decimal(&bytes[k + 1..])) {
-        (Some(value), Some(width)) if width <= 128 => Mark::Literal(value, width as u32),
-        _ => Mark::Other,
-    }
+    if bytes[k] == b'u' { value_mark(&bytes[..k], &bytes[k + 1..]) } else { Mark::Other }
 }
 
 /// What a token says.

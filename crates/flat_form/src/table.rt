@@ -1,7 +1,7 @@
 //! The table of the names of signals, in which each is found in constant time.
 ghost use Rattle.std.specs.Prelude.{◌≡◌, ◌^◌, ◌<◌, ◌↔◌, List, map, length, IfOk, IfSome, IfNone, IsTrue};
 ghost use Rattle.flat_form.specs.FlatNet.{place_of};
-ghost use Rattle.flat_form.specs.Holds.{AreDistinct, names_of, signals, width_of};
+ghost use Rattle.flat_form.specs.Holds.{AreDistinct, names_of, signals, width_of, widths_of};
 ghost use Rattle.flat_form.specs.Tables.{Tables, texts};
 ghost use Rattle.flat_form.specs.declared.flat.Parameter.{Parameter};
 ghost use Rattle.indexmap.specs.IndexSet.{index_set_len};
@@ -27,7 +27,7 @@ fn signal_names<'f>(alloc: Global, f: &'f FlatText) -> Result<Vec<&'f [u8]>, NoM
 
 /// The widths of the parameters and then of the bindings.
 pub fn signal_widths(alloc: Global, f: &FlatText) -> Result<Vec<u32>, NoMemory>
-    ensures { IfOk result (λ v. v.items ≡ map (λ (p : Parameter). p.width) (signals f.now)) }
+    ensures { IfOk result (λ v. v.items ≡ widths_of (signals f.now)) }
 {
     let mut widths = Vec::new(alloc);
     for parameter in f.parameters.as_slice() {
