@@ -4,6 +4,7 @@ use Rattle.std.specs.Str.{bytes_eq}
 use Rattle.chw_base.specs.declared.index.DomId.{DomId}
 use Rattle.chw_base.specs.declared.index.WireId.{WireId}
 use Rattle.chw_clock.specs.declared.event.Port.{Port}
+use Rattle.chw_clock.specs.declared.event.Ports.{Ports}
 use Rattle.flat_form.specs.Holds.{names_of, signals, widths_of}
 use Rattle.flat_form.specs.declared.flat.Binding.{Binding}
 use Rattle.flat_form.specs.declared.flat.FlatText.{FlatText}
@@ -58,8 +59,8 @@ module_of f = record {
   cells = cells_of (names_of (signals f)) (length f.parameters) f.bindings;
 }
 
+abbrev pub ports_of : FlatText → Ports
+ports_of f = record { domains = f.domain ∷ []; inputs = input_ports f.parameters f.inputs; outputs = port f.output f.width ∷ [] }
+
 abbrev pub net_of : FlatText → Net
-net_of f = record {
-  ports = record { domains = f.domain ∷ []; inputs = input_ports f.parameters f.inputs; outputs = port f.output f.width ∷ [] };
-  modules = module_of f ∷ [];
-}
+net_of f = record { ports = ports_of f; modules = module_of f ∷ [] }

@@ -1,8 +1,8 @@
 //! The net of a flat description.
 ghost use Rattle.std.specs.Prelude.{◌≡◌, ℕ, ◌+◌, ◌^◌, ◌<◌, List, length, IfOk};
-ghost use Rattle.flat_form.specs.FlatNet.{cell_of, cells_of, input_ports, net_of, port, wire_of};
+ghost use Rattle.flat_form.specs.FlatNet.{cell_of, cells_of, input_ports, module_of, net_of, port, ports_of, wire_of};
 ghost use Rattle.flat_form.specs.Holds.{Holds, names_of, signals};
-ghost use Rattle.flat_form.specs.Tables.{texts};
+ghost use Rattle.flat_form.specs.Tables.{Tables, texts};
 ghost use Rattle.netlist.specs.Text.{HasText};
 
 use crate::flat::{Binding, FlatText, Parameter, Right};
@@ -75,8 +75,62 @@ fn input_ports(
     ensures { IfOk result (λ ports. ports.items ≡ input_ports parameters.now names.now) }
 {
     let mut ports = Vec::new(alloc);
-    for (parameter, name) in parameters.iter().zip(names) {
-        ports.push(port(alloc, name, parameter.width)?)?;
+    let count = parameters.len().min(names.len());
+    for i in 0..count {
+        ports.push(port(alloc, &names[i], parameters[i].width)?)?;
     }
     Ok(ports)
+}
+
+/// The ports of a description.
+fn ports_of(alloc: Global, f: &FlatText) -> Result<Ports, NoMemory>
+    ensures { IfOk result (λ ports. ports ≡ ports_of f.now) }
+{
+    let mut domains = Vec::new(alloc);
+    domains.push(owned(alloc, f.domain.as_slice())?)?;
+    let inputs = input_ports(alloc, f.parameters.as_slice(), f.inputs.as_slice())?;
+    let mut outputs = Vec::new(alloc);
+    outputs.push(port(alloc, &f.output, f.width)?)?;
+    Ok(Ports {
+        domains: Seq::from(domains),
+        inputs: Seq::from(inputs),
+        outputs: Seq::from(outputs),
+    })
+}
+
+/// The module of a description, by the table of its signals.
+fn module_of(alloc: Global, f: &FlatText, table: Table) -> Result<Module, NoMemory>
+    requires { Tables table.names.keys table.widths.items (signals f.now) }
+    ensures { IfOk result (λ m. m ≡ module_of f.now) }
+{
+    let inputs = f.parameters.len() as u32;
+    let cells = table.cells(alloc, inputs, f.bindings.as_slice())?;
+    let mut outputs = Vec::new(alloc);
+    outputs.push(table.wire(&f.body))?;
+    Ok(Module {
+        inputs,
+        widths: Seq::from(table.widths),
+        outputs: Seq::from(outputs),
+        cells: Seq::from(cells),
+    })
+}
+
+/// The net of a description: a module whose wires are the parameters and then the bindings, in order, with a cell for each binding.
+///
+/// A net of more wires than can be numbered finds no memory.
+pub fn net(alloc: Global, f: &FlatText) -> Result<Net, NoMemory>
+    requires { Holds f.now }
+    ensures net { IfOk result (λ n. n ≡ net_of f.now) }
+    ensures text { IfOk result (λ n. HasText n) }
+{
+    let Some(table) = table_of(alloc, f)? else {
+        unreachable!();
+    };
+    let ports = ports_of(alloc, f)?;
+    let mut modules = Vec::new(alloc);
+    modules.push(module_of(alloc, f, table)?)?;
+    Ok(Net {
+        ports,
+        modules: Seq::from(modules),
+    })
 }

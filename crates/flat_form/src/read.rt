@@ -28,6 +28,12 @@ fn are_of(widths: &[u32], parameters: &[Parameter]) -> bool
     true
 }
 
+fn are_same(a: &[u8], b: &[u8]) -> bool
+    ensures { IsTrue result ↔ a.now ≡ b.now }
+{
+    a == b
+}
+
 /// The description whose words these are, if they are those of one.
 pub fn description<'a>(
     alloc: Global,
@@ -54,7 +60,7 @@ pub fn description<'a>(
     let Some((body, named, rest)) = parts::footing(rest) else {
         return Ok(None);
     };
-    if named != definition {
+    if !are_same(named, definition) {
         return Ok(None);
     }
     let Some((inputs, rest)) = lists::names(alloc, rest)? else {
