@@ -87,3 +87,36 @@ assembled f words r1 r2 r3 r4 r5 r6 r7 e1 e2 e3 e4 e5 e6 e7 e8 =
     e1 ∙ ap (λ r. grammar.heading f.domain f.definition ++ r) (e2 ∙ ap (λ r. grammar.types f.domain (widths_of f.parameters) f.width ++ r)
     (e3 ∙ ap (λ r. grammar.lambdas f.domain f.parameters ++ r) (e4 ∙ ap (λ r. grammar.bindings f.domain f.bindings ++ r)
     (e5 ∙ ap (λ r. grammar.footing f.body f.definition ++ r) (e6 ∙ ap (λ r. grammar.names f.inputs ++ r) (e7 ∙ ap (λ r. grammar.ending f.output ++ r) e8))))))
+
+same_text : (f g : FlatText) → f.domain ≡ g.domain → f.definition ≡ g.definition → f.parameters ≡ g.parameters → f.width ≡ g.width → f.bindings ≡ g.bindings
+    → f.body ≡ g.body → f.inputs ≡ g.inputs → f.output ≡ g.output → f ≡ g
+same_text f g e1 e2 e3 e4 e5 e6 e7 e8 =
+    let h1 : f ≡ record f { domain = g.domain } = ap (λ x. record f { domain = x }) e1 in
+    let f1 : FlatText = record f { domain = g.domain } in
+    let h2 : f1 ≡ record f1 { definition = g.definition } = ap (λ x. record f1 { definition = x }) e2 in
+    let f2 : FlatText = record f1 { definition = g.definition } in
+    let h3 : f2 ≡ record f2 { parameters = g.parameters } = ap (λ x. record f2 { parameters = x }) e3 in
+    let f3 : FlatText = record f2 { parameters = g.parameters } in
+    let h4 : f3 ≡ record f3 { width = g.width } = ap (λ x. record f3 { width = x }) e4 in
+    let f4 : FlatText = record f3 { width = g.width } in
+    let h5 : f4 ≡ record f4 { bindings = g.bindings } = ap (λ x. record f4 { bindings = x }) e5 in
+    let f5 : FlatText = record f4 { bindings = g.bindings } in
+    let h6 : f5 ≡ record f5 { body = g.body } = ap (λ x. record f5 { body = x }) e6 in
+    let f6 : FlatText = record f5 { body = g.body } in
+    let h7 : f6 ≡ record f6 { inputs = g.inputs } = ap (λ x. record f6 { inputs = x }) e7 in
+    let f7 : FlatText = record f6 { inputs = g.inputs } in
+    let h8 : f7 ≡ g = ap (λ x. record f7 { output = x }) e8 in
+    h1 ∙ (h2 ∙ (h3 ∙ (h4 ∙ (h5 ∙ (h6 ∙ (h7 ∙ h8))))))
+
+-- one list of words is at most one description
+pub one_description : (f g : FlatText) → grammar.description f ≡ grammar.description g → f ≡ g
+one_description f g h =
+    let d = f.domain in
+    let a0 = one_heading d f.definition (after_heading d f) g h in
+    let a1 = one_types d (widths_of f.parameters) (widths_of g.parameters) f.width g.width (after_types d f) (after_types d g) a0.2 in
+    let a2 = one_lambdas d f.parameters g.parameters (after_lambdas d f) (after_lambdas d g) a1.2 in
+    let a3 = one_bindings d f.bindings g.bindings (after_bindings f) (after_bindings g) a2.1 in
+    let a4 = one_footing f.body f.definition g.body g.definition (after_footing f) (after_footing g) a3.1 in
+    let a5 = one_names f.inputs g.inputs (grammar.ending f.output) (grammar.ending g.output) a4.2 in
+    let a6 = one_ending f.output g.output [] a5.1 in
+    same_text f g a0.0 a0.1 a2.0 a1.1 a3.0 a4.0 a5.0 a6.0

@@ -11,7 +11,12 @@ mod mark;
 mod marking;
 mod owned;
 mod parts;
-mod read;
+mod reader;
 mod table;
+#[cfg(test)]
+mod tests;
+mod words;
 
+pub use build::net;
 pub use flat::{Binding, FlatText, NotFlat, Parameter, Right};
+pub use reader::{one_description, read};

@@ -1,4 +1,4 @@
-//! The reader of flat descriptions.
+//! From the words of a description to the description.
 ghost use Rattle.std.specs.Prelude.{◌≡◌, ◌↔◌, IfOk, IfSome, IfNone, IsTrue};
 ghost use Rattle.flat_form.specs.Grammar as grammar;
 ghost use Rattle.flat_form.specs.Holds.{widths_of};

@@ -6,7 +6,7 @@ use Rattle.flat_form.specs.Grammar as grammar
 use Rattle.flat_form.specs.Holds.{widths_of}
 use Rattle.flat_form.specs.Marks.{signs}
 use Rattle.flat_form.specs.declared.flat.FlatText.{FlatText}
-use Rattle.flat_form.proofs.read.description.Goals as goal
+use Rattle.flat_form.proofs.words.description.Goals as goal
 
 pub returns-in_default-3-clause-none : goal.returns-in_default-3-clause-none
 returns-in_default-3-clause-none c = λ f h.
