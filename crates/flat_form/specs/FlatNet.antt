@@ -1,10 +1,11 @@
 -- The net of a flat description: one module, whose wires are the parameters and then the bindings, in order, and a cell for each binding.
-use Rattle.std.specs.Prelude.{ℕ, ◌+◌, List, [], ◌∷◌, length, map, if◌then◌else◌}
+use Rattle.std.specs.Prelude.{ℕ, ◌+◌, List, [], ◌∷◌, length, if◌then◌else◌}
 use Rattle.std.specs.Str.{bytes_eq}
 use Rattle.chw_base.specs.declared.index.DomId.{DomId}
 use Rattle.chw_base.specs.declared.index.WireId.{WireId}
 use Rattle.chw_clock.specs.declared.event.Port.{Port}
-use Rattle.flat_form.specs.Holds.{names_of, signals}
+use Rattle.chw_clock.specs.declared.event.Ports.{Ports}
+use Rattle.flat_form.specs.Holds.{names_of, signals, widths_of}
 use Rattle.flat_form.specs.declared.flat.Binding.{Binding}
 use Rattle.flat_form.specs.declared.flat.FlatText.{FlatText}
 use Rattle.flat_form.specs.declared.flat.Parameter.{Parameter}
@@ -26,7 +27,7 @@ domain = record { number = 0 }
 -- the place of the first of these names that is this one; their count where none is
 abbrev pub place_of : List (List ℕ) → List ℕ → ℕ
 place_of [] name = 0
-place_of (n ∷ names) name = if bytes_eq n name then 0 else place_of names name + 1
+place_of (n ∷ names) name = if bytes_eq name n then 0 else place_of names name + 1
 
 -- the wire of a name, among the names of all signals
 abbrev pub wire_of : List (List ℕ) → List ℕ → WireId
@@ -53,13 +54,13 @@ input_ports _ _ = []
 abbrev pub module_of : FlatText → Module
 module_of f = record {
   inputs = length f.parameters;
-  widths = map (λ (p : Parameter). p.width) (signals f);
+  widths = widths_of (signals f);
   outputs = wire_of (names_of (signals f)) f.body ∷ [];
   cells = cells_of (names_of (signals f)) (length f.parameters) f.bindings;
 }
 
+abbrev pub ports_of : FlatText → Ports
+ports_of f = record { domains = f.domain ∷ []; inputs = input_ports f.parameters f.inputs; outputs = port f.output f.width ∷ [] }
+
 abbrev pub net_of : FlatText → Net
-net_of f = record {
-  ports = record { domains = f.domain ∷ []; inputs = input_ports f.parameters f.inputs; outputs = port f.output f.width ∷ [] };
-  modules = module_of f ∷ [];
-}
+net_of f = record { ports = ports_of f; modules = module_of f ∷ [] }

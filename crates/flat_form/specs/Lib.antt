@@ -2,4 +2,6 @@ pub mod FlatNet
 pub mod FlatValue
 pub mod Grammar
 pub mod Holds
-pub mod Spelling
+pub mod Marks
+pub mod Signs
+pub mod Tables

@@ -3,6 +3,20 @@
 //! This crate is scaffolding: it serves `emit` until the whole language is read, and goes then.
 #![tactic(auto)]
 
+mod build;
+mod check;
 pub mod flat;
+mod lists;
+mod mark;
+mod marking;
+mod owned;
+mod parts;
+mod reader;
+mod table;
+#[cfg(test)]
+mod tests;
+mod words;
 
+pub use build::net;
 pub use flat::{Binding, FlatText, NotFlat, Parameter, Right};
+pub use reader::{one_description, read};

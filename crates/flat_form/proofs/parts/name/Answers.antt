@@ -1,0 +1,13 @@
+use Rattle.std.proofs.Common.{◌≡◌, List, ◌++◌, [], ◌∷◌, Some, slice_get, ap, sym, ◌∙◌}
+use Rattle.flat_form.specs.Grammar as grammar
+use Rattle.flat_form.specs.Marks.{signs}
+use Rattle.flat_form.specs.Signs.{Sign, upper, lower, number, literal}
+use Rattle.flat_form.proofs.parts.name.Goals as goal
+
+pub returns-in_err-name-clause-none : goal.returns-in_err-name-clause-none
+returns-in_err-name-clause-none c = rw c.from_residual.ensures (λ name rest h. c.in_err-name.ensures.none name (ap (λ ws. slice_get ws 0) h))
+
+pub returns-in_err-rest-clause-none : goal.returns-in_err-rest-clause-none
+returns-in_err-rest-clause-none c = rw c.from_residual-in_err-rest.ensures (λ name rest h.
+    let e0 : Some (lower name) ≡ Some (lower c.in_ok-name.name.now) = sym (ap (λ ws. slice_get ws 0) h) ∙ c.in_ok-name.ensures.some in
+    c.in_err-rest.ensures.none rest (cc))

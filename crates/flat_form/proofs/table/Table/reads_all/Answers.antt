@@ -1,0 +1,1 @@
+use Rattle.flat_form.proofs.table.Table.reads_all.Goals as goal
