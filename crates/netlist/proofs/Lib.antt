@@ -1,7 +1,10 @@
+pub mod Before
 pub mod Ends
 pub mod Exclusion
 pub mod Lists
 pub mod Loops
+pub mod OneValue
 pub mod Searching
 pub mod Tables
 pub mod Turning
+pub mod Values

@@ -1,6 +1,7 @@
 pub mod Feeds
 pub mod Flattened
 pub mod Names
+pub mod NetValue
 pub mod Orders
 pub mod Searches
 pub mod Sound

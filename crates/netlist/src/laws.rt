@@ -1,6 +1,10 @@
 //! The laws of flat nets, their orders and their loops. Each is a function that does nothing, and says its law of all of them.
-ghost use Rattle.std.specs.Prelude.{◌≡◌, ℕ, ◌+◌, List, length};
+ghost use Rattle.std.specs.Prelude.{◌≡◌, ◌<◌, ℕ, ◌+◌, Bool, List, length};
+ghost use Rattle.std.specs.List.{AllByRecursion};
 ghost use Rattle.chw_base.specs.declared.index.WireId.{WireId};
+ghost use Rattle.chw_clock.specs.Histories.{FitsPorts};
+ghost use Rattle.chw_clock.specs.declared.event.Event.{Event};
+ghost use Rattle.netlist.specs.NetValue.{HasValue, IsValued, NetValue};
 ghost use Rattle.netlist.specs.Orders.{IsLoop, IsOrder};
 ghost use Rattle.netlist.specs.Sound.{DrivenOnce, DrivesFrom, Sound};
 ghost use Rattle.netlist.specs.declared.net.Cell.{Cell};
@@ -16,4 +20,15 @@ pub fn an_order_excludes_loops()
 pub fn cells_in_order_drive_once()
     ensures { (inputs wires : ℕ) (cells : List Cell) →
         DrivesFrom inputs cells → inputs + length cells ≡ wires → DrivenOnce inputs wires cells }
+{}
+
+/// In a sound flat net with an order, each wire has a value of its width at each history of the net's ports.
+pub fn every_wire_has_a_value()
+    ensures { (flat : Flat) (places : List ℕ) (h : List Event) (w : ℕ) → Sound flat → IsOrder flat places → AllByRecursion IsValued flat.cells
+        → FitsPorts flat.ports h → w < length flat.widths → HasValue flat h w }
+{}
+
+/// A wire of a sound flat net has at most one value at a history.
+pub fn a_wire_has_one_value()
+    ensures { (flat : Flat) (h : List Event) (w : ℕ) (a b : List Bool) → Sound flat → NetValue flat h w a → NetValue flat h w b → a ≡ b }
 {}

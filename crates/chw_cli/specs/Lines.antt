@@ -1,0 +1,44 @@
+-- The statuses with their codes, and the refusals with their statuses and lines.
+use Rattle.std.specs.Prelude.{ℕ, List, ◌++◌, codes, decimal}
+use Rattle.std.specs.List.{flat_map}
+use Rattle.chw_base.specs.declared.index.WireId.{WireId}
+use Rattle.chw_cli.specs.declared.refusal.Refusal.{Refusal}
+use Rattle.chw_cli.specs.declared.refusal.Refusal.TheVariants.{Words, Read, LongText, Form, TooLarge, Loop, Write, Memory}
+use Rattle.chw_cli.specs.declared.status.Status.{Status}
+use Rattle.chw_cli.specs.declared.status.Status.TheVariants as status
+
+abbrev pub code_of : Status → ℕ
+code_of status.Ok = 0
+code_of status.Refused = 1
+code_of status.Words = 2
+code_of status.Read = 3
+code_of status.Write = 4
+code_of status.Spent = 5
+code_of status.Memory = 6
+code_of status.Stimulus = 7
+code_of status.Verilog = 8
+
+abbrev pub status_of : Refusal → Status
+status_of Words = status.Words
+status_of (Read name) = status.Read
+status_of LongText = status.Refused
+status_of Form = status.Refused
+status_of TooLarge = status.Refused
+status_of (Loop cycle) = status.Refused
+status_of Write = status.Write
+status_of Memory = status.Memory
+
+-- the numbers of wires, each after a space
+abbrev pub wire_texts : List WireId → List ℕ
+wire_texts wires = flat_map (λ (w : WireId). codes " " ++ decimal w.number) wires
+
+-- the one line that a refusal is told by
+abbrev pub line_of : Refusal → List ℕ
+line_of Words = codes "chw: words\n"
+line_of (Read name) = codes "chw: read " ++ name ++ codes "\n"
+line_of LongText = codes "chw: E03 limit text 1048576\n"
+line_of Form = codes "chw: E20 form at 0\n"
+line_of TooLarge = codes "chw: E17 size wires 200000\n"
+line_of (Loop cycle) = codes "chw: E16 loop" ++ wire_texts cycle ++ codes "\n"
+line_of Write = codes "chw: write\n"
+line_of Memory = codes "chw: memory\n"

@@ -1,0 +1,13 @@
+-- The telling of one line.
+use Rattle.std.specs.Prelude.{ℕ, List, Option, Result}
+use Rattle.chw_base.specs.declared.outcome.Or.{Or}
+use Rattle.chw_base.specs.declared.sink.SinkFault.{SinkFault}
+use Rattle.chw_cli.specs.Delivery.{TellsLine, TellsNothing}
+use Rattle.chw_cli.specs.declared.status.Status.{Status}
+use Rattle.chw_cli.specs.declared.status.Status.TheVariants.{Memory}
+
+-- the line was put in one call, and the status is this one; or that call found no memory
+pub data Puts {S : Type 0} (gives : S → List ℕ → Result (Unit {0}) (Or SinkFault) → S → Type 0) (written : S → Option (List ℕ)) (faults : S → ℕ)
+  (line : List ℕ) (status : Status) (s t : S) : Status → Type 0 where
+  put : TellsLine gives written faults line s t → Puts gives written faults line status s t status
+  no_memory : TellsNothing gives s t → Puts gives written faults line status s t Memory

@@ -1,0 +1,43 @@
+//! The command `emit`: the Verilog text of a description.
+ghost use Rattle.std.specs.Prelude.{◌≡◌, ◌≤◌, length, Ok, IfOk, IfErr, OnOk};
+ghost use Rattle.chw_base.specs.declared.limits.TheConstants.{DESCRIPTION_BYTES};
+ghost use Rattle.chw_cli.specs.Answer.{EmitAnswer, CanBeEmitted};
+ghost use Rattle.chw_cli.specs.Refusals.{RefusesNet, RefusesText};
+ghost use Rattle.flat_form.specs.FlatNet.{net_of};
+ghost use Rattle.flat_form.specs.Holds.{Holds};
+
+use crate::refusal::Refusal;
+use flat_form::FlatText;
+use flat_law::laws::{net_has_the_bits, net_is_sound};
+use netlist::Net;
+use netlist::flatten::flatten;
+use netlist::ordering::{an_order_excludes_loops, order};
+use std::alloc::Global;
+
+/// The Verilog text of the description, or why there is none.
+pub(crate) fn emitted(alloc: Global, text: &[u8]) -> Result<Vec<u8>, Refusal>
+    requires { length text.now ≤ DESCRIPTION_BYTES }
+    ensures emitted { IfOk result (λ bytes. EmitAnswer text.now (Ok bytes.items)) }
+    ensures refused { IfErr result (RefusesText text.now) }
+{
+    let flat = flat_form::read(alloc, text)?;
+    let net = flat_form::net(alloc, &flat)?;
+    check(alloc, &flat, &net)?;
+    let bytes = verilog_print::print(alloc, &net)?;
+    Ok(bytes)
+}
+
+/// Whether the net of the description can be emitted: it has no more wires than the limit, and no loop.
+fn check(alloc: Global, flat: &FlatText, net: &Net) -> Result<(), Refusal>
+    requires holds { Holds flat.now }
+    requires net { net.now ≡ net_of flat.now }
+    ensures ok { OnOk result (CanBeEmitted flat.now) }
+    ensures refused { IfErr result (RefusesNet flat.now) }
+{
+    let wires = flatten(alloc, net)?;
+    net_is_sound();
+    order(alloc, &wires)?;
+    net_has_the_bits();
+    an_order_excludes_loops();
+    Ok(())
+}

@@ -1,0 +1,15 @@
+//! The program as one call: the words and the files go in, the answer goes out.
+#![tactic(auto)]
+
+mod answer;
+mod command;
+mod deliver;
+mod emit;
+mod fetch;
+pub mod refusal;
+pub mod status;
+mod tell;
+pub mod top;
+
+pub use refusal::Refusal;
+pub use status::Status;

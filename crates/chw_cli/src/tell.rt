@@ -1,0 +1,91 @@
+//! The one line by which a refusal is told.
+ghost use Rattle.std.specs.Prelude.{◌≡◌, IfOk};
+ghost use Rattle.chw_cli.specs.Lines.{line_of};
+ghost use Rattle.chw_cli.specs.Outcome.{Told};
+ghost use Rattle.chw_cli.specs.Telling.{Puts};
+
+use crate::refusal::Refusal;
+use crate::status::Status;
+use chw_base::{Name, NoMemory, Or, Seq, Sink, WireId};
+use itoa::Buffer;
+use std::alloc::Global;
+
+/// Puts the line of the refusal, and says with which status the program ends.
+///
+/// Only a line that shows a file's name or wires takes memory to make.
+pub(crate) fn tell<E: Sink>(alloc: Global, refusal: &Refusal, err: &mut E) -> Status
+    ensures { Told E.put_gives E.written E.faults refusal.now err.old err.new result }
+{
+    match refusal {
+        Refusal::Words => put_line(alloc, "chw: words\n", Status::Words, err),
+        Refusal::Read(file) => tell_unread(alloc, file, err),
+        Refusal::LongText => put_line(alloc, "chw: E03 limit text 1048576\n", Status::Refused, err),
+        Refusal::Form => put_line(alloc, "chw: E20 form at 0\n", Status::Refused, err),
+        Refusal::TooLarge => put_line(alloc, "chw: E17 size wires 200000\n", Status::Refused, err),
+        Refusal::Loop(cycle) => tell_loop(alloc, cycle, err),
+        Refusal::Write => put_line(alloc, "chw: write\n", Status::Write, err),
+        Refusal::Memory => put_line(alloc, "chw: memory\n", Status::Memory, err),
+    }
+}
+
+/// Puts the line of a file that couldn't be read.
+fn tell_unread<E: Sink>(alloc: Global, file: &Name, err: &mut E) -> Status
+    ensures { Told E.put_gives E.written E.faults (Refusal.Read file.now) err.old err.new result }
+{
+    match unread_line(alloc, file) {
+        Ok(line) => put_bytes(alloc, line.as_slice(), Status::Read, err),
+        Err(NoMemory) => Status::Memory,
+    }
+}
+
+/// Puts the line of a loop.
+fn tell_loop<E: Sink>(alloc: Global, cycle: &Seq<WireId>, err: &mut E) -> Status
+    ensures { Told E.put_gives E.written E.faults (Refusal.Loop cycle.now) err.old err.new result }
+{
+    match loop_line(alloc, cycle) {
+        Ok(line) => put_bytes(alloc, line.as_slice(), Status::Refused, err),
+        Err(NoMemory) => Status::Memory,
+    }
+}
+
+/// The line of a loop, with all wires of its cycle.
+fn loop_line(alloc: Global, cycle: &Seq<WireId>) -> Result<Vec<u8>, NoMemory>
+    ensures { IfOk result (λ line. line.items ≡ line_of (Refusal.Loop cycle.now)) }
+{
+    let mut line = Vec::from_slice(alloc, "chw: E16 loop".as_bytes())?;
+    for wire in cycle.as_slice() {
+        let mut buffer = Buffer::new();
+        line.push(b' ')?;
+        line.extend_from_slice(buffer.format(wire.number).as_bytes())?;
+    }
+    line.push(b'\n')?;
+    Ok(line)
+}
+
+/// The line of a file that couldn't be read.
+fn unread_line(alloc: Global, file: &Name) -> Result<Vec<u8>, NoMemory>
+    ensures { IfOk result (λ line. line.items ≡ line_of (Refusal.Read file.now)) }
+{
+    let mut line = Vec::from_slice(alloc, "chw: read ".as_bytes())?;
+    line.extend_from_slice(file.as_slice())?;
+    line.extend_from_slice("\n".as_bytes())?;
+    Ok(line)
+}
+
+/// Puts a line in one call. The status is the given one, if that found memory.
+fn put_line<E: Sink>(alloc: Global, line: &str, status: Status, err: &mut E) -> Status
+    ensures { Puts E.put_gives E.written E.faults line.now status err.old err.new result }
+{
+    put_bytes(alloc, line.as_bytes(), status, err)
+}
+
+/// Puts the bytes of a line in one call. The status is the given one, if that found memory.
+fn put_bytes<E: Sink>(alloc: Global, line: &[u8], status: Status, err: &mut E) -> Status
+    ensures { Puts E.put_gives E.written E.faults line.now status err.old err.new result }
+{
+    match err.put(alloc, line) {
+        Ok(()) => status,
+        Err(Or::Fault(_)) => status,
+        Err(Or::Memory) => Status::Memory,
+    }
+}

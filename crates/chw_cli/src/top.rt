@@ -1,0 +1,44 @@
+//! The one call that does all that the program does.
+ghost use Rattle.std.specs.Prelude.{◌≡◌};
+ghost use Rattle.chw_base.specs.Faults.{Rose};
+ghost use Rattle.chw_cli.specs.Delivery.{WritesAll, StopsAt};
+ghost use Rattle.chw_cli.specs.Outcome.{Outcome, Told, FetchesOnce};
+
+use crate::answer::answer;
+use crate::deliver::deliver;
+use crate::refusal::Refusal;
+use crate::status::Status;
+use crate::tell::tell;
+use chw_base::{Name, Or, Shelf, Sink};
+use std::alloc::Global;
+
+/// Does what the words ask for: reads the file from the shelf, and writes the answer to `out`, or one line to `err`.
+///
+/// The answer is whole before its first byte is written. It is written in pieces of 1,024 bytes, of which the last may be shorter. A fault
+/// of `err` leaves the status as it is.
+pub fn top<F: Shelf, K: Sink, E: Sink>(
+    alloc: Global,
+    words: &[Name],
+    shelf: &mut F,
+    out: &mut K,
+    err: &mut E,
+) -> Status
+    ensures outcome {
+        Outcome (F.told shelf.old) words.now (Rose (F.faults shelf.old) (F.faults shelf.new)) (Rose (K.faults out.old) (K.faults out.new))
+            (out.new ≡ out.old) (err.new ≡ err.old)
+            (λ bytes. WritesAll K.put_gives K.written bytes out.old out.new)
+            (λ answer bytes. StopsAt K.put_gives K.written answer bytes out.old out.new)
+            (λ refusal status. Told E.put_gives E.written E.faults refusal err.old err.new status)
+            result
+    }
+    ensures fetches { FetchesOnce F.fetch_gives words.now shelf.old shelf.new }
+{
+    match answer(alloc, words, shelf) {
+        Ok(bytes) => match deliver(alloc, bytes.as_slice(), out) {
+            Ok(()) => Status::Ok,
+            Err(Or::Fault(_)) => tell(alloc, &Refusal::Write, err),
+            Err(Or::Memory) => tell(alloc, &Refusal::Memory, err),
+        },
+        Err(refusal) => tell(alloc, &refusal, err),
+    }
+}

@@ -1,0 +1,7 @@
+//! Tests of the whole program: tables of words and files, and what `top` answers to them.
+#![tactic(auto)]
+
+#[cfg(test)]
+mod emit;
+#[cfg(test)]
+mod row;

@@ -1,0 +1,5 @@
+pub mod Cells
+pub mod Lists
+pub mod Signals
+pub mod SoundNet
+pub mod Translated

@@ -1,0 +1,33 @@
+-- The history before the last tick.
+use Rattle.std.proofs.Common.{◌≡◌, ℕ, ◌+◌, ◌<◌, ◌≤◌, Bool, true, false, List, [], ◌∷◌, length, Option, Some, None, subst, arith, if◌then◌else◌}
+use Rattle.std.specs.List.{AllByRecursion}
+use Rattle.chw_base.specs.declared.index.DomId.{DomId}
+use Rattle.chw_clock.specs.Histories.{FitsEvent, FitsPorts, ticks, up_to_tick, before}
+use Rattle.chw_clock.specs.declared.event.Event.{Event}
+use Rattle.chw_clock.specs.declared.event.Ports.{Ports}
+
+-- what is left of a history is a history of the same ports, and no longer
+pub record IsPast (ports : Ports) (limit : ℕ) (past : List Event) : Type 0 where
+  pub fits : FitsPorts ports past
+  pub shorter : length past ≤ limit
+
+weaker : (ports : Ports) (m n : ℕ) (past : List Event) → m ≤ n → IsPast ports m past → IsPast ports n past
+weaker ports m n past h p = record { fits = p.fits; shorter = omega (arith, p.shorter) }
+
+-- the events from the latest tick on, by whether the first one ticks
+chosen : (ports : Ports) (event : Event) (events past : List Event) (d : DomId) (b : Bool) → AllByRecursion (FitsEvent ports) (event ∷ events)
+    → (up_to_tick events d ≡ Some past → IsPast ports (length events) past)
+    → (if b then Some (event ∷ events) else up_to_tick events d) ≡ Some past → IsPast ports (length (event ∷ events)) past
+chosen ports event events past d true f rest e =
+    let is : event ∷ events ≡ past = cc in
+    subst (λ p. IsPast ports (length (event ∷ events)) p) is (record { fits = f; shorter = omega arith })
+chosen ports event events past d false f rest e = weaker ports (length events) (length (event ∷ events)) past (omega arith) (rest e)
+
+up_to : (ports : Ports) (events : List Event) (d : DomId) (past : List Event) → AllByRecursion (FitsEvent ports) events → up_to_tick events d ≡ Some past
+    → IsPast ports (length events) past
+up_to ports [] d past f e = absurd (cc)
+up_to ports (event ∷ events) d past f e = chosen ports event events past d (ticks event d) f (λ e. up_to ports events d past f.1 e) e
+
+pub before_is_past : (ports : Ports) (present : Event) (events past : List Event) (d : DomId) → FitsPorts ports (present ∷ events)
+    → before (present ∷ events) d ≡ Some past → IsPast ports (length events) past
+before_is_past ports present events past d f e = up_to ports events d past f.1 e
