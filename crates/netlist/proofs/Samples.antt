@@ -1,10 +1,7 @@
 -- Small flat nets for tests.
-use Rattle.std.proofs.Common.{◌≡◌, ℕ, zero, suc, ◌<◌, ◌+◌, List, [], ◌∷◌, length, map, refl, sym, ◌∙◌, ap, subst, arith, Some, slice_get, ◌≤◌}
+use Rattle.std.proofs.Common.{◌≡◌, ℕ, zero, suc, ◌<◌, List, [], ◌∷◌, length, map, refl, ap, arith, Some, slice_get, ◌≤◌}
 use Rattle.std.specs.List.{AllByRecursion}
 use Rattle.std.proofs.lemmas.List.{length-map}
-use Rattle.chw_base.specs.declared.limits.TheConstants.{FLAT_WIRES}
-use Rattle.chw_clock.specs.declared.event.Port.{Port}
-use Rattle.chw_clock.specs.declared.event.Ports.{Ports}
 use Rattle.netlist.specs.Sound.{DrivesFrom, FitsCell, Sound}
 use Rattle.netlist.specs.declared.net.Cell.{Cell}
 use Rattle.netlist.specs.declared.net.Flat.{Flat}
