@@ -48,7 +48,7 @@ pub net_is_plain : (f : FlatText) (net : Net) → net ≡ net_of f → IsPlain n
 net_is_plain f net e = subst (λ (n : Net). IsPlain n.modules) (sym e) (no_uses (names_of (signals f)) (length f.parameters) f.bindings)
 
 pub too_large_refuses : (f : FlatText) (net : Net) (e : Or TooLarge) → net ≡ net_of f → OfFault e (λ _. FLAT_WIRES < length (flat_widths net.modules))
-  → RefusesNet f (of_too_large e)
+    → RefusesNet f (of_too_large e)
 too_large_refuses f net Memory is h = memory
 too_large_refuses f net (Fault t) is h = too_large (subst (λ (n : Net). FLAT_WIRES < length (flat_widths n.modules)) is h)
 

@@ -25,26 +25,26 @@ one_file file bytes = ap (λ b. if b then Some bytes else None) (same_bytes file
 
 -- files that hold these bytes under the name, and are those held where these are told
 pub by_held : (told : Option Files) (words : List (List ℕ)) (file bytes : List ℕ) (answer : Result (List ℕ) Refusal) → HoldsIfTold told file bytes
-  → ((files : Files) → file_of files file ≡ Some bytes → Answer words files answer) → AnswersBy told words answer
+    → ((files : Files) → file_of files file ≡ Some bytes → Answer words files answer) → AnswersBy told words answer
 by_held None words file bytes answer h f =
     record { files = (file, bytes) ∷ []; held = λ files e. absurd (cc); answers = f ((file, bytes) ∷ []) (one_file file bytes) }
 by_held (Some files) words file bytes answer h f = record { files = files; held = λ files' e. cc; answers = f files (h files refl) }
 
 pub refuses_long : (told : Option Files) (words : List (List ℕ)) (file : List ℕ) (P : Type 0) → IsEmit words file
-  → (held : List ℕ) × (DESCRIPTION_BYTES < length held) × HoldsIfTold told file held → Refuses told words P refusal.LongText
+    → (held : List ℕ) × (DESCRIPTION_BYTES < length held) × HoldsIfTold told file held → Refuses told words P refusal.LongText
 refuses_long told words file P e h =
     by_answer refusal.LongText (by_held told words file h.0 (Err refusal.LongText) h.2 (λ files held. long_text file h.0 e held h.1))
 
 pub refuses_absent : (told : Option Files) (words : List (List ℕ)) (file : List ℕ) (P : Type 0) (r : Refusal) → IsEmit words file
-  → IsSomeAnd told (λ files. file_of files file ≡ None) → IsUnread file r → Refuses told words P r
+    → IsSomeAnd told (λ files. file_of files file ≡ None) → IsUnread file r → Refuses told words P r
 refuses_absent told words file P r e h (inr is) = subst (λ r. Refuses told words P r) (sym is) for_memory
 refuses_absent (Some files) words file P r e h (inl is) =
     subst (λ r. Refuses (Some files) words P r) (sym is)
-      (by_answer (refusal.Read file) (record { files = files; held = λ files' e. cc; answers = absent file e h }))
+    (by_answer (refusal.Read file) (record { files = files; held = λ files' e. cc; answers = absent file e h }))
 refuses_absent None words file P r e h (inl is) = absurd h
 
 pub refuses_unread : (told : Option Files) (words : List (List ℕ)) (file : List ℕ) (P : Type 0) (r : Refusal) → IsEmit words file
-  → P → IsUnread file r → Refuses told words P r
+    → P → IsUnread file r → Refuses told words P r
 refuses_unread told words file P r e h (inr is) = subst (λ r. Refuses told words P r) (sym is) for_memory
 refuses_unread told words file P r e h (inl is) = subst (λ r. Refuses told words P r) (sym is) (for_fault file e h)
 
@@ -53,17 +53,17 @@ refuses_words None words P h = by_answer refusal.Words (record { files = []; hel
 refuses_words (Some files) words P h = by_answer refusal.Words (record { files = files; held = λ files' e. cc; answers = no_command h })
 
 pub emits_by : (told : Option Files) (words : List (List ℕ)) (file text : List ℕ) (answer : Result (List ℕ) Refusal) → IsEmit words file
-  → HoldsIfTold told file text → length text ≤ DESCRIPTION_BYTES → EmitAnswer text answer → AnswersBy told words answer
+    → HoldsIfTold told file text → length text ≤ DESCRIPTION_BYTES → EmitAnswer text answer → AnswersBy told words answer
 emits_by told words file text answer e h l a = by_held told words file text answer h (λ files held. emit file text answer e held l a)
 
 pub emits_ok : (told : Option Files) (words : List (List ℕ)) (file text bytes : List ℕ) (r : Result (Vec ℕ Global) Refusal) → IsEmit words file
-  → HoldsIfTold told file text → length text ≤ DESCRIPTION_BYTES → bytes ≡ text → IfOk r (λ v. EmitAnswer bytes (Ok v.items))
-  → IfOk r (λ v. AnswersBy told words (Ok v.items))
+    → HoldsIfTold told file text → length text ≤ DESCRIPTION_BYTES → bytes ≡ text → IfOk r (λ v. EmitAnswer bytes (Ok v.items))
+    → IfOk r (λ v. AnswersBy told words (Ok v.items))
 emits_ok told words file text bytes (Ok v) e h l same a = emits_by told words file text (Ok v.items) e h l (subst (λ t. EmitAnswer t (Ok v.items)) same a)
 emits_ok told words file text bytes (Err r) e h l same a = tt
 
 pub emits_err : (told : Option Files) (words : List (List ℕ)) (file text bytes : List ℕ) (P : Type 0) (r : Result (Vec ℕ Global) Refusal) → IsEmit words file
-  → HoldsIfTold told file text → length text ≤ DESCRIPTION_BYTES → bytes ≡ text → IfErr r (RefusesText bytes) → IfErr r (Refuses told words P)
+    → HoldsIfTold told file text → length text ≤ DESCRIPTION_BYTES → bytes ≡ text → IfErr r (RefusesText bytes) → IfErr r (Refuses told words P)
 emits_err told words file text bytes P (Ok v) e h l same a = tt
 emits_err told words file text bytes P (Err r) e h l same (inl is) = subst (λ r. Refuses told words P r) (sym is) for_memory
 emits_err told words file text bytes P (Err r) e h l same (inr a) =

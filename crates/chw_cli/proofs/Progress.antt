@@ -42,11 +42,17 @@ take_all n bytes h = sym (take_min n bytes) ∙ (let e : min n (length bytes) �
 -- what was written of the whole answer where the call for a piece wrote this much of it
 part_of : (bytes : List ℕ) (k n : ℕ) → (m : ℕ) × (take (PIECE_BYTES * k) bytes ++ take n (piece bytes k) ≡ take m bytes)
 part_of bytes k n = elim (leb_tells n PIECE_BYTES) [
-  inl h ↦ (PIECE_BYTES * k + n, ap (λ p. take (PIECE_BYTES * k) bytes ++ p) (take_take n PIECE_BYTES (drop (PIECE_BYTES * k) bytes) h.1)
-    ∙ sym (take-add (PIECE_BYTES * k) n bytes))
-  | inr h ↦ (PIECE_BYTES * suc k, ap (λ p. take (PIECE_BYTES * k) bytes ++ p) (take_all n (piece bytes k) (omega (arith, h.1, length-take PIECE_BYTES (drop (PIECE_BYTES * k) bytes))))
-    ∙ next_part k bytes)
-  ]
+  | inl h ↦ (
+    PIECE_BYTES * k + n,
+    ap (λ p. take (PIECE_BYTES * k) bytes ++ p) (take_take n PIECE_BYTES (drop (PIECE_BYTES * k) bytes) h.1)
+        ∙ sym (take-add (PIECE_BYTES * k) n bytes),
+  )
+  | inr h ↦ (
+    PIECE_BYTES * suc k,
+    ap (λ p. take (PIECE_BYTES * k) bytes ++ p) (take_all n (piece bytes k) (omega (arith, h.1, length-take PIECE_BYTES (drop (PIECE_BYTES * k) bytes))))
+        ∙ next_part k bytes,
+  )
+]
 
 module _ {S : Type 0} (gives : S → List ℕ → Result (Unit {0}) (Or SinkFault) → S → Type 0) (written : S → Option (List ℕ)) (faults : S → ℕ) where
   -- the first k pieces were written, and this is the rest
@@ -65,7 +71,7 @@ module _ {S : Type 0} (gives : S → List ℕ → Result (Unit {0}) (Or SinkFaul
     last = omega arith;
     puts = none s;
     grew = grew_nothing (written s) (written s) refl;
-    faults_same = refl
+    faults_same = refl;
   }
 
   rest_left : (bytes rest : List ℕ) (s t : S) (p : Progress bytes rest s t) → length rest ≢ 0 → PIECE_BYTES * p.k < length bytes
@@ -77,9 +83,9 @@ module _ {S : Type 0} (gives : S → List ℕ → Result (Unit {0}) (Or SinkFaul
       ap (λ n. take n rest) e ∙ take_min PIECE_BYTES rest ∙ ap (take PIECE_BYTES) p.rest_is
 
   pub goes_on : (bytes rest : List ℕ) (s t u : S) → Progress bytes rest s t → length rest ≢ 0
-    → gives t (take (min (length rest) PIECE_BYTES) rest) (Ok tt) u
-    → Writes (take (min (length rest) PIECE_BYTES) rest) (written t) (written u) (faults t) (faults u) (Ok tt)
-    → Progress bytes (drop (min (length rest) PIECE_BYTES) rest) s u
+      → gives t (take (min (length rest) PIECE_BYTES) rest) (Ok tt) u
+      → Writes (take (min (length rest) PIECE_BYTES) rest) (written t) (written u) (faults t) (faults u) (Ok tt)
+      → Progress bytes (drop (min (length rest) PIECE_BYTES) rest) s u
   goes_on bytes rest s t u p ne call writes =
       let e : min (length rest) PIECE_BYTES ≡ min PIECE_BYTES (length rest) = omega arith in
       let is : take (min (length rest) PIECE_BYTES) rest ≡ piece bytes p.k = piece_is bytes rest s t p in
@@ -88,12 +94,12 @@ module _ {S : Type 0} (gives : S → List ℕ → Result (Unit {0}) (Or SinkFaul
       record {
         k = suc p.k;
         rest_is = ap (λ n. drop n rest) e ∙ drop_min PIECE_BYTES rest ∙ ap (drop PIECE_BYTES) p.rest_is
-          ∙ drop-drop PIECE_BYTES (PIECE_BYTES * p.k) bytes ∙ ap (λ n. drop n bytes) sum;
+            ∙ drop-drop PIECE_BYTES (PIECE_BYTES * p.k) bytes ∙ ap (λ n. drop n bytes) sum;
         last = omega arith;
         puts = more p.k s t u p.puts (subst (λ b. gives t b (Ok tt) u) is call);
         grew = subst (λ b. GrewBy b (written s) (written u)) (next_part p.k bytes)
-          (grew_twice _ _ _ _ _ p.grew (subst (λ b. GrewBy b (written t) (written u)) is writes.0));
-        faults_same = writes.1 ∙ p.faults_same
+            (grew_twice _ _ _ _ _ p.grew (subst (λ b. GrewBy b (written t) (written u)) is writes.0));
+        faults_same = writes.1 ∙ p.faults_same;
       }
 
   pub ends : (bytes rest : List ℕ) (s t : S) → Progress bytes rest s t → length rest ≡ 0 → WritesAll gives written bytes s t
@@ -103,13 +109,13 @@ module _ {S : Type 0} (gives : S → List ℕ → Result (Unit {0}) (Or SinkFaul
       let count : p.k ≡ pieces bytes = omega arith in
       record {
         puts = subst (λ k. PutsFirst gives bytes k s t) count p.puts;
-        grew = subst (λ b. GrewBy b (written s) (written t)) (take_all (PIECE_BYTES * p.k) bytes over) p.grew
+        grew = subst (λ b. GrewBy b (written s) (written t)) (take_all (PIECE_BYTES * p.k) bytes over) p.grew;
       }
 
   pub stops : (bytes rest : List ℕ) (s t u : S) (answer : Or SinkFault) → Progress bytes rest s t → length rest ≢ 0
-    → gives t (take (min (length rest) PIECE_BYTES) rest) (Err answer) u
-    → Writes (take (min (length rest) PIECE_BYTES) rest) (written t) (written u) (faults t) (faults u) (Err answer)
-    → StopsAt gives written answer bytes s u
+      → gives t (take (min (length rest) PIECE_BYTES) rest) (Err answer) u
+      → Writes (take (min (length rest) PIECE_BYTES) rest) (written t) (written u) (faults t) (faults u) (Err answer)
+      → StopsAt gives written answer bytes s u
   stops bytes rest s t u answer p ne call writes =
       let left : PIECE_BYTES * p.k < length bytes = rest_left bytes rest s t p ne in
       let is : take (min (length rest) PIECE_BYTES) rest ≡ piece bytes p.k = piece_is bytes rest s t p in
@@ -119,11 +125,11 @@ module _ {S : Type 0} (gives : S → List ℕ → Result (Unit {0}) (Or SinkFaul
         t = t;
         puts = p.puts;
         stop = subst (λ b. gives t b (Err answer) u) is call;
-        part = part answer (subst (λ b. Writes b (written t) (written u) (faults t) (faults u) (Err answer)) is writes)
+        part = part answer (subst (λ b. Writes b (written t) (written u) (faults t) (faults u) (Err answer)) is writes);
       }
     where
       part : (answer : Or SinkFault) → Writes (piece bytes p.k) (written t) (written u) (faults t) (faults u) (Err answer)
-        → (n : ℕ) × GrewBy (take n bytes) (written s) (written u) × (answer ≡ Memory → n ≡ PIECE_BYTES * p.k)
+          → (n : ℕ) × GrewBy (take n bytes) (written s) (written u) × (answer ≡ Memory → n ≡ PIECE_BYTES * p.k)
       part Memory w = (PIECE_BYTES * p.k, subst (λ v. GrewBy (take (PIECE_BYTES * p.k) bytes) (written s) v) (sym w.0) p.grew, λ _. refl)
       part (Fault f) w =
           let whole = part_of bytes p.k w.0.0 in

@@ -12,8 +12,8 @@ use Rattle.chw_cli.specs.declared.refusal.Refusal.{Refusal}
 use Rattle.chw_cli.specs.declared.status.Status.{Status}
 
 pub told_by : {S : Type 0} (gives : S → List ℕ → Result (Unit {0}) (Or SinkFault) → S → Type 0) (written : S → Option (List ℕ)) (faults : S → ℕ)
-  (r : Refusal) (line : List ℕ) (status : Status) (s t : S) (end : Status) → line ≡ line_of r → status ≡ status_of r
-  → Puts gives written faults line status s t end → Told gives written faults r s t end
+    (r : Refusal) (line : List ℕ) (status : Status) (s t : S) (end : Status) → line ≡ line_of r → status ≡ status_of r
+    → Puts gives written faults line status s t end → Told gives written faults r s t end
 told_by gives written faults r line status s t _ e f (put w) =
     subst (λ v. Told gives written faults r s t v) (sym f) (told (subst (λ l. TellsLine gives written faults l s t) e w))
 told_by gives written faults r line status s t _ e f (no_memory w) = untold w

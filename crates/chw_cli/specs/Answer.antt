@@ -44,6 +44,6 @@ pub data Answer (words : List (List ℕ)) (files : Files) : Result (List ℕ) Re
   no_command : AreNoCommand words → Answer words files (Err Words)
   absent : (file : List ℕ) → IsEmit words file → file_of files file ≡ None → Answer words files (Err (Read file))
   long_text : (file text : List ℕ) → IsEmit words file → file_of files file ≡ Some text → DESCRIPTION_BYTES < length text
-    → Answer words files (Err LongText)
+      → Answer words files (Err LongText)
   emit : (file text : List ℕ) (answer : Result (List ℕ) Refusal) → IsEmit words file → file_of files file ≡ Some text
-    → length text ≤ DESCRIPTION_BYTES → EmitAnswer text answer → Answer words files answer
+      → length text ≤ DESCRIPTION_BYTES → EmitAnswer text answer → Answer words files answer

@@ -41,7 +41,7 @@ stopped (Fault f) = refusal.Write
 
 -- the refusal was told: its line was put in one call, and the status is its own; or memory was wanting for that
 pub data Told {S : Type 0} (gives : S → List ℕ → Result (Unit {0}) (Or SinkFault) → S → Type 0) (written : S → Option (List ℕ)) (faults : S → ℕ)
-  (r : Refusal) (s t : S) : Status → Type 0 where
+    (r : Refusal) (s t : S) : Status → Type 0 where
   told : TellsLine gives written faults (line_of r) s t → Told gives written faults r s t (status_of r)
   untold : TellsNothing gives s t → Told gives written faults r s t status.Memory
 
@@ -49,17 +49,17 @@ pub data Told {S : Type 0} (gives : S → List ℕ → Result (Unit {0}) (Or Sin
 -- (the same as before; all of these bytes were written; a part of them, up to a call that gave this answer) and of `err` (the same as
 -- before; this refusal was told)
 pub data Outcome (files_told : Option Files) (words : List (List ℕ)) (ShelfRose OutRose OutSame ErrSame : Type 0)
-  (All : List ℕ → Type 0) (Part : Or SinkFault → List ℕ → Type 0) (Tells : Refusal → Status → Type 0) : Status → Type 0 where
+    (All : List ℕ → Type 0) (Part : Or SinkFault → List ℕ → Type 0) (Tells : Refusal → Status → Type 0) : Status → Type 0 where
   answered : (bytes : List ℕ) → AnswersBy files_told words (Ok bytes) → All bytes → ErrSame
-    → Outcome files_told words ShelfRose OutRose OutSame ErrSame All Part Tells status.Ok
+      → Outcome files_told words ShelfRose OutRose OutSame ErrSame All Part Tells status.Ok
   refused : (r : Refusal) (s : Status) → Refuses files_told words ShelfRose r → OutSame → Tells r s
-    → Outcome files_told words ShelfRose OutRose OutSame ErrSame All Part Tells s
+      → Outcome files_told words ShelfRose OutRose OutSame ErrSame All Part Tells s
   unwritten : (bytes : List ℕ) (answer : Or SinkFault) (s : Status) → AnswersBy files_told words (Ok bytes) → Part answer bytes
-    → OfFault answer (λ _. OutRose) → Tells (stopped answer) s
-    → Outcome files_told words ShelfRose OutRose OutSame ErrSame All Part Tells s
+      → OfFault answer (λ _. OutRose) → Tells (stopped answer) s
+      → Outcome files_told words ShelfRose OutRose OutSame ErrSame All Part Tells s
 
 -- the shelf was not called, or once, for the file of the words
 pub data FetchesOnce {S : Type 0} (gives : S → List ℕ → ℕ → Result Fetched (Or ShelfFault) → List ℕ → S → Type 0) (words : List (List ℕ)) : S → S → Type 0 where
   uncalled : (s : S) → FetchesOnce gives words s s
   fetched : (file : List ℕ) (answer : Result Fetched (Or ShelfFault)) (bytes : List ℕ) (s t : S) → IsEmit words file
-    → gives s file DESCRIPTION_BYTES answer bytes t → FetchesOnce gives words s t
+      → gives s file DESCRIPTION_BYTES answer bytes t → FetchesOnce gives words s t

@@ -8,6 +8,6 @@ use Rattle.chw_cli.specs.declared.status.Status.TheVariants.{Memory}
 
 -- the line was put in one call, and the status is this one; or that call found no memory
 pub data Puts {S : Type 0} (gives : S → List ℕ → Result (Unit {0}) (Or SinkFault) → S → Type 0) (written : S → Option (List ℕ)) (faults : S → ℕ)
-  (line : List ℕ) (status : Status) (s t : S) : Status → Type 0 where
+    (line : List ℕ) (status : Status) (s t : S) : Status → Type 0 where
   put : TellsLine gives written faults line s t → Puts gives written faults line status s t status
   no_memory : TellsNothing gives s t → Puts gives written faults line status s t Memory

@@ -11,7 +11,8 @@ use flat_form::FlatText;
 use flat_law::laws::{net_has_the_bits, net_is_sound};
 use netlist::Net;
 use netlist::flatten::flatten;
-use netlist::ordering::{an_order_excludes_loops, order};
+use netlist::laws::an_order_excludes_loops;
+use netlist::ordering::order;
 use std::alloc::Global;
 
 /// The Verilog text of the description, or why there is none.

@@ -23,14 +23,12 @@ pub fn top<F: Shelf, K: Sink, E: Sink>(
     out: &mut K,
     err: &mut E,
 ) -> Status
-    ensures outcome {
-        Outcome (F.told shelf.old) words.now (Rose (F.faults shelf.old) (F.faults shelf.new)) (Rose (K.faults out.old) (K.faults out.new))
-            (out.new ≡ out.old) (err.new ≡ err.old)
-            (λ bytes. WritesAll K.put_gives K.written bytes out.old out.new)
-            (λ answer bytes. StopsAt K.put_gives K.written answer bytes out.old out.new)
-            (λ refusal status. Told E.put_gives E.written E.faults refusal err.old err.new status)
-            result
-    }
+    ensures outcome { Outcome (F.told shelf.old) words.now (Rose (F.faults shelf.old) (F.faults shelf.new)) (Rose (K.faults out.old) (K.faults out.new))
+        (out.new ≡ out.old) (err.new ≡ err.old)
+        (λ bytes. WritesAll K.put_gives K.written bytes out.old out.new)
+        (λ answer bytes. StopsAt K.put_gives K.written answer bytes out.old out.new)
+        (λ refusal status. Told E.put_gives E.written E.faults refusal err.old err.new status)
+        result }
     ensures fetches { FetchesOnce F.fetch_gives words.now shelf.old shelf.new }
 {
     match answer(alloc, words, shelf) {

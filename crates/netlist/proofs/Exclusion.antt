@@ -1,5 +1,5 @@
 -- Where there is an order, there is no loop.
-use Rattle.std.proofs.Common.{◌≡◌, ℕ, zero, suc, ◌+◌, ◌-◌, ◌<◌, ◌≤◌, List, length, get_or, refl, sym, ◌∙◌, ap, subst, arith, Some, add-one}
+use Rattle.std.proofs.Common.{◌≡◌, ℕ, zero, suc, ◌+◌, ◌-◌, ◌<◌, ◌≤◌, List, length, get_or, ◌∙◌, ap, subst, arith, Some, add-one}
 use Rattle.netlist.specs.Feeds.{Feeds, awaited_at, target_at}
 use Rattle.netlist.specs.Orders.{IsCycle, OrdersCells}
 use Rattle.netlist.specs.declared.net.Cell.{Cell}

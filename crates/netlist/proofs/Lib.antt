@@ -4,6 +4,7 @@ pub mod Exclusion
 pub mod Lists
 pub mod Loops
 pub mod OneValue
+pub mod Samples
 pub mod Searching
 pub mod Tables
 pub mod Turning

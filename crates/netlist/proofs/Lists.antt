@@ -1,13 +1,13 @@
 -- Elements of lists after a write or a push, and what cells have to do with their places.
-use Rattle.std.proofs.Common.{◌≡◌, ◌≢◌, ℕ, ◌+◌, ◌-◌, ◌<◌, ◌≤◌, ◌⊎◌, inl, inr, List, [], ◌∷◌, ◌++◌, length, get_or, set, take, refl, sym, ◌∙◌, ap, arith, length-append, Option, Some, None, option_and_then, slice_get, get_or-set_same, get_or-set_other}
+use Rattle.std.proofs.Common.{◌≡◌, ◌≢◌, ℕ, ◌-◌, ◌<◌, ◌⊎◌, inl, inr, List, [], ◌∷◌, ◌++◌, length, get_or, set, take, sym, ◌∙◌, ap, arith, Some, None, option_and_then, get_or-set_same, get_or-set_other}
 use Rattle.std.proofs.lemmas.Bool.{cases_eq, cases_lt}
 use Rattle.std.proofs.lemmas.List.{get_or_append_left, get_or_push, get_or_past, length_push, take_at}
-use Rattle.std.proofs.lemmas.Option.{slice_get_cases, slice_get_past}
+use Rattle.std.proofs.lemmas.Option.{slice_get_past}
 use Rattle.netlist.specs.Feeds.{target, target_at, awaited_at, awaited_wire}
 use Rattle.netlist.specs.Searches.{visit_at}
 use Rattle.netlist.specs.declared.net.Cell.{Cell}
 use Rattle.netlist.specs.declared.search.Visit.{Visit}
-use Rattle.netlist.specs.declared.search.Visit.TheVariants.{Ahead, Open, Done}
+use Rattle.netlist.specs.declared.search.Visit.TheVariants.{Ahead}
 
 -- an element after a write: the one that was written, or another
 pub write_split : {X : Type 0} (xs : List X) (p : ℕ) (y : X) (q : ℕ) (d : X) → p < length xs

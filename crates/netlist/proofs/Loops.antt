@@ -1,16 +1,16 @@
 -- What the search finds at the last cell of its path.
-use Rattle.std.proofs.Common.{◌≡◌, ℕ, ◌+◌, ◌-◌, ◌<◌, ◌≤◌, List, [], ◌∷◌, ◌++◌, length, get_or, map, reverse, drop, refl, sym, ◌∙◌, ap, subst, arith, Option, Some, None}
+use Rattle.std.proofs.Common.{◌≡◌, ℕ, ◌+◌, ◌-◌, ◌<◌, List, length, get_or, map, reverse, drop, sym, ◌∙◌, ap, subst, arith, Option, Some, None}
 use Rattle.std.proofs.lemmas.List.{get_or-drop, get_or-map, get_or-reverse, get_or_push, length-drop, length-map, length-reverse, length_push}
 use Rattle.std.proofs.lemmas.Option.{same_Some}
 use Rattle.chw_base.specs.declared.index.WireId.{WireId}
-use Rattle.netlist.specs.Feeds.{Feeds, awaited_at, target_at}
+use Rattle.netlist.specs.Feeds.{Feeds, target_at}
 use Rattle.netlist.specs.Orders.{IsCycle, wire_numbers}
 use Rattle.netlist.specs.Searches.{EndsIn, IsFound, IsSearch, IsTable, MayBegin, visit_at}
 use Rattle.netlist.specs.declared.net.Cell.{Cell}
 use Rattle.netlist.specs.declared.search.Found.TheVariants.{Closing, Next}
 use Rattle.netlist.specs.declared.search.Step.{Step}
 use Rattle.netlist.specs.declared.search.Visit.{Visit}
-use Rattle.netlist.specs.declared.search.Visit.TheVariants.{Ahead, Open, Done}
+use Rattle.netlist.specs.declared.search.Visit.TheVariants.{Open}
 use Rattle.netlist.proofs.Turning.{Feeds_at}
 
 -- the last step of a path

@@ -1,6 +1,5 @@
 -- What a search for an order knows.
 use Rattle.std.specs.Prelude.{◌≡◌, ℕ, ◌+◌, ◌<◌, ◌≤◌, List, [], ◌∷◌, ◌++◌, length, Option, Some, None, slice_index, slice_index_or, sum, sum_by}
-use Rattle.chw_base.specs.declared.index.WireId.{WireId}
 use Rattle.netlist.specs.Feeds.{awaited_at, target_at}
 use Rattle.netlist.specs.declared.net.Cell.{Cell}
 use Rattle.netlist.specs.declared.search.Found.{Found}

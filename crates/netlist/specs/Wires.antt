@@ -1,5 +1,5 @@
 -- Wires of a module, and the cells that drive them.
-use Rattle.std.specs.Prelude.{◌≡◌, ℕ, Bool, ◌==◌, true, false, List, [], ◌∷◌, Option, Some, None, if◌then◌else◌, slice_index_or, slice_get, map}
+use Rattle.std.specs.Prelude.{ℕ, Bool, ◌==◌, List, [], ◌∷◌, Option, Some, None, if◌then◌else◌}
 use Rattle.std.specs.List.{list_any}
 use Rattle.chw_base.specs.declared.index.WireId.{WireId}
 use Rattle.netlist.specs.declared.net.Cell.{Cell}

@@ -1,10 +1,11 @@
 //! Small flat nets, with orders and loops worked by hand.
-ghost use Rattle.std.specs.Prelude.{◌≡◌, [], ◌∷◌, length, map, IfOk};
+ghost use Rattle.std.specs.Prelude.{◌≡◌, ◌<◌, [], ◌∷◌, length, map, IfOk, Some};
+ghost use Rattle.netlist.specs.Feeds.{target};
 ghost use Rattle.netlist.specs.Sound.{DrivesFrom, FitsCell, Sound};
 
 use crate::flatten::flatten;
 use crate::ordering::order;
-use crate::{Cell, Flat, Module, Net, Op2, laws};
+use crate::{Cell, Flat, Loop, Module, Net, Op2, laws};
 use chw_base::{DomId, NoMemory, Or, Seq, WireId};
 use chw_clock::{Bits, Port, Ports};
 use std::alloc::Global;
@@ -49,9 +50,51 @@ fn three_cells(alloc: Global, a: Cell, b: Cell, c: Cell) -> Result<Flat, NoMemor
 }
 
 fn copy(to: u32, from: u32) -> Cell
-    ensures { result ≡ Cell.Copy (record { number = to }) (record { number = from }) }
+    requires to { to < 4 }
+    requires from { from < 4 }
+    ensures fits { FitsCell 1 (8 ∷ 8 ∷ 8 ∷ 8 ∷ []) result }
+    ensures target { target result ≡ Some to }
 {
     Cell::Copy(WireId { number: to }, WireId { number: from })
+}
+
+fn sum(to: u32, left: u32, right: u32) -> Cell
+    requires to { to < 4 }
+    requires left { left < 4 }
+    requires right { right < 4 }
+    ensures fits { FitsCell 1 (8 ∷ 8 ∷ 8 ∷ 8 ∷ []) result }
+    ensures target { target result ≡ Some to }
+{
+    let left = WireId { number: left };
+    let right = WireId { number: right };
+    Cell::Bin(WireId { number: to }, Op2::Add, left, right)
+}
+
+fn register(to: u32, initial: Bits, from: u32) -> Cell
+    requires initial { length initial ≡ 8 }
+    requires to { to < 4 }
+    requires from { from < 4 }
+    ensures fits { FitsCell 1 (8 ∷ 8 ∷ 8 ∷ 8 ∷ []) result }
+    ensures target { target result ≡ Some to }
+{
+    let domain = DomId { number: 0 };
+    Cell::Reg(
+        WireId { number: to },
+        domain,
+        initial,
+        WireId { number: from },
+    )
+}
+
+// The loop that is found, if one is.
+fn loop_of(alloc: Global, flat: &Flat) -> Option<Loop>
+    requires { Sound flat.now }
+{
+    match order(alloc, flat) {
+        Ok(_order) => None,
+        Err(Or::Memory) => None,
+        Err(Or::Fault(found)) => Some(found),
+    }
 }
 
 /// A chain that stands in reverse: each cell copies what the next one drives.
@@ -61,7 +104,7 @@ fn chain(rt: HostRuntime) -> Result<(), Fail> {
     laws::cells_in_order_drive_once();
     let flat = three_cells(rt.alloc(), copy(1, 2), copy(2, 3), copy(3, 0)).expect(&rt, "a net");
     let order = order(rt.alloc(), &flat).expect(&rt, "an order");
-    assert_eq!(rt; order.cells.as_slice(), [2, 1, 0].as_slice());
+    assert!(rt; order.cells.as_slice() == [2, 1, 0].as_slice());
     Ok(())
 }
 
@@ -69,39 +112,22 @@ fn chain(rt: HostRuntime) -> Result<(), Fail> {
 #[test]
 fn loop_of_one(rt: HostRuntime) -> Result<(), Fail> {
     let flat = three_cells(rt.alloc(), copy(1, 0), copy(2, 2), copy(3, 2)).expect(&rt, "a net");
-    match order(rt.alloc(), &flat) {
-        Err(Or::Fault(found)) => {
-            let numbers = found.cycle.as_slice().iter().map(|w| w.number);
-            assert!(rt; numbers.eq([2]));
-        }
-        _ => assert!(rt; false, "a loop"),
-    }
+    let found = loop_of(rt.alloc(), &flat).expect(&rt, "a loop");
+    assert!(rt; found.cycle.as_slice() == [WireId { number: 2 }].as_slice());
     Ok(())
-}
-
-fn sum(to: u32, left: u32, right: u32) -> Cell
-    ensures { result ≡ Cell.Bin (record { number = to }) Op2.Add (record { number = left }) (record { number = right }) }
-{
-    let left = WireId { number: left };
-    Cell::Bin(
-        WireId { number: to },
-        Op2::Add,
-        left,
-        WireId { number: right },
-    )
 }
 
 /// A sum that is added to itself by way of copies.
 #[test]
 fn loop_of_three(rt: HostRuntime) -> Result<(), Fail> {
     let flat = three_cells(rt.alloc(), sum(1, 3, 0), copy(2, 1), copy(3, 2)).expect(&rt, "a net");
-    match order(rt.alloc(), &flat) {
-        Err(Or::Fault(found)) => {
-            let numbers = found.cycle.as_slice().iter().map(|w| w.number);
-            assert!(rt; numbers.eq([1, 2, 3]));
-        }
-        _ => assert!(rt; false, "a loop"),
-    }
+    let found = loop_of(rt.alloc(), &flat).expect(&rt, "a loop");
+    let [one, two, three] = [
+        WireId { number: 1 },
+        WireId { number: 2 },
+        WireId { number: 3 },
+    ];
+    assert!(rt; found.cycle.as_slice() == [one, two, three].as_slice());
     Ok(())
 }
 
@@ -109,11 +135,10 @@ fn loop_of_three(rt: HostRuntime) -> Result<(), Fail> {
 #[test]
 fn no_loop_through_a_register(rt: HostRuntime) -> Result<(), Fail> {
     let initial = Bits::of_number(rt.alloc(), 8, 0).expect(&rt, "8 bits");
-    let domain = DomId { number: 0 };
-    let register = Cell::Reg(WireId { number: 3 }, domain, initial, WireId { number: 2 });
+    let register = register(3, initial, 2);
     let flat = three_cells(rt.alloc(), sum(1, 3, 0), copy(2, 1), register).expect(&rt, "a net");
     let order = order(rt.alloc(), &flat).expect(&rt, "an order");
-    assert_eq!(rt; order.cells.as_slice(), [2, 0, 1].as_slice());
+    assert!(rt; order.cells.as_slice() == [2, 0, 1].as_slice());
     Ok(())
 }
 

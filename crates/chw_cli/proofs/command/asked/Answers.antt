@@ -12,5 +12,5 @@ returns-in-Some-clause-asks c =
     let words = two_items c.args.words.now c.index-words-0.result c.index-words-1.result (omega arith) c.index-words-0.is c.index-words-1.is in
     record {
       words_are = words ∙ ap (λ w. w ∷ c.index-words-1.result ∷ []) first ∙ ap (λ w. codes "emit" ∷ w ∷ []) second;
-      is_file = subst (λ w. IsFile w) (sym file) c.in-Some.ensures.file.1
+      is_file = subst (λ w. IsFile w) (sym file) c.in-Some.ensures.file.1;
     }

@@ -30,7 +30,7 @@ returns-in_err-order-clause-refused c =
     let is = flat_is c.args.flat.now c.args.net.now c.in_ok-wires.wires c.requires.net c.in_ok-wires.ensures.flat in
     let few = subst (λ (w : Flat). length w.widths ≤ FLAT_WIRES) is c.in_ok-wires.ensures.within in
     rw (p.1, p.2) (loop_refuses c.args.flat.now c.in_err-order.field-0.0 few
-      (subst (λ (w : Flat). OfFault c.in_err-order.field-0.0 (λ l. IsLoop w l.cycle)) is c.in_err-order.ensures.loop_))
+    (subst (λ (w : Flat). OfFault c.in_err-order.field-0.0 (λ l. IsLoop w l.cycle)) is c.in_err-order.ensures.loop_))
 
 pub returns-clause-ok : goal.returns-clause-ok
 returns-clause-ok c =
@@ -41,5 +41,5 @@ returns-clause-ok c =
     record {
       few_wires = few;
       no_loop = λ cycle l. c.an_order_excludes_loops.ensures (flat_of c.args.flat.now) c.in_ok-order.field-0.cells cycle sound order l;
-      bits = λ h fits. c.net_has_the_bits.ensures c.args.flat.now c.in_ok-order.field-0.cells h c.requires.holds few order fits
+      bits = λ h fits. c.net_has_the_bits.ensures c.args.flat.now c.in_ok-order.field-0.cells h c.requires.holds few order fits;
     }

@@ -10,23 +10,23 @@ use Rattle.chw_cli.proofs.top.top.Goals as goal
 pub returns-in-Ok-deliver-clause-outcome : goal.returns-in-Ok-deliver-clause-outcome
 returns-in-Ok-deliver-clause-outcome g c =
     answered c.in-Ok.bytes.items c.in-Ok.ensures.answers
-      (subst (λ b. WritesAll g.K.Sink.put_gives g.K.Sink.written b c.args.out.now c.deliver.new.out) c.as_slice.ensures.value c.in-Ok-deliver.ensures.all)
-      refl
+    (subst (λ b. WritesAll g.K.Sink.put_gives g.K.Sink.written b c.args.out.now c.deliver.new.out) c.as_slice.ensures.value c.in-Ok-deliver.ensures.all)
+    refl
 
 pub returns-in-Err-Fault-clause-outcome : goal.returns-in-Err-Fault-clause-outcome
 returns-in-Err-Fault-clause-outcome g c =
     unwritten c.in-Ok.bytes.items c.in-Err-Fault.field-0 c.tell.result c.in-Ok.ensures.answers
-      (subst (λ b. StopsAt g.K.Sink.put_gives g.K.Sink.written c.in-Err-Fault.field-0 b c.args.out.now c.deliver.new.out) c.as_slice.ensures.value c.in-Err-Fault.ensures.stops)
-      c.in-Err-Fault.ensures.fault
-      (subst (λ r. Told g.E.Sink.put_gives g.E.Sink.written g.E.Sink.faults r c.args.err.now c.tell.new.err c.tell.result) (ap stopped (sym c.in-Err-Fault.field-0-is)) c.tell.ensures)
+    (subst (λ b. StopsAt g.K.Sink.put_gives g.K.Sink.written c.in-Err-Fault.field-0 b c.args.out.now c.deliver.new.out) c.as_slice.ensures.value c.in-Err-Fault.ensures.stops)
+    c.in-Err-Fault.ensures.fault
+    (subst (λ r. Told g.E.Sink.put_gives g.E.Sink.written g.E.Sink.faults r c.args.err.now c.tell.new.err c.tell.result) (ap stopped (sym c.in-Err-Fault.field-0-is)) c.tell.ensures)
 
 pub returns-in-Ok-clause-outcome : goal.returns-in-Ok-clause-outcome
 returns-in-Ok-clause-outcome g c =
     unwritten c.in-Ok.bytes.items c.in-Err-Memory.field-0 c.tell-in-Err-Memory.result c.in-Ok.ensures.answers
-      (subst (λ b. StopsAt g.K.Sink.put_gives g.K.Sink.written c.in-Err-Memory.field-0 b c.args.out.now c.deliver.new.out) c.as_slice.ensures.value c.in-Err-Memory.ensures.stops)
-      c.in-Err-Memory.ensures.fault
-      (subst (λ r. Told g.E.Sink.put_gives g.E.Sink.written g.E.Sink.faults r c.args.err.now c.tell-in-Err-Memory.new.err c.tell-in-Err-Memory.result)
-        (ap stopped (sym c.in-Err-Memory.field-0-is)) c.tell-in-Err-Memory.ensures)
+    (subst (λ b. StopsAt g.K.Sink.put_gives g.K.Sink.written c.in-Err-Memory.field-0 b c.args.out.now c.deliver.new.out) c.as_slice.ensures.value c.in-Err-Memory.ensures.stops)
+    c.in-Err-Memory.ensures.fault
+    (subst (λ r. Told g.E.Sink.put_gives g.E.Sink.written g.E.Sink.faults r c.args.err.now c.tell-in-Err-Memory.new.err c.tell-in-Err-Memory.result)
+    (ap stopped (sym c.in-Err-Memory.field-0-is)) c.tell-in-Err-Memory.ensures)
 
 pub returns-clause-outcome : goal.returns-clause-outcome
 returns-clause-outcome g c = refused c.in-Err.refusal c.tell-in-Err.result c.in-Err.ensures.refuses refl c.tell-in-Err.ensures

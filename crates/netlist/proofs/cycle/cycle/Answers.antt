@@ -1,5 +1,4 @@
-use Rattle.std.proofs.Common.{◌≡◌, ◌∙◌, ◌++◌, List, map, reverse, take, drop}
-use Rattle.chw_base.specs.declared.index.WireId.{WireId}
+use Rattle.std.proofs.Common.{◌∙◌, map, reverse}
 use Rattle.netlist.proofs.Turning.{cycle_given}
 use Rattle.netlist.proofs.cycle.cycle.Goals as goal
 

@@ -1,4 +1,4 @@
-use Rattle.std.proofs.Common.{◌≡◌, ◌+◌, ◌<◌, ◌≤◌, ◌∙◌, ap, sym, set, subst, length, length-set, arith, List, ℕ, option_map, Some, None}
+use Rattle.std.proofs.Common.{◌≡◌, ◌<◌, ◌∙◌, ap, sym, set, subst, length, length-set, arith, List, ℕ, Some, None}
 use Rattle.netlist.specs.Feeds.{target_at}
 use Rattle.netlist.specs.declared.net.Cell.{Cell}
 use Rattle.netlist.proofs.Tables.{Filled, filled_all, filled_more, target_is_some, target_is_wire}

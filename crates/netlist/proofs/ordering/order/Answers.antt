@@ -1,8 +1,6 @@
-use Rattle.std.proofs.Common.{◌≡◌, ◌+◌, ◌<◌, ◌≤◌, ◌∙◌, ap, subst, length, arith, List, ℕ, Option, Some, None, below_more}
+use Rattle.std.proofs.Common.{◌≡◌, ◌∙◌, ap, length, arith, List, None, below_more}
 use Rattle.netlist.specs.Feeds.{target_at}
-use Rattle.netlist.specs.Searches.{IsSearch, visit_at}
 use Rattle.netlist.specs.declared.net.Cell.{Cell}
-use Rattle.netlist.specs.declared.search.Visit.TheVariants.{Done}
 use Rattle.netlist.proofs.Ends.{ordered}
 use Rattle.netlist.proofs.Tables.{target_is_some}
 use Rattle.netlist.proofs.ordering.order.Goals as goal

@@ -1,5 +1,4 @@
-use Rattle.std.proofs.Common.{◌≡◌, ◌++◌, length, List, [], ◌∷◌, arith}
-use Rattle.netlist.specs.declared.search.Step.{Step}
+use Rattle.std.proofs.Common.{◌≡◌, ◌++◌, length, [], ◌∷◌, arith}
 use Rattle.netlist.proofs.Searching.{begin_keeps, begin_goes}
 use Rattle.netlist.proofs.search.Search.begin.Goals as goal
 

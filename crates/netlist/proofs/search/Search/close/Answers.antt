@@ -1,4 +1,4 @@
-use Rattle.std.proofs.Common.{◌≡◌, ◌∙◌, ◌++◌, ℕ, length, List, [], ◌∷◌, arith, subst, vec_len}
+use Rattle.std.proofs.Common.{◌≡◌, ◌∙◌, ◌++◌, length, List, [], ◌∷◌, arith, subst, vec_len}
 use Rattle.netlist.specs.Searches.{IsSearch}
 use Rattle.netlist.specs.declared.search.Step.{Step}
 use Rattle.netlist.proofs.Lists.{rest_of_push}

@@ -1,6 +1,5 @@
-use Rattle.std.proofs.Common.{◌≡◌, ◌∙◌, length, map, replicate, List, rules}
+use Rattle.std.proofs.Common.{◌≡◌, length, map, replicate, rules}
 use Rattle.netlist.specs.Feeds.{awaited}
-use Rattle.netlist.specs.declared.search.Visit.{Visit}
 use Rattle.netlist.specs.declared.search.Visit.TheVariants.{Ahead}
 use Rattle.netlist.proofs.Searching.{start_knows}
 use Rattle.netlist.proofs.search.Search.new.Goals as goal

@@ -1,4 +1,4 @@
-use Rattle.std.proofs.Common.{◌≡◌, ◌-◌, length, drop, map, reverse}
+use Rattle.std.proofs.Common.{◌-◌, length}
 use Rattle.std.proofs.lemmas.List.{take_rest}
 use Rattle.netlist.proofs.Loops.{closing_cycle, may_begin}
 use Rattle.netlist.proofs.search.Search.turn.Goals as goal
