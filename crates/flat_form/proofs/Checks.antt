@@ -1,5 +1,5 @@
 -- What holds of each name.
-use Rattle.std.proofs.Common.{◌≡◌, ℕ, zero, suc, ◌<◌, true, false, IsTrue, ◌↔◌, List, [], ◌∷◌, length, get_or, Bor, arith}
+use Rattle.std.proofs.Common.{ℕ, zero, suc, ◌<◌, List, [], ◌∷◌, length, get_or, Bor, arith}
 use Rattle.std.specs.List.{AllByRecursion}
 use Rattle.flat_form.specs.Tables.{texts}
 

@@ -1,8 +1,7 @@
 -- The parts of a net, one after the other.
-use Rattle.std.proofs.Common.{◌≡◌, ℕ, zero, suc, ◌+◌, ◌<◌, ◌≤◌, List, [], ◌∷◌, ◌++◌, length, get_or, take, min, refl, sym, ap, ◌∙◌, arith, add-zero, add-one}
-use Rattle.std.proofs.lemmas.List.{take_more, length-take-le, take_all}
+use Rattle.std.proofs.Common.{◌≡◌, ℕ, zero, suc, ◌+◌, ◌<◌, ◌≤◌, List, [], ◌∷◌, ◌++◌, length, get_or, take, min, refl, sym, ap, ◌∙◌, arith, add-zero}
+use Rattle.std.proofs.lemmas.List.{take_more, length-take-le}
 use Rattle.std.specs.List.{AllByRecursion}
-use Rattle.chw_clock.specs.declared.event.Port.{Port}
 use Rattle.flat_form.specs.FlatNet.{cell_of, cells_of, input_ports, port}
 use Rattle.flat_form.specs.declared.flat.Binding.{Binding}
 use Rattle.flat_form.specs.declared.flat.Parameter.{Parameter}

@@ -1,5 +1,5 @@
 -- Names, their places, and the table that finds them.
-use Rattle.std.proofs.Common.{◌≡◌, ℕ, suc, ◌+◌, ◌<◌, ◌≤◌, Bool, true, false, not, cond, ltb, ◌||◌, List, [], ◌∷◌, ◌++◌, length, get_or, take, drop, map, Option, Some, None, Bor, refl, sym, ap, ◌∙◌, arith, subst, add-one}
+use Rattle.std.proofs.Common.{◌≡◌, ℕ, ◌+◌, ◌<◌, ◌≤◌, Bool, true, false, not, cond, ltb, ◌||◌, List, [], ◌∷◌, ◌++◌, length, get_or, take, drop, map, Option, Some, None, Bor, refl, sym, ap, ◌∙◌, arith, subst, add-one}
 use Rattle.std.specs.Prelude.{slice_get}
 use Rattle.std.specs.List.{list_any, position, position_or_len}
 use Rattle.std.specs.Str.{bytes_eq}
@@ -129,7 +129,7 @@ pub seen_again : (names keys : List (Bor (List ℕ))) (i : ℕ) (d : Bor (List �
 seen_again names keys i d added lt so_far was isnt distinct =
     let name = (get_or names i d).now in
     let seen : is_among (texts (take i names)) name ≡ true =
-        ap (λ ts. is_among ts name) (sym so_far) ∙ sym (any_text name keys) ∙ not_false (list_any (finds name) keys) (sym isnt ∙ was) in
+    ap (λ ts. is_among ts name) (sym so_far) ∙ sym (any_text name keys) ∙ not_false (list_any (finds name) keys) (sym isnt ∙ was) in
     distinct_again (texts (take i names)) name (texts (drop (i + 1) names)) seen (subst AreDistinct (texts_split names i d lt) distinct)
 
 -- a new name goes last
@@ -142,10 +142,11 @@ new_name names keys after i d added lt so_far distinct was is put =
     let absent : list_any (finds name) keys ≡ false = not_true (list_any (finds name) keys) (sym is ∙ was) in
     let put' : after ≡ keys ++ get_or names i d ∷ [] = rw absent at put in
     let more : texts (take (i + 1) names) ≡ texts (take i names) ++ name ∷ [] =
-        ap texts (take_more names i d lt) ∙ map-append _ (take i names) (get_or names i d ∷ []) in
-    let unseen : is_among (texts (take i names)) name ≡ false = ap (λ ts. is_among ts name) (sym so_far) ∙ sym (any_text name keys) ∙ absent in
-    (ap texts put' ∙ map-append _ keys (get_or names i d ∷ []) ∙ ap (λ ts. ts ++ name ∷ []) so_far ∙ sym more,
-    subst AreDistinct (sym more) (distinct_push (texts (take i names)) name distinct unseen))
+    ap texts (take_more names i d lt) ∙ map-append _ (take i names) (get_or names i d ∷ []) in
+    let unseen : is_among (texts (take i names)) name ≡ false = ap (λ ts. is_among ts name) (sym so_far) ∙ sym (any_text name keys) ∙ absent in (
+      ap texts put' ∙ map-append _ keys (get_or names i d ∷ []) ∙ ap (λ ts. ts ++ name ∷ []) so_far ∙ sym more,
+      subst AreDistinct (sym more) (distinct_push (texts (take i names)) name distinct unseen),
+    )
 
 -- what `get` and `copied` give is the element at the place
 pub read_at : (r : Option (Bor ℕ)) (xs : List ℕ) (i : ℕ) → is_some r ≡ ltb i (length xs) → IfSome r (λ x. x.now ≡ get_or xs i x.now) → option_copied r ≡ slice_get xs i

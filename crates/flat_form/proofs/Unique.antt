@@ -5,7 +5,7 @@ use Rattle.std.proofs.lemmas.Bool.{false≢true}
 use Rattle.std.proofs.lemmas.List.{append_cancel_left}
 use Rattle.std.specs.Prelude.{codes}
 use Rattle.chw_bits.specs.Bits.{number_of}
-use Rattle.flat_form.proofs.Many.{IsList, many_none, many_one}
+use Rattle.flat_form.proofs.Many.{IsList, many_none}
 use Rattle.flat_form.proofs.Numbers.{bits_by_number, number_of_lt}
 use Rattle.flat_form.specs.Grammar as grammar
 use Rattle.flat_form.specs.Signs.{Sign, lower, keyword, symbol, other}
@@ -101,7 +101,7 @@ binding_one domain x y r s h =
     let right_y = grammar.right_end domain y.width y.right in
     let e = head_one domain x.name y.name x.width y.width (right_x ++ r) (right_y ++ s) h in
     let t : grammar.right_end domain x.width x.right ++ r ≡ grammar.right_end domain x.width y.right ++ s =
-        e.2 ∙ ap (λ n. grammar.right_end domain n y.right ++ s) (sym e.1) in
+    e.2 ∙ ap (λ n. grammar.right_end domain n y.right ++ s) (sym e.1) in
     let f = right_one domain x.width x.right y.right r s t in
     (same_binding x y e.0 e.1 f.0, f.1)
 

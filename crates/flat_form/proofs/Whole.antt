@@ -1,5 +1,5 @@
 -- A whole description is read in one way.
-use Rattle.std.proofs.Common.{◌≡◌, ℕ, List, [], ◌∷◌, ◌++◌, length, refl, sym, ap, ◌∙◌, append_assoc}
+use Rattle.std.proofs.Common.{◌≡◌, ℕ, List, [], ◌∷◌, ◌++◌, refl, sym, ap, ◌∙◌, append_assoc}
 use Rattle.std.specs.Prelude.{codes}
 use Rattle.std.specs.List.{flat_map}
 use Rattle.std.proofs.lemmas.List.{append_cancel_left}
@@ -42,7 +42,7 @@ one_types d vs ws m n r s h =
     let spell = grammar.signal_then d (codes "->") in
     let last : ℕ → List Sign = grammar.signal_then d (codes "=") in
     let e = many_one spell (EndsTypes d) (types_list d) vs ws (last m ++ r) (last n ++ s) (m, r, refl) (n, s, refl)
-        (sym (append_assoc (flat_map spell vs) (last m) r) ∙ h ∙ append_assoc (flat_map spell ws) (last n) s) in
+    (sym (append_assoc (flat_map spell vs) (last m) r) ∙ h ∙ append_assoc (flat_map spell ws) (last n) s) in
     let t = types_end d m n r s e.1 in
     (e.0, t.0, t.1)
 
@@ -51,7 +51,7 @@ one_lambdas d xs ys r s h =
     let spell = grammar.lambda d in
     let last : List Sign = keyword (codes "letrec") ∷ symbol (codes "{") ∷ [] in
     let e = many_one spell EndsLambdas (lambdas_list d) xs ys (last ++ r) (last ++ s) (r, refl) (s, refl)
-        (sym (append_assoc (flat_map spell xs) last r) ∙ h ∙ append_assoc (flat_map spell ys) last s) in
+    (sym (append_assoc (flat_map spell xs) last r) ∙ h ∙ append_assoc (flat_map spell ys) last s) in
     (e.0, append_cancel_left last r s e.1)
 
 pub one_bindings : (d : List ℕ) (xs ys : List Binding) (r s : List Sign) → grammar.bindings d xs ++ r ≡ grammar.bindings d ys ++ s → (xs ≡ ys) × (r ≡ s)
@@ -59,7 +59,7 @@ one_bindings d xs ys r s h =
     let spell = grammar.binding d in
     let last : List Sign = symbol (codes "}") ∷ [] in
     let e = many_one spell EndsBindings (bindings_list d) xs ys (last ++ r) (last ++ s) (r, refl) (s, refl)
-        (sym (append_assoc (flat_map spell xs) last r) ∙ h ∙ append_assoc (flat_map spell ys) last s) in
+    (sym (append_assoc (flat_map spell xs) last r) ∙ h ∙ append_assoc (flat_map spell ys) last s) in
     (e.0, append_cancel_left last r s e.1)
 
 pub one_footing : (a b x y : List ℕ) (r s : List Sign) → grammar.footing a b ++ r ≡ grammar.footing x y ++ s → (a ≡ x) × (b ≡ y) × (r ≡ s)
@@ -73,7 +73,7 @@ one_names (x ∷ xs) (y ∷ ys) r s h =
     let first : x ≡ y = cc in
     let t : (flat_map grammar.comma_name xs ++ grammar.close) ++ r ≡ (flat_map grammar.comma_name ys ++ grammar.close) ++ s = cc in
     let e = many_one grammar.comma_name EndsNames names_list xs ys (grammar.close ++ r) (grammar.close ++ s) (r, refl) (s, refl)
-        (sym (append_assoc (flat_map grammar.comma_name xs) grammar.close r) ∙ t ∙ append_assoc (flat_map grammar.comma_name ys) grammar.close s) in
+    (sym (append_assoc (flat_map grammar.comma_name xs) grammar.close r) ∙ t ∙ append_assoc (flat_map grammar.comma_name ys) grammar.close s) in
     (ap (λ z. z ∷ xs) first ∙ ap (λ zs. y ∷ zs) e.0, append_cancel_left grammar.close r s e.1)
 
 pub one_ending : (a b : List ℕ) (r : List Sign) → grammar.ending a ++ r ≡ grammar.ending b → (a ≡ b) × (r ≡ [])

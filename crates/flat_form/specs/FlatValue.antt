@@ -1,5 +1,5 @@
 -- The bits of a name of a flat description at a history. It speaks of names, literals and sums, and knows nothing of nets.
-use Rattle.std.specs.Prelude.{◌≡◌, ℕ, ◌+◌, ◌%◌, ◌^◌, Bool, List, [], ◌∷◌, Option, Some, None, slice_get}
+use Rattle.std.specs.Prelude.{◌≡◌, ℕ, ◌+◌, ◌%◌, ◌^◌, Bool, List, ◌∷◌, Some, None, slice_get}
 use Rattle.chw_bits.specs.Bits.{bits_of, number_of}
 use Rattle.chw_clock.specs.Histories.{before}
 use Rattle.chw_clock.specs.declared.event.Event.{Event}

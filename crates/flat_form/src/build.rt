@@ -7,7 +7,7 @@ ghost use Rattle.netlist.specs.Text.{HasText};
 
 use crate::flat::{Binding, FlatText, Parameter, Right};
 use crate::owned::owned;
-use crate::table::{table_of, Table};
+use crate::table::{Table, table_of};
 use chw_base::{DomId, Name, NoMemory, Seq, WireId};
 use chw_clock::{Port, Ports};
 use netlist::{Cell, Module, Net, Op2};
@@ -21,7 +21,9 @@ impl<'f> Table<'f> {
     fn wire(&self, name: &Name) -> WireId
         ensures { result ≡ wire_of (texts self.now.names.keys) name.now }
     {
-        WireId { number: self.place(name.as_slice()) }
+        WireId {
+            number: self.place(name.as_slice()),
+        }
     }
 
     /// The cell that drives a wire.

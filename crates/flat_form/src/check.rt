@@ -8,7 +8,7 @@ ghost use Rattle.flat_form.specs.declared.flat.Binding.{Binding};
 ghost use Rattle.flat_form.specs.declared.flat.Parameter.{Parameter};
 
 use crate::flat::{Binding, FlatText, Right};
-use crate::table::{are_distinct, table_of, Table};
+use crate::table::{Table, are_distinct, table_of};
 use chw_base::NoMemory;
 use std::alloc::Global;
 

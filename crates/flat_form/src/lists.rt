@@ -8,7 +8,7 @@ ghost use Rattle.flat_form.specs.declared.flat.Parameter.{Parameter};
 ghost use Rattle.flat_form.specs.declared.flat.Right.{Right};
 
 use crate::flat::{Binding, Parameter, Right};
-use crate::mark::{follow, Mark};
+use crate::mark::{Mark, follow};
 use crate::owned::{literal_bits, owned};
 use crate::parts;
 use chw_base::{Name, NoMemory, Seq};

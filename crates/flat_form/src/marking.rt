@@ -1,22 +1,13 @@
 //! From tokens to marks.
-ghost use Rattle.std.specs.Prelude.{◌≡◌, ◌^◌, ◌<◌, length, map, slice_range, IfOk, IfSome, SomeIff};
-ghost use Rattle.chw_lexer.specs.Words.{word_of, words_of};
+ghost use Rattle.std.specs.Prelude.{◌≡◌, ◌^◌, ◌<◌, length, map, All, IfOk, IfSome, SomeIff};
+ghost use Rattle.chw_lexer.specs.Words.{LiesIn, word_of, words_of};
 ghost use Rattle.flat_form.specs.Marks.{sign, signs};
 ghost use Rattle.flat_form.specs.Signs.{decimal_value, letter_place, literal_sign, numeral_sign, sign_of, value_sign};
 
 use crate::mark::Mark;
 use chw_base::NoMemory;
-use chw_lexer::{Sort, Token};
+use chw_lexer::{Sort, Token, word};
 use std::alloc::Global;
-
-/// The bytes of a token.
-fn bytes_of(text: &[u8], token: Token) -> &[u8]
-    ensures { result.now ≡ slice_range text.now token.span.from token.span.to }
-{
-    let from = (token.span.from as usize).min(text.len());
-    let to = (token.span.to as usize).min(text.len());
-    if from < to { &text[from..to] } else { &text[..0] }
-}
 
 /// The number of decimal digits, where it is below two to 128.
 fn decimal(digits: &[u8]) -> Option<u128>
@@ -37,7 +28,11 @@ fn numeral_mark(digits: &[u8]) -> Mark<'static>
     let Some(n) = decimal(digits) else {
         return Mark::Other;
     };
-    if n <= 128 { Mark::Number(n as u32) } else { Mark::Other }
+    if n <= 128 {
+        Mark::Number(n as u32)
+    } else {
+        Mark::Other
+    }
 }
 
 /// What a literal of the letter `u` says.
@@ -50,7 +45,11 @@ fn value_mark(value: &[u8], width: &[u8]) -> Mark<'static>
     let Some(width) = decimal(width) else {
         return Mark::Other;
     };
-    if width <= 128 { Mark::Literal(value, width as u32) } else { Mark::Other }
+    if width <= 128 {
+        Mark::Literal(value, width as u32)
+    } else {
+        Mark::Other
+    }
 }
 
 /// The place of a literal's letter.
@@ -68,14 +67,19 @@ fn literal_mark(bytes: &[u8]) -> Mark<'static>
     let Some(k) = letter(bytes) else {
         return Mark::Other;
     };
-    if bytes[k] == b'u' { value_mark(&bytes[..k], &bytes[k + 1..]) } else { Mark::Other }
+    if bytes[k] == b'u' {
+        value_mark(&bytes[..k], &bytes[k + 1..])
+    } else {
+        Mark::Other
+    }
 }
 
 /// What a token says.
 fn mark_of(text: &[u8], token: Token) -> Mark<'_>
+    requires { LiesIn text.now token }
     ensures { sign result ≡ sign_of (word_of text.now token) }
 {
-    let bytes = bytes_of(text, token);
+    let bytes = word(text, token);
     match token.sort {
         Sort::Lower => Mark::Lower(bytes),
         Sort::Upper => Mark::Upper(bytes),
@@ -87,11 +91,8 @@ fn mark_of(text: &[u8], token: Token) -> Mark<'_>
 }
 
 /// What the tokens of a text say.
-pub fn marks<'a>(
-    alloc: Global,
-    text: &'a [u8],
-    tokens: &[Token],
-) -> Result<Vec<Mark<'a>>, NoMemory>
+pub fn marks<'a>(alloc: Global, text: &'a [u8], tokens: &[Token]) -> Result<Vec<Mark<'a>>, NoMemory>
+    requires { All (LiesIn text.now) tokens.now }
     ensures { IfOk result (λ v. signs v.items ≡ map sign_of (words_of text.now tokens.now)) }
 {
     let mut marks = Vec::new(alloc);

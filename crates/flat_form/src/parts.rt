@@ -5,7 +5,7 @@ ghost use Rattle.flat_form.specs.Marks.{signs};
 ghost use Rattle.flat_form.specs.Signs.{Sign};
 ghost use Rattle.flat_form.specs.declared.flat.Parameter.{Parameter};
 
-use crate::mark::{follow, literal_at, lower_at, number_at, upper_at, Mark};
+use crate::mark::{Mark, follow, literal_at, lower_at, number_at, upper_at};
 
 /// The domain, the definition, and what follows the heading.
 pub fn heading<'a>(marks: &'a [Mark<'a>]) -> Option<(&'a [u8], &'a [u8], &'a [Mark<'a>])>
@@ -141,11 +141,7 @@ pub fn register_side<'a>(
 }
 
 /// What follows `ap` and its types.
-fn applied<'a>(
-    marks: &'a [Mark<'a>],
-    domain: &'a [u8],
-    width: u32,
-) -> Option<&'a [Mark<'a>]>
+fn applied<'a>(marks: &'a [Mark<'a>], domain: &'a [u8], width: u32) -> Option<&'a [Mark<'a>]>
     ensures some { IfSome result (λ rest. signs marks.now ≡ grammar.applied domain.now width ++ signs rest.now) }
     ensures none { IfNone result ((rest : List Sign) → signs marks.now ≡ grammar.applied domain.now width ++ rest → ⊥) }
 {
@@ -168,11 +164,7 @@ fn applied<'a>(
 }
 
 /// What follows `(fmap` and its types.
-fn mapped<'a>(
-    marks: &'a [Mark<'a>],
-    domain: &'a [u8],
-    width: u32,
-) -> Option<&'a [Mark<'a>]>
+fn mapped<'a>(marks: &'a [Mark<'a>], domain: &'a [u8], width: u32) -> Option<&'a [Mark<'a>]>
     ensures some { IfSome result (λ rest. signs marks.now ≡ grammar.mapped domain.now width ++ signs rest.now) }
     ensures none { IfNone result ((rest : List Sign) → signs marks.now ≡ grammar.mapped domain.now width ++ rest → ⊥) }
 {
@@ -199,10 +191,7 @@ fn mapped<'a>(
 }
 
 /// The two names of `(addU @N) Y) Z;`, and what follows.
-fn summands<'a>(
-    marks: &'a [Mark<'a>],
-    width: u32,
-) -> Option<(&'a [u8], &'a [u8], &'a [Mark<'a>])>
+fn summands<'a>(marks: &'a [Mark<'a>], width: u32) -> Option<(&'a [u8], &'a [u8], &'a [Mark<'a>])>
     ensures some { IfSome result (λ r. signs marks.now ≡ grammar.summands width r.0.now r.1.now ++ signs r.2.now) }
     ensures none { IfNone result ((y z : List ℕ) (rest : List Sign) → signs marks.now ≡ grammar.summands width y z ++ rest → ⊥) }
 {

@@ -22,6 +22,7 @@ pub fn read(alloc: Global, text: &[u8]) -> Result<FlatText, Or<NotFlat>>
 {
     laws::one_splitting();
     laws::no_fault();
+    laws::tokens_lie_in();
     let tokens = match lex(alloc, text) {
         Ok(tokens) => tokens,
         Err(Or::Memory) => return Err(Or::Memory),

@@ -6,10 +6,9 @@ ghost use Rattle.flat_form.specs.Marks.{signs};
 ghost use Rattle.flat_form.specs.declared.flat.FlatText.{FlatText};
 
 use crate::flat::{FlatText, Parameter};
-use crate::lists;
 use crate::mark::Mark;
 use crate::owned::owned;
-use crate::parts;
+use crate::{lists, parts};
 use chw_base::{NoMemory, Seq};
 use std::alloc::Global;
 
@@ -35,10 +34,7 @@ fn are_same(a: &[u8], b: &[u8]) -> bool
 }
 
 /// The description whose words these are, if they are those of one.
-pub fn description<'a>(
-    alloc: Global,
-    marks: &'a [Mark<'a>],
-) -> Result<Option<FlatText>, NoMemory>
+pub fn description<'a>(alloc: Global, marks: &'a [Mark<'a>]) -> Result<Option<FlatText>, NoMemory>
     ensures some { IfOk result (λ read. IfSome read (λ f. signs marks.now ≡ grammar.description f)) }
     ensures none { IfOk result (λ read. IfNone read ((f : FlatText) → signs marks.now ≡ grammar.description f → ⊥)) }
 {

@@ -1,6 +1,5 @@
 use Rattle.std.proofs.Common.{◌≡◌, ◌++◌, ◌∷◌, [], ◌<◌, ◌≤◌, length, min, take, get_or, ap, sym, ◌∙◌, arith}
 use Rattle.flat_form.specs.FlatNet.{input_ports, port}
-use Rattle.flat_form.specs.declared.flat.Parameter.{Parameter}
 use Rattle.flat_form.proofs.Nets.{ports_more, ports_all}
 use Rattle.flat_form.proofs.build.input_ports.Goals as goal
 
@@ -15,7 +14,7 @@ loop-i-preserved c =
     let ln : l.i < length ns = omega (arith, c.min-count.ensures) in
     let so_far = input_ports (take l.i ps) (take l.i ns) in
     let put : c.in_ok-port.field-0 ≡ port (get_or ns l.i n) (get_or ps l.i p).width =
-        c.in_ok-port.ensures ∙ ap (λ name. port name (get_or ps l.i p).width) c.index-names-i.is in
+    c.in_ok-port.ensures ∙ ap (λ name. port name (get_or ps l.i p).width) c.index-names-i.is in
     c.in_ok-push.ensures.items ∙ ap (λ qs. qs ++ c.in_ok-port.field-0 ∷ []) l.invariant ∙ ap (λ q. so_far ++ q ∷ []) put
     ∙ sym (ports_more ps ns l.i p n lp ln)
 

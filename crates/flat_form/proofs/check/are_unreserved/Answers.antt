@@ -7,6 +7,7 @@ use Rattle.flat_form.proofs.check.are_unreserved.Goals as goal
 pub returns-then-is_reserved : goal.returns-then-is_reserved
 returns-then-is_reserved c =
     let l = c.loop-name in
-    let taken : is_among reserved (get_or c.args.names.now l.name-index _).now ≡ true = sym c.is_reserved.ensures ∙ c.if-is_reserved.true in
-    (λ e. absurd (false≢true e),
-    λ all. absurd (false≢true (sym (text_at (λ name. is_among reserved name ≡ false) c.args.names.now l.name-index _ c.loop-name-test.true all) ∙ taken)))
+    let taken : is_among reserved (get_or c.args.names.now l.name-index _).now ≡ true = sym c.is_reserved.ensures ∙ c.if-is_reserved.true in (
+      λ e. absurd (false≢true e),
+      λ all. absurd (false≢true (sym (text_at (λ name. is_among reserved name ≡ false) c.args.names.now l.name-index _ c.loop-name-test.true all) ∙ taken)),
+    )

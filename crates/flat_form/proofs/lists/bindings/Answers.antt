@@ -1,10 +1,10 @@
-use Rattle.std.proofs.Common.{◌≡◌, ℕ, List, [], ◌∷◌, ◌++◌, refl, sym, ap, ◌∙◌, append_assoc}
+use Rattle.std.proofs.Common.{List, [], ◌∷◌, ◌++◌, refl, sym, ◌∙◌, append_assoc}
 use Rattle.std.specs.Prelude.{codes}
 use Rattle.std.specs.List.{flat_map}
 use Rattle.flat_form.proofs.Many.{many_none}
 use Rattle.flat_form.proofs.Unique.{bindings_list, EndsBindings}
 use Rattle.flat_form.specs.Grammar as grammar
-use Rattle.flat_form.specs.Signs.{Sign, keyword, symbol}
+use Rattle.flat_form.specs.Signs.{Sign, symbol}
 use Rattle.flat_form.specs.Marks.{signs}
 use Rattle.flat_form.proofs.lists.bindings.Goals as goal
 

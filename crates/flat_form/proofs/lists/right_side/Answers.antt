@@ -1,7 +1,4 @@
-use Rattle.std.proofs.Common.{◌≡◌, ℕ, List, [], ◌∷◌, ◌++◌, refl, sym, ap, ◌∙◌, append_assoc}
 use Rattle.flat_form.proofs.Unique.{right_none, bits_none}
-use Rattle.flat_form.specs.Grammar as grammar
-use Rattle.flat_form.specs.Signs.{Sign}
 use Rattle.flat_form.specs.Marks.{signs}
 use Rattle.flat_form.proofs.lists.right_side.Goals as goal
 

@@ -1,6 +1,4 @@
-use Rattle.std.proofs.Common.{rules, ◌≡◌, ℕ, ◌++◌, List, ◌+◌, ◌<◌, ◌≤◌, length, [], ◌∷◌, take, drop, get_or}
-use Rattle.flat_form.specs.Marks.{sign, signs}
-use Rattle.flat_form.specs.Signs.{Sign}
+use Rattle.flat_form.specs.Marks.{signs}
 use Rattle.flat_form.proofs.Patterns.{differs}
 use Rattle.flat_form.proofs.mark.follow.Goals as goal
 

@@ -1,5 +1,5 @@
-use Rattle.std.proofs.Common.{◌≡◌, length, ap, ◌∙◌}
-use Rattle.chw_bits.specs.Bits.{number_of, bits_of}
+use Rattle.std.proofs.Common.{length, ap, ◌∙◌}
+use Rattle.chw_bits.specs.Bits.{number_of}
 use Rattle.flat_form.proofs.Numbers.{number_of_fits, length-bits_of}
 use Rattle.flat_form.proofs.owned.literal_bits.Goals as goal
 

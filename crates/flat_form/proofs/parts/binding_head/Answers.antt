@@ -1,7 +1,5 @@
-use Rattle.std.proofs.Common.{◌≡◌, List, ◌++◌, [], ◌∷◌, Some, slice_get, ap, sym, ◌∙◌}
-use Rattle.flat_form.specs.Grammar as grammar
-use Rattle.flat_form.specs.Marks.{signs}
-use Rattle.flat_form.specs.Signs.{Sign, upper, lower, number, literal}
+use Rattle.std.proofs.Common.{◌≡◌, Some, slice_get, ap, sym, ◌∙◌}
+use Rattle.flat_form.specs.Signs.{lower, number}
 use Rattle.flat_form.proofs.parts.binding_head.Goals as goal
 
 pub returns-in_err-name-clause-none : goal.returns-in_err-name-clause-none

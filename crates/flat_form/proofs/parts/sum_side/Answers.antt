@@ -1,8 +1,7 @@
-use Rattle.std.proofs.Common.{◌≡◌, List, ◌++◌, [], ◌∷◌, ap, sym, ◌∙◌}
+use Rattle.std.proofs.Common.{◌++◌, sym, ◌∙◌}
 use Rattle.std.proofs.lemmas.List.{append_cancel_left}
 use Rattle.flat_form.specs.Grammar as grammar
 use Rattle.flat_form.specs.Marks.{signs}
-use Rattle.flat_form.specs.Signs.{Sign}
 use Rattle.flat_form.proofs.parts.sum_side.Goals as goal
 
 pub returns-in_err-rest-clause-none : goal.returns-in_err-rest-clause-none

@@ -1,4 +1,4 @@
-use Rattle.std.proofs.Common.{◌≡◌, sym, ap, map, ◌∙◌}
+use Rattle.std.proofs.Common.{sym, ap, map, ◌∙◌}
 use Rattle.chw_lexer.specs.Words.{words_of}
 use Rattle.flat_form.proofs.Whole as whole
 use Rattle.flat_form.specs.Signs.{sign_of}

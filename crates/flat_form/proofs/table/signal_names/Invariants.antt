@@ -1,7 +1,6 @@
 use Rattle.std.proofs.Common.{◌≡◌, ◌++◌, map, take}
 use Rattle.flat_form.specs.Holds.{names_of, signal_of}
 use Rattle.flat_form.specs.Tables.{texts}
-use Rattle.flat_form.specs.declared.flat.Parameter.{Parameter}
 use Rattle.flat_form.proofs.table.signal_names.Given as goal
 
 abbrev pub invariant-loop-parameter : goal.invariant-loop-parameter

@@ -1,7 +1,7 @@
-use Rattle.std.proofs.Common.{◌≡◌, ◌++◌, ◌∷◌, [], List, ℕ, length, true, false, IsTrue, refl, ap, sym, ◌∙◌, arith}
+use Rattle.std.proofs.Common.{◌≡◌, ◌++◌, [], length, ap, sym, ◌∙◌}
 use Rattle.std.proofs.lemmas.Bool.{false≢true, eq-eqb, eqb-true}
 use Rattle.std.proofs.lemmas.List.{length-map, nil_from_length}
-use Rattle.flat_form.proofs.Whole.{after_footing, after_bindings, after_lambdas, after_types, after_heading, one_heading, one_types, one_lambdas, one_bindings, one_footing, one_names, one_ending, assembled}
+use Rattle.flat_form.proofs.Whole.{after_footing, after_bindings, after_lambdas, after_types, one_heading, one_types, one_lambdas, one_bindings, one_footing, one_names, one_ending, assembled}
 use Rattle.flat_form.specs.Grammar as grammar
 use Rattle.flat_form.specs.Holds.{widths_of}
 use Rattle.flat_form.specs.Marks.{signs}
@@ -26,7 +26,7 @@ returns-then-not-are_of-clause-none c = λ f h.
     let read2 = rw c.in-Some-3.is at c.in_ok-parameters.ensures.some in
     let a2 = one_lambdas d c.in-Some-3.parameters.items f.parameters (signs c.in-Some-3.rest.now) (after_lambdas d f) (sym read2 ∙ a1.2) in
     let same : c.deref.result.now ≡ widths_of c.deref-2.result.now =
-        c.deref.ensures.value ∙ a1.0 ∙ ap widths_of (sym a2.0) ∙ ap widths_of (sym c.deref-2.ensures.value) in
+    c.deref.ensures.value ∙ a1.0 ∙ ap widths_of (sym a2.0) ∙ ap widths_of (sym c.deref-2.ensures.value) in
     absurd (false≢true (sym c.if-not-are_of.true ∙ c.are_of.ensures.1 same))
 
 pub returns-in_default-4-clause-none : goal.returns-in_default-4-clause-none
@@ -144,7 +144,7 @@ returns-clause-some c =
     let definition : g ≡ f.definition = sym c.in_ok-owned-2.ensures in
     let named : b.named.now ≡ f.definition = c.are_same.ensures.0 c.if-not-are_same.false ∙ definition in
     let agree : widths ≡ widths_of f.parameters =
-        sym c.deref.ensures.value ∙ c.are_of.ensures.0 c.if-not-are_of.false ∙ ap widths_of (c.deref-2.ensures.value ∙ sym c.from.ensures) in
+    sym c.deref.ensures.value ∙ c.are_of.ensures.0 c.if-not-are_of.false ∙ ap widths_of (c.deref-2.ensures.value ∙ sym c.from.ensures) in
     let read1 : r1 ≡ grammar.types d widths n ++ r2 = rw c.in-Some-2.is at c.in_ok-widths.ensures.some in
     let read2 : r2 ≡ grammar.lambdas d c.in-Some-3.parameters.items ++ r3 = rw c.in-Some-3.is at c.in_ok-parameters.ensures.some in
     let read3 : r3 ≡ grammar.bindings d c.in-Some-4.bindings.items ++ r4 = rw c.in-Some-4.is at c.in_ok-bindings.ensures.some in
