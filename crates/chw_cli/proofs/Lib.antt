@@ -1,4 +1,5 @@
 pub mod Emitting
+pub mod Exactly
 pub mod Fetching
 pub mod Progress
 pub mod Telling

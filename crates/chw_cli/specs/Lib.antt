@@ -2,6 +2,7 @@ pub mod Answer
 pub mod Asks
 pub mod Commands
 pub mod Delivery
+pub mod Exact
 pub mod Lines
 pub mod Outcome
 pub mod Refusals

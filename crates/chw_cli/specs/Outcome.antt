@@ -1,5 +1,5 @@
 -- How a run of the program ends.
-use Rattle.std.specs.Prelude.{◌≡◌, ℕ, List, Option, Result, Ok, Err, ◌⊎◌}
+use Rattle.std.specs.Prelude.{◌≡◌, ℕ, List, Option, Some, Result, Ok, Err, ◌⊎◌}
 use Rattle.std.specs.Option.{ForSome}
 use Rattle.chw_base.specs.Files.{Files}
 use Rattle.chw_base.specs.Outcome.{OfFault}
@@ -23,6 +23,8 @@ pub record AnswersBy (told : Option Files) (words : List (List ℕ)) (answer : R
   pub files : Files
   pub held : ForSome told (λ files'. files' ≡ files)
   pub answers : Answer words files answer
+  -- that a file isn't held is only said where the files are told
+  pub absent_told : (file : List ℕ) → answer ≡ Err (refusal.Read file) → told ≡ Some files
 
 -- the refusal of a file that couldn't be read, or of the memory for its name
 abbrev pub IsUnread : List ℕ → Refusal → Type 0

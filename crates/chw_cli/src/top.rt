@@ -2,6 +2,7 @@
 ghost use Rattle.std.specs.Prelude.{◌≡◌};
 ghost use Rattle.chw_base.specs.Faults.{Rose};
 ghost use Rattle.chw_cli.specs.Delivery.{WritesAll, StopsAt};
+ghost use Rattle.chw_cli.specs.Exact.{IsExact};
 ghost use Rattle.chw_cli.specs.Outcome.{Outcome, Told, FetchesOnce};
 
 use crate::answer::answer;
@@ -10,6 +11,7 @@ use crate::refusal::Refusal;
 use crate::status::Status;
 use crate::tell::tell;
 use chw_base::{Name, Or, Shelf, Sink};
+use flat_form::one_description;
 use std::alloc::Global;
 
 /// Does what the words ask for: reads the file from the shelf, and writes the answer to `out`, or one line to `err`.
@@ -29,8 +31,10 @@ pub fn top<F: Shelf, K: Sink, E: Sink>(
         (λ answer bytes. StopsAt K.put_gives K.written answer bytes out.old out.new)
         (λ refusal status. Told E.put_gives E.written E.faults refusal err.old err.new status)
         result }
+    ensures exact { IsExact (F.told shelf.old) words.now (Rose (F.faults shelf.old) (F.faults shelf.new)) (Rose (K.faults out.old) (K.faults out.new)) result }
     ensures fetches { FetchesOnce F.fetch_gives words.now shelf.old shelf.new }
 {
+    one_description();
     match answer(alloc, words, shelf) {
         Ok(bytes) => match deliver(alloc, bytes.as_slice(), out) {
             Ok(()) => Status::Ok,

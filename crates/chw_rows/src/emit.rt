@@ -119,3 +119,36 @@ fn longer_text_is_refused(rt: HostRuntime) -> Result<(), Fail> {
     );
     Ok(())
 }
+
+const LOOP_OF_ONE: &str =
+    "domain Sys; def main : Signal Sys (Unsigned 8) = letrec { x : Signal Sys (Unsigned 8) = x; } in x; top main () (o);";
+
+const LOOP_OF_THREE: &str =
+    "domain Sys; def main : Signal Sys (Unsigned 8) = letrec { a : Signal Sys (Unsigned 8) = ap @Sys @(Unsigned 8) @(Unsigned 8) (fmap @Sys @(Unsigned 8) @(Unsigned 8 -> Unsigned 8) (addU @8) b) b; b : Signal Sys (Unsigned 8) = c; c : Signal Sys (Unsigned 8) = a; } in a; top main () (o);";
+
+const THREE_THROUGH_A_REGISTER: &str =
+    "domain Sys; def main : Signal Sys (Unsigned 8) = letrec { a : Signal Sys (Unsigned 8) = ap @Sys @(Unsigned 8) @(Unsigned 8) (fmap @Sys @(Unsigned 8) @(Unsigned 8 -> Unsigned 8) (addU @8) b) b; b : Signal Sys (Unsigned 8) = c; c : Signal Sys (Unsigned 8) = register @Sys @(Unsigned 8) 0u8 a; } in a; top main () (o);";
+
+const THREE_THROUGH_A_REGISTER_TEXT: &str =
+    "module chw_top (input clk_Sys, output [7:0] o_Sys_o);\n  wire [7:0] w0;\n  wire [7:0] w1;\n  reg [7:0] w2 = 8'h00;\n  assign w0 = w1 + w1;\n  assign w1 = w2;\n  always @(posedge clk_Sys) w2 <= w0;\n  assign o_Sys_o = w0;\nendmodule\n";
+
+#[test]
+fn loops_are_refused(rt: HostRuntime) -> Result<(), Fail> {
+    let rows = [
+        (LOOP_OF_ONE, "chw: E16 loop 0\n"),
+        (LOOP_OF_THREE, "chw: E16 loop 0 2 1\n"),
+    ];
+    for (text, line) in rows {
+        let ran = run(rt.alloc(), EMIT, &Given::file("a.chw", text.as_bytes()))?;
+        expect(&rt, &ran, Status::Refused, "", line);
+    }
+    Ok(())
+}
+
+#[test]
+fn circle_through_a_register_is_no_loop(rt: HostRuntime) -> Result<(), Fail> {
+    let given = Given::file("a.chw", THREE_THROUGH_A_REGISTER.as_bytes());
+    let ran = run(rt.alloc(), EMIT, &given)?;
+    expect(&rt, &ran, Status::Ok, THREE_THROUGH_A_REGISTER_TEXT, "");
+    Ok(())
+}

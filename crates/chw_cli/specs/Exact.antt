@@ -1,0 +1,36 @@
+-- What each status comes from, and when it comes.
+use Rattle.std.specs.Prelude.{◌≡◌, ◌≤◌, ℕ, List, length, Option, Some, None, ◌⊎◌, IsSomeAnd}
+use Rattle.chw_base.specs.Files.{Files, file_of}
+use Rattle.chw_base.specs.declared.limits.TheConstants.{DESCRIPTION_BYTES}
+use Rattle.chw_cli.specs.Answer.{HasFewWires, HasNoLoop}
+use Rattle.chw_cli.specs.Commands.{AreNoCommand, IsEmit}
+use Rattle.chw_cli.specs.declared.status.Status.{Status}
+use Rattle.chw_cli.specs.declared.status.Status.TheVariants as status
+use Rattle.flat_form.specs.Grammar.{IsFlatText}
+use Rattle.flat_form.specs.declared.flat.FlatText.{FlatText}
+
+-- the status is this one, or memory was wanting
+abbrev pub Ends : Status → Status → Type 0
+Ends wanted s = (s ≡ wanted) ⊎ (s ≡ status.Memory)
+
+-- a status that some command has so far
+abbrev pub IsUsed : Status → Type 0
+IsUsed status.Spent = ⊥
+IsUsed status.Stimulus = ⊥
+IsUsed status.Verilog = ⊥
+IsUsed _ = Unit {0}
+
+-- by the files where they are told, the words, and whether the faults of the shelf and of `out` rose
+pub record IsExact (told : Option Files) (words : List (List ℕ)) (ShelfRose OutRose : Type 0) (s : Status) : Type 0 where
+  -- the words are refused exactly where they are no command
+  pub words_wrong : s ≡ status.Words → AreNoCommand words
+  pub wrong_words : AreNoCommand words → Ends status.Words s
+  -- the read is refused only where the file isn't held or the shelf's faults rose, and always where it isn't held
+  pub unread : s ≡ status.Read → (file : List ℕ) × IsEmit words file × (IsSomeAnd told (λ files. file_of files file ≡ None) ⊎ ShelfRose)
+  pub absent : (files : Files) (file : List ℕ) → told ≡ Some files → IsEmit words file → file_of files file ≡ None → Ends status.Read s
+  -- the write is refused only where the faults of `out` rose
+  pub unwritten : s ≡ status.Write → OutRose
+  pub used : IsUsed s
+  -- a flat text within the limits, without a loop, is emitted where no fault rose
+  pub complete : (files : Files) (file text : List ℕ) (f : FlatText) → told ≡ Some files → IsEmit words file → file_of files file ≡ Some text
+    → length text ≤ DESCRIPTION_BYTES → IsFlatText text f → HasFewWires f → HasNoLoop f → (ShelfRose → ⊥) → (OutRose → ⊥) → Ends status.Ok s
