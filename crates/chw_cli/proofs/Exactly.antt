@@ -1,6 +1,6 @@
 -- How a run ends says why it ended so.
-use Rattle.std.proofs.Common.{◌≡◌, ℕ, ◌<◌, ◌≤◌, List, [], ◌∷◌, length, Option, Some, None, Result, Ok, Err, ◌⊎◌, inl, inr, refl, ap, sym, subst, ◌∙◌, arith}
-use Rattle.std.specs.Option.{ForSome, IsSomeAnd}
+use Rattle.std.proofs.Common.{◌≡◌, ℕ, ◌≤◌, List, length, Option, Some, None, Result, Ok, Err, ◌⊎◌, inl, inr, refl, ap, sym, subst, ◌∙◌, arith}
+use Rattle.std.specs.Option.{IsSomeAnd}
 use Rattle.chw_base.specs.Files.{Files, file_of}
 use Rattle.chw_base.specs.Outcome.{OfFault}
 use Rattle.chw_base.specs.declared.limits.TheConstants.{DESCRIPTION_BYTES, FLAT_WIRES}
@@ -36,7 +36,7 @@ OneDescription = (text : List ℕ) (f g : FlatText) → IsFlatText text f → Is
 
 -- a flat text that can be emitted is
 text_is_emitted : (text : List ℕ) (f : FlatText) (answer : Result (List ℕ) Refusal) → OneDescription → IsFlatText text f → HasFewWires f → HasNoLoop f
-  → EmitAnswer text answer → (bytes : List ℕ) × (answer ≡ Ok bytes)
+    → EmitAnswer text answer → (bytes : List ℕ) × (answer ≡ Ok bytes)
 text_is_emitted text f _ one is few no_loop (form h) = absurd (h f is)
 text_is_emitted text f _ one is few no_loop (too_large g is' big) =
     let same = one text f g is is' in let many = subst (λ d. length (flat_of d).widths ≤ FLAT_WIRES) same few in absurd (omega arith)
@@ -45,8 +45,8 @@ text_is_emitted text f _ one is few no_loop (loops g cycle is' few' l) =
 text_is_emitted text f _ one is few no_loop (emitted g is' can) = (_, refl)
 
 file_is_emitted : (words : List (List ℕ)) (files : Files) (file text : List ℕ) (f : FlatText) (answer : Result (List ℕ) Refusal) → OneDescription
-  → IsEmit words file → file_of files file ≡ Some text → length text ≤ DESCRIPTION_BYTES → IsFlatText text f → HasFewWires f → HasNoLoop f
-  → Answer words files answer → (bytes : List ℕ) × (answer ≡ Ok bytes)
+    → IsEmit words file → file_of files file ≡ Some text → length text ≤ DESCRIPTION_BYTES → IsFlatText text f → HasFewWires f → HasNoLoop f
+    → Answer words files answer → (bytes : List ℕ) × (answer ≡ Ok bytes)
 file_is_emitted words files file text f _ one e held le is few no_loop (no_command h) = absurd (h file e)
 file_is_emitted words files file text f _ one e held le is few no_loop (absent other e' none) =
     let same = ap (file_of files) (one_file words file other e e') in absurd (cc)
@@ -60,7 +60,7 @@ file_is_emitted words files file text f answer one e held le is few no_loop (emi
 
 -- an answer by the files that are told
 by_told : (told : Option Files) (words : List (List ℕ)) (files : Files) (answer : Result (List ℕ) Refusal) → told ≡ Some files → AnswersBy told words answer
-  → Answer words files answer
+    → Answer words files answer
 by_told told words files answer e a = subst (λ fs. Answer words fs answer) (sym (a.held files e)) a.answers
 
 -- what the refusals of wrong words and of reads are by
@@ -106,11 +106,11 @@ cause words files r a = only refl a
 
 -- an answer that isn't a refusal is by a file that is held
 emits_held : (words : List (List ℕ)) (files : Files) (bytes : List ℕ) → Answer words files (Ok bytes)
-  → (file : List ℕ) × (text : List ℕ) × IsEmit words file × (file_of files file ≡ Some text)
+    → (file : List ℕ) × (text : List ℕ) × IsEmit words file × (file_of files file ≡ Some text)
 emits_held words files bytes a = only refl a
   where
     only : {answer : Result (List ℕ) Refusal} → answer ≡ Ok bytes → Answer words files answer
-      → (file : List ℕ) × (text : List ℕ) × IsEmit words file × (file_of files file ≡ Some text)
+        → (file : List ℕ) × (text : List ℕ) × IsEmit words file × (file_of files file ≡ Some text)
     only e (no_command h) = absurd (cc)
     only e (absent file is none) = absurd (cc)
     only e (long_text file text is held lt) = absurd (cc)
@@ -124,7 +124,7 @@ pub data Reason (told : Option Files) (words : List (List ℕ)) (ShelfRose OutRo
   memory : s ≡ status.Memory → Reason told words ShelfRose OutRose s
 
 module _ (told : Option Files) (words : List (List ℕ)) (ShelfRose OutRose OutSame ErrSame : Type 0) (All : List ℕ → Type 0) (Part : Or SinkFault → List ℕ → Type 0)
-  (Tells : Refusal → Status → Type 0) (tells : (r : Refusal) (s : Status) → Tells r s → Ends (status_of r) s) where
+    (Tells : Refusal → Status → Type 0) (tells : (r : Refusal) (s : Status) → Tells r s → Ends (status_of r) s) where
   pub reason : (s : Status) → Outcome told words ShelfRose OutRose OutSame ErrSame All Part Tells s → Reason told words ShelfRose OutRose s
   reason _ (answered bytes a all same) = ok bytes a refl
   reason s (refused r _ why same t) = ended (tells r s t)
@@ -168,7 +168,7 @@ module _ (told : Option Files) (words : List (List ℕ)) (ShelfRose OutRose : Ty
   wrong_words (memory e) wrong = inr e
 
   unread : Reason told words ShelfRose OutRose s → s ≡ status.Read
-    → (file : List ℕ) × IsEmit words file × (IsSomeAnd told (λ files. file_of files file ≡ None) ⊎ ShelfRose)
+      → (file : List ℕ) × IsEmit words file × (IsSomeAnd told (λ files. file_of files file ≡ None) ⊎ ShelfRose)
   unread (ok bytes a e) is = absurd (cc)
   unread (refusal_ _ for_memory e) is = absurd (cc)
   unread (refusal_ _ (for_fault file h rose) e) is = (file, h, inr rose)
@@ -184,7 +184,7 @@ module _ (told : Option Files) (words : List (List ℕ)) (ShelfRose OutRose : Ty
   unread (memory e) is = absurd (cc)
 
   absent_ends : Reason told words ShelfRose OutRose s → (files : Files) (file : List ℕ) → told ≡ Some files → IsEmit words file → file_of files file ≡ None
-    → Ends status.Read s
+      → Ends status.Read s
   absent_ends (ok bytes a e) files file t h none =
       let held = emits_held words a.files bytes a.answers in
       let same : files ≡ a.files = a.held files t in
@@ -235,8 +235,8 @@ module _ (told : Option Files) (words : List (List ℕ)) (ShelfRose OutRose : Ty
   used (memory e) = subst IsUsed (sym e) tt
 
   complete : Reason told words ShelfRose OutRose s → (files : Files) (file text : List ℕ) (f : FlatText) → told ≡ Some files → IsEmit words file
-    → file_of files file ≡ Some text → length text ≤ DESCRIPTION_BYTES → IsFlatText text f → HasFewWires f → HasNoLoop f → (ShelfRose → ⊥) → (OutRose → ⊥)
-    → Ends status.Ok s
+      → file_of files file ≡ Some text → length text ≤ DESCRIPTION_BYTES → IsFlatText text f → HasFewWires f → HasNoLoop f → (ShelfRose → ⊥) → (OutRose → ⊥)
+      → Ends status.Ok s
   complete (ok bytes a e) files file text f t h held le is few no_loop shelf out = inl e
   complete (refusal_ _ for_memory e) files file text f t h held le is few no_loop shelf out = inr e
   complete (refusal_ _ (for_fault other h' rose) e) files file text f t h held le is few no_loop shelf out = absurd (shelf rose)
@@ -254,11 +254,11 @@ module _ (told : Option Files) (words : List (List ℕ)) (ShelfRose OutRose : Ty
     absent = absent_ends r;
     unwritten = unwritten_ends r;
     used = used r;
-    complete = complete r
+    complete = complete r;
   }
 
 -- a refusal that was told ends with its status
 pub told_ends : {S : Type 0} (gives : S → List ℕ → Result (Unit {0}) (Or SinkFault) → S → Type 0) (written : S → Option (List ℕ)) (faults : S → ℕ) (s t : S)
-  (r : Refusal) (end : Status) → Told gives written faults r s t end → Ends (status_of r) end
+    (r : Refusal) (end : Status) → Told gives written faults r s t end → Ends (status_of r) end
 told_ends gives written faults s t r _ (was_told line) = inl refl
 told_ends gives written faults s t r _ (was_untold nothing) = inr refl

@@ -1,8 +1,7 @@
 -- What follows from one fetch.
-use Rattle.std.proofs.Common.{◌≡◌, ℕ, ◌<◌, ◌≤◌, List, [], ◌∷◌, length, Bool, true, false, Option, Some, None, Result, Ok, Err, refl, ap, sym, subst, ◌∙◌, ◌⊎◌, inl, inr, if◌then◌else◌, eq-eqb, IfOk, IfErr, Vec, Global}
-use Rattle.std.specs.Option.{ForSome, IsSomeAnd}
+use Rattle.std.proofs.Common.{◌≡◌, ℕ, ◌<◌, ◌≤◌, List, [], ◌∷◌, length, true, Option, Some, None, Result, Ok, Err, refl, ap, sym, subst, inl, inr, if◌then◌else◌, eq-eqb, IfOk, IfErr, Vec, Global}
+use Rattle.std.specs.Option.{IsSomeAnd}
 use Rattle.std.specs.Str.{bytes_eq}
-use Rattle.chw_base.specs.Faults.{Rose}
 use Rattle.chw_base.specs.Files.{Files, file_of}
 use Rattle.chw_base.specs.Reading.{HoldsIfTold}
 use Rattle.chw_base.specs.declared.limits.TheConstants.{DESCRIPTION_BYTES}
@@ -26,13 +25,13 @@ one_file file bytes = ap (λ b. if b then Some bytes else None) (same_bytes file
 
 -- files that hold these bytes under the name, and are those held where these are told
 pub by_held : (told : Option Files) (words : List (List ℕ)) (file bytes : List ℕ) (answer : Result (List ℕ) Refusal) → HoldsIfTold told file bytes
-  → ((name : List ℕ) → answer ≡ Err (refusal.Read name) → ⊥)
-  → ((files : Files) → file_of files file ≡ Some bytes → Answer words files answer) → AnswersBy told words answer
+    → ((name : List ℕ) → answer ≡ Err (refusal.Read name) → ⊥)
+    → ((files : Files) → file_of files file ≡ Some bytes → Answer words files answer) → AnswersBy told words answer
 by_held None words file bytes answer h never f = record {
   files = (file, bytes) ∷ [];
   held = λ files e. absurd (cc);
   answers = f ((file, bytes) ∷ []) (one_file file bytes);
-  absent_told = λ name e. absurd (never name e)
+  absent_told = λ name e. absurd (never name e);
 }
 by_held (Some files) words file bytes answer h never f =
     record { files = files; held = λ files' e. cc; answers = f files (h files refl); absent_told = λ name e. refl }

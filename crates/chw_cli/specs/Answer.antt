@@ -1,5 +1,5 @@
 -- What the program answers to words, by the files that are held: bytes for `out`, or a refusal. It has a case for each command.
-use Rattle.std.specs.Prelude.{◌≡◌, ℕ, ◌<◌, ◌≤◌, List, length, Option, Some, None, Result, Ok, Err}
+use Rattle.std.specs.Prelude.{◌≡◌, ℕ, ◌<◌, ◌≤◌, List, length, Some, None, Result, Ok, Err}
 use Rattle.chw_base.specs.Files.{Files, file_of}
 use Rattle.chw_base.specs.declared.limits.TheConstants.{DESCRIPTION_BYTES, FLAT_WIRES}
 use Rattle.chw_base.specs.declared.index.WireId.{WireId}

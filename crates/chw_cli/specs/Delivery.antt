@@ -1,6 +1,6 @@
 -- How an answer is written: in pieces, one call of `put` for each. `gives` is what a call of `put` may do, `written` the bytes that a
 -- sink tells.
-use Rattle.std.specs.Prelude.{◌≡◌, ◌≢◌, ℕ, zero, suc, ◌+◌, ◌*◌, ◌/◌, ◌-◌, ◌<◌, List, [], length, take, drop, Option, Result, Ok, Err, ◌⊎◌}
+use Rattle.std.specs.Prelude.{◌≡◌, ◌≢◌, ℕ, zero, suc, ◌+◌, ◌*◌, ◌/◌, ◌-◌, ◌<◌, List, length, take, drop, Option, Result, Ok, Err}
 use Rattle.chw_base.specs.Writing.{GrewBy, Writes}
 use Rattle.chw_base.specs.declared.limits.TheConstants.{PIECE_BYTES}
 use Rattle.chw_base.specs.declared.outcome.Or.{Or}

@@ -33,4 +33,4 @@ pub record IsExact (told : Option Files) (words : List (List ℕ)) (ShelfRose Ou
   pub used : IsUsed s
   -- a flat text within the limits, without a loop, is emitted where no fault rose
   pub complete : (files : Files) (file text : List ℕ) (f : FlatText) → told ≡ Some files → IsEmit words file → file_of files file ≡ Some text
-    → length text ≤ DESCRIPTION_BYTES → IsFlatText text f → HasFewWires f → HasNoLoop f → (ShelfRose → ⊥) → (OutRose → ⊥) → Ends status.Ok s
+      → length text ≤ DESCRIPTION_BYTES → IsFlatText text f → HasFewWires f → HasNoLoop f → (ShelfRose → ⊥) → (OutRose → ⊥) → Ends status.Ok s

@@ -6,7 +6,7 @@ use Rattle.netlist.specs.declared.net.Cell.{Cell}
 
 -- each cell is that of the binding of its place
 pub cell_at : (names : List (List ℕ)) (k : ℕ) (bs : List Binding) (i : ℕ) (cell : Cell) → slice_get (cells_of names k bs) i ≡ Some cell
-  → (b : Binding) × (slice_get bs i ≡ Some b) × (cell ≡ cell_of names (k + i) b.right)
+    → (b : Binding) × (slice_get bs i ≡ Some b) × (cell ≡ cell_of names (k + i) b.right)
 cell_at names k [] i cell e = absurd (cc)
 cell_at names k (b ∷ bs) zero cell e = (b, refl, (let is : cell_of names k b.right ≡ cell = cc in let n : k ≡ k + 0 = omega arith in sym is ∙ ap (λ n. cell_of names n b.right) n))
 cell_at names k (b ∷ bs) (suc i) cell e =
@@ -16,7 +16,7 @@ cell_at names k (b ∷ bs) (suc i) cell e =
 
 -- each binding has its cell
 pub binding_at : (names : List (List ℕ)) (k : ℕ) (bs : List Binding) (i : ℕ) (b : Binding) → slice_get bs i ≡ Some b
-  → slice_get (cells_of names k bs) i ≡ Some (cell_of names (k + i) b.right)
+    → slice_get (cells_of names k bs) i ≡ Some (cell_of names (k + i) b.right)
 binding_at names k [] i b e = absurd (cc)
 binding_at names k (a ∷ bs) zero b e = let is : a ≡ b = cc in let n : k ≡ k + 0 = omega arith in ap (λ b. Some (cell_of names k b.right)) is ∙ ap (λ n. Some (cell_of names n b.right)) n
 binding_at names k (a ∷ bs) (suc i) b e =

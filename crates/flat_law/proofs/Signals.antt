@@ -23,9 +23,9 @@ next s ss k name width h =
     record { signal = h.signal; at = sym (ap (slice_get (s ∷ ss)) e) ∙ h.at; name_is = h.name_is; width_is = h.width_is }
 
 by_test : (s : Parameter) (ss : List Parameter) (name : List ℕ) (width : ℕ) (b : Bool) → bytes_eq name s.name ≡ b
-  → (width_of ss name ≡ Some width → Stands ss (place_of (names_of ss) name) name width)
-  → (if b then Some s.width else width_of ss name) ≡ Some width
-  → Stands (s ∷ ss) (if b then 0 else place_of (names_of ss) name + 1) name width
+    → (width_of ss name ≡ Some width → Stands ss (place_of (names_of ss) name) name width)
+    → (if b then Some s.width else width_of ss name) ≡ Some width
+    → Stands (s ∷ ss) (if b then 0 else place_of (names_of ss) name + 1) name width
 by_test s ss name width true e rest w =
     record { signal = s; at = refl; name_is = sym ((bytes_eq-Decides name s.name).0 e); width_is = cc }
 by_test s ss name width false e rest w = next s ss (place_of (names_of ss) name) name width (rest w)

@@ -28,7 +28,7 @@ ports_count (p ∷ ps) [] e = absurd (omega (arith, e))
 ports_count (p ∷ ps) (name ∷ names) e = let more = ports_count ps names (omega arith) in omega arith
 
 ports_widths : (ps : List Parameter) (names : List (List ℕ)) → length names ≡ length ps
-  → map (λ (q : Port). q.width) (input_ports ps names) ≡ map (λ (p : Parameter). p.width) ps
+    → map (λ (q : Port). q.width) (input_ports ps names) ≡ map (λ (p : Parameter). p.width) ps
 ports_widths [] names e = refl
 ports_widths (p ∷ ps) [] e = absurd (omega (arith, e))
 ports_widths (p ∷ ps) (name ∷ names) e = ap (λ ws. p.width ∷ ws) (ports_widths ps names (omega arith))
@@ -39,14 +39,14 @@ first_widths (p ∷ ps) bs = ap (λ ws. p.width ∷ ws) (first_widths ps bs)
 
 -- the wire of a name that is a signal of this width has this width
 reads_width : (f : FlatText) (y : List ℕ) (n : ℕ) → width_of (signals f) y ≡ Some n
-  → HasWidth (widths_of_signals f) (wire_of (names_of (signals f)) y) n
+    → HasWidth (widths_of_signals f) (wire_of (names_of (signals f)) y) n
 reads_width f y n w =
     let s = stands (signals f) y n w in
     width_at f (place_of (names_of (signals f)) y) s.signal s.at ∙ ap Some s.width_is
 
 -- the cell of a binding fits
 fits : (f : FlatText) (k : ℕ) (n : ℕ) (right : Right) → n ≤ 128 → HasWidth (widths_of_signals f) (wire k) n → Reads (signals f) n right
-  → FitsCell 1 (widths_of_signals f) (cell_of (names_of (signals f)) k right)
+    → FitsCell 1 (widths_of_signals f) (cell_of (names_of (signals f)) k right)
 fits f k n (Same y) le width reads = (n, width, reads_width f y n reads)
 fits f k n (Register bits y) le width reads =
     (omega arith, width ∙ ap Some (sym reads.0), reads_width f y n reads.1 ∙ ap Some (sym reads.0))
@@ -60,9 +60,9 @@ valued names k (Sum y z) = tt
 -- what stands at a place that drives a wire
 cell_there : (cells : List Cell) (place w : ℕ) → target_at cells place ≡ Some w → (cell : Cell) × (slice_get cells place ≡ Some cell) × (target cell ≡ Some w)
 cell_there cells place w t = elim (slice_get_cases cells place).1 [
-    inl x ↦ (x.0, x.2, sym (ap (option_and_then target) x.2) ∙ t)
+  | inl x ↦ (x.0, x.2, sym (ap (option_and_then target) x.2) ∙ t)
   | inr e ↦ absurd (let n : None ≡ Some w = sym (ap (option_and_then target) e.1) ∙ t in cc)
-  ]
+]
 
 -- a cell drives the wire of its place
 drives : (names : List (List ℕ)) (k : ℕ) (right : Right) → target (cell_of names k right) ≡ Some k
@@ -82,13 +82,15 @@ module _ (f : FlatText) (holds : Holds f) (few : length (signals f) ≤ FLAT_WIR
 
   -- the cell of a place, and the binding that it is for
   pub there : (place w : ℕ) → target_at (flat_of f).cells place ≡ Some w
-    → (b : Binding) × (slice_get f.bindings place ≡ Some b) × (w ≡ length f.parameters + place)
+      → (b : Binding) × (slice_get f.bindings place ≡ Some b) × (w ≡ length f.parameters + place)
   there place w t =
       let c = cell_there (flat_of f).cells place w t in
-      let b = cell_at names (length f.parameters) f.bindings place c.0 c.1 in
-      (b.0, b.1,
+      let b = cell_at names (length f.parameters) f.bindings place c.0 c.1 in (
+        b.0,
+        b.1,
         (let d : target (cell_of names (length f.parameters + place) b.0.right) ≡ Some w = sym (ap target b.2) ∙ c.2 in
-         let e : Some (length f.parameters + place) ≡ Some w = sym (drives names (length f.parameters + place) b.0.right) ∙ d in cc))
+            let e : Some (length f.parameters + place) ≡ Some w = sym (drives names (length f.parameters + place) b.0.right) ∙ d in cc),
+      )
 
   fits_place : (k : ℕ) (cell : Cell) → slice_get (flat_of f).cells k ≡ Some cell → FitsCell 1 (widths_of_signals f) cell
   fits_place k cell e =
@@ -117,9 +119,10 @@ module _ (f : FlatText) (holds : Holds f) (few : length (signals f) ≤ FLAT_WIR
       let within : w - length f.parameters < length f.bindings = omega (arith, signal_count, length_mapped (λ (p : Parameter). p.width) (signals f)) in
       let b = get_exists f.bindings (w - length f.parameters) within in
       let cell = binding_at names (length f.parameters) f.bindings (w - length f.parameters) b.0 b.1 in
-      let is : length f.parameters + (w - length f.parameters) ≡ w = omega arith in
-      (w - length f.parameters,
-        ap (option_and_then target) cell ∙ drives names (length f.parameters + (w - length f.parameters)) b.0.right ∙ ap Some is)
+      let is : length f.parameters + (w - length f.parameters) ≡ w = omega arith in (
+        w - length f.parameters,
+        ap (option_and_then target) cell ∙ drives names (length f.parameters + (w - length f.parameters)) b.0.right ∙ ap Some is,
+      )
 
   pub net_sound : Sound (flat_of f)
   net_sound =
@@ -128,12 +131,12 @@ module _ (f : FlatText) (holds : Holds f) (few : length (signals f) ≤ FLAT_WIR
         few = omega (arith, length_mapped (λ (p : Parameter). p.width) (signals f));
         widths = all_from_get (λ n. (1 ≤ n) × (n ≤ 4096)) (widths_of_signals f) bounded;
         inputs = ports_widths f.parameters f.inputs holds.inputs
-          ∙ sym (first_widths f.parameters (map signal_of f.bindings)) ∙ ap (λ n. take n (widths_of_signals f)) (sym count);
+            ∙ sym (first_widths f.parameters (map signal_of f.bindings)) ∙ ap (λ n. take n (widths_of_signals f)) (sym count);
         outputs = ap (λ v. v ∷ []) (reads_width f f.body f.width holds.signals_hold.body);
         cells = all_from_get (FitsCell 1 (widths_of_signals f)) (flat_of f).cells fits_place;
         drivers = record {
           free = λ place w t. let b = there place w t in omega (arith, b.2, count);
           driven = λ w le lt. driven_wire w (omega (arith, count)) lt;
-          once = λ p q w s t. let a = there p w s in let b = there q w t in omega (arith, a.2, b.2)
-        }
+          once = λ p q w s t. let a = there p w s in let b = there q w t in omega (arith, a.2, b.2);
+        };
       }

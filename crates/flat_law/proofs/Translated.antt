@@ -55,7 +55,7 @@ module _ (f : FlatText) (holds : Holds f) where
         place = has.0;
         binds = b.1;
         cell_is = b.2;
-        reads = recursion_at (λ (b : Binding). Reads (signals f) b.width b.right) f.bindings has.0 b.0 holds.signals_hold.rights b.1
+        reads = recursion_at (λ (b : Binding). Reads (signals f) b.width b.right) f.bindings has.0 b.0 holds.signals_hold.rights b.1;
       }
 
   -- the binding of a right side is named so
@@ -65,51 +65,51 @@ module _ (f : FlatText) (holds : Holds f) where
       let same : slice_get names (length f.parameters + place) ≡ Some name = sym (ap (slice_get names) is) ∙ n in cc
 
   binds_as : (place : ℕ) (b : Binding) (name : List ℕ) (right : Right) → slice_get f.bindings place ≡ Some b → b.name ≡ name → b.right ≡ right
-    → Binds f (record { name = name; width = b.width; right = right })
+      → Binds f (record { name = name; width = b.width; right = right })
   binds_as place b name right e n r = (place, e ∙ ap Some (λ i. record { name = n i; width = b.width; right = r i }))
 
   copied : (x a : WireId) (h : List Event) (bits : List Bool) (name : List ℕ) (b : Binding) (place : ℕ) (right : Right)
-    → slice_get f.bindings place ≡ Some b → b.right ≡ right → Copy x a ≡ cell_of names (length f.parameters + place) right → Reads (signals f) b.width right
-    → Names x.number name → ((y : List ℕ) → Names a.number y → FlatValue f h y bits) → FlatValue f h name bits
+      → slice_get f.bindings place ≡ Some b → b.right ≡ right → Copy x a ≡ cell_of names (length f.parameters + place) right → Reads (signals f) b.width right
+      → Names x.number name → ((y : List ℕ) → Names a.number y → FlatValue f h y bits) → FlatValue f h name bits
   copied x a h bits name b place (Same y) e r is reads n rest =
       let wx : x.number ≡ length f.parameters + place = cc in
       let wa : a.number ≡ (wire_of names y).number = cc in
       meant_same name y b.width h bits (binds_as place b name (Same y) e (named place x.number b name e wx n) r)
-        (rest y (ap (slice_get names) wa ∙ reads_name y b.width reads))
+      (rest y (ap (slice_get names) wa ∙ reads_name y b.width reads))
   copied x a h bits name b place (Register initial y) e r is reads n rest = absurd (cc)
   copied x a h bits name b place (Sum y z) e r is reads n rest = absurd (cc)
 
   initial_bits : (x a : WireId) (d : DomId) (initial : List Bool) (h : List Event) (name : List ℕ) (b : Binding) (place : ℕ) (right : Right)
-    → slice_get f.bindings place ≡ Some b → b.right ≡ right → Reg x d initial a ≡ cell_of names (length f.parameters + place) right
-    → Names x.number name → before h d ≡ None → FlatValue f h name initial
+      → slice_get f.bindings place ≡ Some b → b.right ≡ right → Reg x d initial a ≡ cell_of names (length f.parameters + place) right
+      → Names x.number name → before h d ≡ None → FlatValue f h name initial
   initial_bits x a d initial h name b place (Register bits y) e r is n none =
       let wx : x.number ≡ length f.parameters + place = cc in
       let same : bits ≡ initial = cc in
       let clock : d ≡ domain = cc in
       subst (λ v. FlatValue f h name v) same
-        (meant_first name y b.width h bits (binds_as place b name (Register bits y) e (named place x.number b name e wx n) r)
-          (sym (ap (before h) clock) ∙ none))
+      (meant_first name y b.width h bits (binds_as place b name (Register bits y) e (named place x.number b name e wx n) r)
+      (sym (ap (before h) clock) ∙ none))
   initial_bits x a d initial h name b place (Same y) e r is n none = absurd (cc)
   initial_bits x a d initial h name b place (Sum y z) e r is n none = absurd (cc)
 
   moved : (x a : WireId) (d : DomId) (initial bits : List Bool) (h past : List Event) (name : List ℕ) (b : Binding) (place : ℕ) (right : Right)
-    → slice_get f.bindings place ≡ Some b → b.right ≡ right → Reg x d initial a ≡ cell_of names (length f.parameters + place) right
-    → Reads (signals f) b.width right → Names x.number name → before h d ≡ Some past
-    → ((y : List ℕ) → Names a.number y → FlatValue f past y bits) → FlatValue f h name bits
+      → slice_get f.bindings place ≡ Some b → b.right ≡ right → Reg x d initial a ≡ cell_of names (length f.parameters + place) right
+      → Reads (signals f) b.width right → Names x.number name → before h d ≡ Some past
+      → ((y : List ℕ) → Names a.number y → FlatValue f past y bits) → FlatValue f h name bits
   moved x a d initial bits h past name b place (Register begins y) e r is reads n tick rest =
       let wx : x.number ≡ length f.parameters + place = cc in
       let wa : a.number ≡ (wire_of names y).number = cc in
       let clock : d ≡ domain = cc in
       meant_later name y b.width h past begins bits (binds_as place b name (Register begins y) e (named place x.number b name e wx n) r)
-        (sym (ap (before h) clock) ∙ tick) (rest y (ap (slice_get names) wa ∙ reads_name y b.width reads.1))
+      (sym (ap (before h) clock) ∙ tick) (rest y (ap (slice_get names) wa ∙ reads_name y b.width reads.1))
   moved x a d initial bits h past name b place (Same y) e r is reads n tick rest = absurd (cc)
   moved x a d initial bits h past name b place (Sum y z) e r is reads n tick rest = absurd (cc)
 
   added : (x a c : WireId) (n : ℕ) (h : List Event) (u v : List Bool) (name : List ℕ) (b : Binding) (place : ℕ) (right : Right)
-    → slice_get f.bindings place ≡ Some b → b.right ≡ right → Bin x Add a c ≡ cell_of names (length f.parameters + place) right
-    → Reads (signals f) b.width right → slice_get (widths_of_signals f) x.number ≡ Some n → Names x.number name
-    → ((y : List ℕ) → Names a.number y → FlatValue f h y u) → ((z : List ℕ) → Names c.number z → FlatValue f h z v)
-    → FlatValue f h name (bits_of n ((number_of u + number_of v) % 2 ^ n))
+      → slice_get f.bindings place ≡ Some b → b.right ≡ right → Bin x Add a c ≡ cell_of names (length f.parameters + place) right
+      → Reads (signals f) b.width right → slice_get (widths_of_signals f) x.number ≡ Some n → Names x.number name
+      → ((y : List ℕ) → Names a.number y → FlatValue f h y u) → ((z : List ℕ) → Names c.number z → FlatValue f h z v)
+      → FlatValue f h name (bits_of n ((number_of u + number_of v) % 2 ^ n))
   added x a c n h u v name b place (Sum y z) e r is reads width at left right =
       let wx : x.number ≡ length f.parameters + place = cc in
       let wa : a.number ≡ (wire_of names y).number = cc in
@@ -117,14 +117,14 @@ module _ (f : FlatText) (holds : Holds f) where
       let own = width_at f (length f.parameters + place) (signal_of b) (binding_signal f place b e) in
       let wide : b.width ≡ n = (let s : slice_get (widths_of_signals f) (length f.parameters + place) ≡ Some n = sym (ap (slice_get (widths_of_signals f)) wx) ∙ width in cc) in
       subst (λ n. FlatValue f h name (bits_of n ((number_of u + number_of v) % 2 ^ n))) wide
-        (meant_sum name y z b.width h u v (binds_as place b name (Sum y z) e (named place x.number b name e wx at) r)
-          (left y (ap (slice_get names) wa ∙ reads_name y b.width reads.0)) (right z (ap (slice_get names) wc ∙ reads_name z b.width reads.1)))
+      (meant_sum name y z b.width h u v (binds_as place b name (Sum y z) e (named place x.number b name e wx at) r)
+      (left y (ap (slice_get names) wa ∙ reads_name y b.width reads.0)) (right z (ap (slice_get names) wc ∙ reads_name z b.width reads.1)))
   added x a c n h u v name b place (Same y) e r is reads width at left right = absurd (cc)
   added x a c n h u v name b place (Register bits y) e r is reads width at left right = absurd (cc)
 
   -- a parameter's bits
   given : (w : ℕ) (present : Event) (past : List Event) (bits : List Bool) (name : List ℕ) → w < length f.parameters → slice_get present.inputs w ≡ Some bits
-    → Names w name → FlatValue f (present ∷ past) name bits
+      → Names w name → FlatValue f (present ∷ past) name bits
   given w present past bits name lt e n =
       let p = get_exists f.parameters w lt in
       let at = get_mapped (λ (p : Parameter). p.name) (signals f) w p.0 (parameter_signal f w p.0 p.1) in
@@ -146,4 +146,4 @@ module _ (f : FlatText) (holds : Holds f) where
   translated _ _ _ (sum x a c k h u v has e s t) name n =
       let b = bound_to x.number (Bin x Add a c) has in
       added x a c k h u v name b.binding b.place b.binding.right b.binds refl b.cell_is b.reads e n
-        (λ y m. translated h a.number u s y m) (λ z m. translated h c.number v t z m)
+      (λ y m. translated h a.number u s y m) (λ z m. translated h c.number v t z m)

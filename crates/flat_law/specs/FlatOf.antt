@@ -14,7 +14,7 @@ flat_of f = record {
   ports = (net_of f).ports;
   widths = (module_of f).widths;
   outputs = (module_of f).outputs;
-  cells = (module_of f).cells
+  cells = (module_of f).cells;
 }
 
 -- the wire of the result's name has, at this history, bits that the name has

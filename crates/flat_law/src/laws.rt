@@ -9,15 +9,17 @@ ghost use Rattle.flat_law.specs.FlatOf.{flat_of, SameBits};
 ghost use Rattle.netlist.specs.Orders.{IsOrder};
 ghost use Rattle.netlist.specs.Sound.{Sound};
 
+use netlist::laws::every_wire_has_a_value;
+
 /// The net of a flat description, with no more wires than the limit, is sound.
 pub fn net_is_sound()
     ensures { (f : FlatText) → Holds f → length (flat_of f).widths ≤ FLAT_WIRES → Sound (flat_of f) }
-{
-}
+{}
 
 /// Where the net of a flat description has an order, its output has at each history of its ports the bits of the result's name.
 pub fn net_has_the_bits()
     ensures { (f : FlatText) (places : List ℕ) (h : List Event) → Holds f → length (flat_of f).widths ≤ FLAT_WIRES → IsOrder (flat_of f) places
         → FitsPorts (flat_of f).ports h → SameBits f h }
 {
+    every_wire_has_a_value();
 }

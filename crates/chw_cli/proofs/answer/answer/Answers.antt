@@ -1,5 +1,3 @@
-use Rattle.std.proofs.Common.{Err, Option, Some, None, List, ℕ, []}
-use Rattle.std.specs.Option.{ForSome}
 use Rattle.chw_cli.specs.Outcome.FetchesOnce.{uncalled}
 use Rattle.chw_cli.proofs.Fetching.{refuses_words}
 use Rattle.chw_cli.proofs.answer.answer.Goals as goal

@@ -1,4 +1,3 @@
-use Rattle.std.proofs.Common.{◌≡◌, Ok, Err, subst, sym, Result}
 use Rattle.chw_cli.proofs.Fetching.{emits_ok, emits_err}
 use Rattle.chw_cli.proofs.answer.emit_answer.Goals as goal
 

@@ -1,4 +1,4 @@
-use Rattle.std.proofs.Common.{◌≡◌, ℕ, List, [], ◌∷◌, length, rules, codes, sym, ◌∙◌, subst, ap, arith}
+use Rattle.std.proofs.Common.{◌≡◌, [], ◌∷◌, rules, codes, sym, ◌∙◌, subst, ap, arith}
 use Rattle.chw_cli.specs.Commands.{IsFile}
 use Rattle.chw_cli.proofs.Words.{two_items}
 use Rattle.chw_cli.proofs.command.asked.Goals as goal

@@ -1,7 +1,7 @@
-use Rattle.std.proofs.Common.{◌≡◌, ◌≢◌, length, min, take, drop, arith, rules, sym, subst, Ok, Err, List, ℕ}
+use Rattle.std.proofs.Common.{◌≡◌, ◌≢◌, length, min, take, drop, rules, sym, subst, Ok, Err}
 use Rattle.std.proofs.lemmas.Result.{err_from_is_err_and}
 use Rattle.chw_base.specs.Writing.{Writes}
-use Rattle.chw_cli.proofs.Progress.{Progress, begins, goes_on, ends, stops}
+use Rattle.chw_cli.proofs.Progress.{Progress, begins, goes_on, stops}
 use Rattle.chw_cli.proofs.deliver.deliver.Goals as goal
 
 pub loop-rest-init : goal.loop-rest-init

@@ -1,8 +1,7 @@
-use Rattle.std.proofs.Common.{◌≡◌, ◌≤◌, length, refl, ap, sym, subst, ◌∙◌}
+use Rattle.std.proofs.Common.{◌≤◌, length, sym, subst}
 use Rattle.std.proofs.lemmas.Result.{err_from_is_err_and}
 use Rattle.chw_base.specs.Outcome.{OfFault}
 use Rattle.chw_base.specs.declared.limits.TheConstants.{FLAT_WIRES}
-use Rattle.chw_cli.specs.Answer.{HasFewWires}
 use Rattle.chw_cli.proofs.Emitting.{flat_is, loop_refuses, net_is_plain, too_large_refuses}
 use Rattle.flat_law.specs.FlatOf.{flat_of}
 use Rattle.netlist.specs.Orders.{IsLoop, IsOrder}

@@ -2,7 +2,6 @@ use Rattle.std.proofs.Common.{◌≡◌, ap, sym, subst, ◌∙◌, Ok}
 use Rattle.std.proofs.lemmas.Result.{err_from_is_err_and}
 use Rattle.chw_cli.specs.Answer.{EmitAnswer}
 use Rattle.chw_cli.specs.Answer.EmitAnswer.{emitted}
-use Rattle.chw_cli.specs.Refusals.{RefusesText}
 use Rattle.chw_cli.proofs.Emitting.{form_refuses, net_refuses_text}
 use Rattle.flat_form.specs.FlatNet.{net_of}
 use Rattle.netlist.specs.Text.{net_text}

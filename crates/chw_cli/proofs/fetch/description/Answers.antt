@@ -1,4 +1,4 @@
-use Rattle.std.proofs.Common.{Ok, Err, ap, subst}
+use Rattle.std.proofs.Common.{Ok, Err, subst}
 use Rattle.chw_base.specs.Reading.{Fetches}
 use Rattle.chw_base.specs.declared.limits.TheConstants.{DESCRIPTION_BYTES}
 use Rattle.chw_cli.specs.Outcome.FetchesOnce.{fetched}

@@ -1,6 +1,4 @@
-use Rattle.std.proofs.Common.{Ok, Err, ap, subst}
-use Rattle.chw_base.specs.Writing.{Writes}
-use Rattle.chw_base.specs.declared.outcome.Or.TheVariants.{Memory, Fault}
+use Rattle.std.proofs.Common.{Ok, Err, subst}
 use Rattle.chw_cli.specs.Delivery.TellsNothing.{failed}
 use Rattle.chw_cli.specs.Telling.Puts.{put, no_memory}
 use Rattle.chw_cli.proofs.tell.put_bytes.Goals as goal

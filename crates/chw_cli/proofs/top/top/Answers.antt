@@ -1,7 +1,4 @@
-use Rattle.std.proofs.Common.{refl, Ok, Err, subst, sym, ap}
-use Rattle.chw_base.specs.Faults.{Rose}
-use Rattle.chw_base.specs.Outcome.{OfFault}
-use Rattle.chw_base.specs.declared.outcome.Or.TheVariants.{Memory, Fault}
+use Rattle.std.proofs.Common.{refl, subst, sym, ap}
 use Rattle.chw_cli.specs.Delivery.{StopsAt, WritesAll}
 use Rattle.chw_cli.specs.Outcome.{Told, stopped}
 use Rattle.chw_cli.specs.Outcome.Outcome.{answered, refused, unwritten}
@@ -35,19 +32,19 @@ returns-clause-outcome g c = refused c.in-Err.refusal c.tell-in-Err.result c.in-
 pub returns-in-Ok-deliver-clause-exact : goal.returns-in-Ok-deliver-clause-exact
 returns-in-Ok-deliver-clause-exact g c =
     exact_by _ _ _ _ c.one_description.ensures _
-      (reason _ _ _ _ _ _ _ _ _ (told_ends g.E.Sink.put_gives g.E.Sink.written g.E.Sink.faults c.args.err.now c.args.err.now) _ (returns-in-Ok-deliver-clause-outcome g c))
+    (reason _ _ _ _ _ _ _ _ _ (told_ends g.E.Sink.put_gives g.E.Sink.written g.E.Sink.faults c.args.err.now c.args.err.now) _ (returns-in-Ok-deliver-clause-outcome g c))
 
 pub returns-in-Err-Fault-clause-exact : goal.returns-in-Err-Fault-clause-exact
 returns-in-Err-Fault-clause-exact g c =
     exact_by _ _ _ _ c.one_description.ensures _
-      (reason _ _ _ _ _ _ _ _ _ (told_ends g.E.Sink.put_gives g.E.Sink.written g.E.Sink.faults c.args.err.now c.tell.new.err) _ (returns-in-Err-Fault-clause-outcome g c))
+    (reason _ _ _ _ _ _ _ _ _ (told_ends g.E.Sink.put_gives g.E.Sink.written g.E.Sink.faults c.args.err.now c.tell.new.err) _ (returns-in-Err-Fault-clause-outcome g c))
 
 pub returns-in-Ok-clause-exact : goal.returns-in-Ok-clause-exact
 returns-in-Ok-clause-exact g c =
     exact_by _ _ _ _ c.one_description.ensures _
-      (reason _ _ _ _ _ _ _ _ _ (told_ends g.E.Sink.put_gives g.E.Sink.written g.E.Sink.faults c.args.err.now c.tell-in-Err-Memory.new.err) _ (returns-in-Ok-clause-outcome g c))
+    (reason _ _ _ _ _ _ _ _ _ (told_ends g.E.Sink.put_gives g.E.Sink.written g.E.Sink.faults c.args.err.now c.tell-in-Err-Memory.new.err) _ (returns-in-Ok-clause-outcome g c))
 
 pub returns-clause-exact : goal.returns-clause-exact
 returns-clause-exact g c =
     exact_by _ _ _ _ c.one_description.ensures _
-      (reason _ _ _ _ _ _ _ _ _ (told_ends g.E.Sink.put_gives g.E.Sink.written g.E.Sink.faults c.args.err.now c.tell-in-Err.new.err) _ (returns-clause-outcome g c))
+    (reason _ _ _ _ _ _ _ _ _ (told_ends g.E.Sink.put_gives g.E.Sink.written g.E.Sink.faults c.args.err.now c.tell-in-Err.new.err) _ (returns-clause-outcome g c))

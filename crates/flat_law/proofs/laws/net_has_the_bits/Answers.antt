@@ -5,7 +5,6 @@ use Rattle.flat_law.specs.FlatOf.{flat_of}
 use Rattle.flat_law.proofs.Signals.{widths_of_signals, width_at, stands}
 use Rattle.flat_law.proofs.SoundNet.{few_signals, net_sound, all_valued}
 use Rattle.flat_law.proofs.Translated.{reads_name, translated}
-use Rattle.netlist.proofs.Values.{every_value}
 use Rattle.flat_law.proofs.laws.net_has_the_bits.Goals as goal
 
 pub returns : goal.returns
@@ -13,5 +12,5 @@ returns c = λ f places h holds few order fits.
     let w = place_of (names_of (signals f)) f.body in
     let s = stands (signals f) f.body f.width holds.signals_hold.body in
     let lt = slice_get_within (widths_of_signals f) w s.signal.width (width_at f w s.signal s.at) in
-    let v = every_value (flat_of f) places (net_sound f holds (few_signals f few)) order (all_valued f holds (few_signals f few)) h fits w lt in
+    let v = c.every_wire_has_a_value.ensures (flat_of f) places h w (net_sound f holds (few_signals f few)) order (all_valued f holds (few_signals f few)) fits lt in
     record { bits = v.bits; meant = translated f holds h w v.bits v.value f.body (reads_name f holds f.body f.width holds.signals_hold.body); shown = v.value }
