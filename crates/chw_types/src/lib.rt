@@ -1,0 +1,11 @@
+//! Kinds and types of descriptions, and the types of the primitives. Contracts see a type as a plain tree, and all later promises about
+//! types are made over these trees.
+#![tactic(auto)]
+
+pub mod declarations;
+pub mod kind;
+pub mod ty;
+
+pub use declarations::{ConDecl, Data};
+pub use kind::{Kind, Scalar};
+pub use ty::{Ty, TyNode};
