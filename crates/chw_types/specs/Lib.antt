@@ -1,3 +1,6 @@
+pub mod KindFound
+pub mod Kinds
+pub mod Scopes
 pub mod TypeCode
 pub mod TypeFalls
 pub mod TypeSize

@@ -4,8 +4,11 @@
 
 pub mod declarations;
 pub mod kind;
+pub mod kinding;
+mod scope;
 pub mod ty;
 
 pub use declarations::{ConDecl, Data};
 pub use kind::{Kind, Scalar};
+pub use kinding::{KindFault, kind_of};
 pub use ty::{Ty, TyNode};

@@ -1,0 +1,2 @@
+pub mod KindsFound
+pub mod KindsInLists
