@@ -1,2 +1,3 @@
 pub mod KindsFound
 pub mod KindsInLists
+pub mod TypeLaws

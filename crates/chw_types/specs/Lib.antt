@@ -3,6 +3,7 @@ pub mod Kinds
 pub mod Scopes
 pub mod TypeCode
 pub mod TypeFalls
+pub mod TypeMoves
 pub mod TypeSize
 pub mod TypeTree
 pub mod TypeView
