@@ -1,3 +1,4 @@
 pub mod KindsFound
 pub mod KindsInLists
 pub mod TypeLaws
+pub mod TypeMoved

@@ -1,7 +1,7 @@
 -- Laws of renaming and of putting types.
 use Rattle.std.proofs.Common.{◌≡◌, ℕ, suc, zero, ◌+◌, refl, sym, ap, ◌∙◌, arith}
 use Rattle.chw_types.specs.TypeTree.{TypeTree, ty_var, nat_lit, nat_sum, nat_product, domain, scalar, vector, data_of, fun, signal, for_all, TypeTrees, no_types, type_and}
-use Rattle.chw_types.specs.TypeMoves.{Renaming, lift, lift_by, rename, rename_all, Substitution, up, up_by, sub, sub_all, raised, shift, one, put_at, put}
+use Rattle.chw_types.specs.TypeMoves.{Renaming, lift, lift_by, rename, rename_all, Substitution, up, up_by, sub, sub_all, raised, shift, put_at}
 
 -- functions that agree everywhere are equal
 pub same : {A : Type 0} (σ τ : ℕ → A) → ((x : ℕ) → σ x ≡ τ x) → σ ≡ τ

@@ -5,10 +5,12 @@
 pub mod declarations;
 pub mod kind;
 pub mod kinding;
+pub mod moves;
 mod scope;
 pub mod ty;
 
 pub use declarations::{ConDecl, Data};
 pub use kind::{Kind, Scalar};
 pub use kinding::{KindFault, kind_of};
+pub use moves::{put_type, shift_type};
 pub use ty::{Ty, TyNode};
