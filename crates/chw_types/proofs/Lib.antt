@@ -1,4 +1,5 @@
 pub mod KindsFound
 pub mod KindsInLists
+pub mod KindsKept
 pub mod TypeLaws
 pub mod TypeMoved

@@ -1,7 +1,7 @@
 -- Laws of renaming and of putting types.
 use Rattle.std.proofs.Common.{◌≡◌, ℕ, suc, zero, ◌+◌, refl, sym, ap, ◌∙◌, arith}
 use Rattle.chw_types.specs.TypeTree.{TypeTree, ty_var, nat_lit, nat_sum, nat_product, domain, scalar, vector, data_of, fun, signal, for_all, TypeTrees, no_types, type_and}
-use Rattle.chw_types.specs.TypeMoves.{Renaming, lift, lift_by, rename, rename_all, Substitution, up, up_by, sub, sub_all, raised, shift, put_at}
+use Rattle.chw_types.specs.TypeMoves.{Renaming, lift, lift_by, rename, rename_all, Substitution, up, up_by, sub, sub_all, raised, shift, one, put_at, put}
 
 -- functions that agree everywhere are equal
 pub same : {A : Type 0} (σ τ : ℕ → A) → ((x : ℕ) → σ x ≡ τ x) → σ ≡ τ
@@ -197,3 +197,50 @@ shift_put_at (suc c) d by a (suc x) = rename_rename (put_at c a x) suc (lift (li
 pub lifted : (n c by : ℕ) → lift_by n (raised c by) ≡ raised (c + n) by
 lifted zero c by = let e : c ≡ c + 0 = omega arith in ap (λ c. raised c by) e
 lifted (suc n) c by = let e : suc (c + n) ≡ c + suc n = omega arith in ap lift (lifted n c by) ∙ ap (λ c. raised c by) e
+
+-- shifting after putting is putting after shifting
+pub shift_put : (t a : TypeTree) (c d by : ℕ) → rename (put t c a) (lift_by c (raised d by)) ≡ put (rename t (lift_by c (lift (raised d by)))) c (shift a d by)
+shift_put t a c d by =
+    sub_rename t (put_at c a) (lift_by c (raised d by))
+    ∙ ap (sub t) (same _ _ (shift_put_at c d by a))
+    ∙ sym (rename_sub t (lift_by c (lift (raised d by))) (put_at c (shift a d by)))
+
+-- a variable that a shift made room for, at the variables
+put_shift_at : (c : ℕ) (a : TypeTree) (x : ℕ) → put_at c a (raised c 1 x) ≡ ty_var x
+unfolding put_at up_by up rename
+put_shift_at zero a x = let e : x + 1 ≡ suc x = omega arith in ap (one a) e
+put_shift_at (suc c) a zero = refl
+put_shift_at (suc c) a (suc x) = ap (λ e. rename e suc) (put_shift_at c a x)
+
+pub put_shift : (t a : TypeTree) (c : ℕ) → put (shift t c 1) c a ≡ t
+put_shift t a c = rename_sub t (raised c 1) (put_at c a) ∙ ap (sub t) (same _ _ (put_shift_at c a)) ∙ sub_ids t
+
+-- the order of two puttings, at the variables
+put_put_at : (c d : ℕ) (a b : TypeTree) (x : ℕ) → sub (put_at c a x) (up_by c (put_at d b)) ≡ sub (up_by c (put_at (suc d) b) x) (put_at c (put a d b))
+unfolding put_at up_by up sub rename
+put_put_at zero d a b zero = refl
+put_put_at zero d a b (suc x) = sym (sub_shift (up_by d (one b) x) (put a d b))
+  where
+    sub_shift : (t e : TypeTree) → sub (rename t suc) (one e) ≡ t
+    sub_shift t e = rename_sub t suc (one e) ∙ sub_ids t
+put_put_at (suc c) d a b zero = refl
+put_put_at (suc c) d a b (suc x) =
+    rename_sub (put_at c a x) suc (up (up_by c (put_at d b)))
+    ∙ sym (sub_rename (put_at c a x) (up_by c (put_at d b)) suc)
+    ∙ ap (λ e. rename e suc) (put_put_at c d a b x)
+    ∙ sub_rename (up_by c (put_at (suc d) b) x) (put_at c (put a d b)) suc
+    ∙ sym (rename_sub (up_by c (put_at (suc d) b) x) suc (up (put_at c (put a d b))))
+
+up_by_put : (n c : ℕ) (a : TypeTree) → up_by n (put_at c a) ≡ put_at (c + n) a
+unfolding put_at up_by
+up_by_put zero c a = let e : c ≡ c + 0 = omega arith in ap (λ c. put_at c a) e
+up_by_put (suc n) c a = let e : suc (c + n) ≡ c + suc n = omega arith in ap up (up_by_put n c a) ∙ ap (λ c. put_at c a) e
+
+pub put_put : (t a b : TypeTree) (c d : ℕ) → put (put t c a) (d + c) b ≡ put (put t (d + 1 + c) b) c (put a d b)
+put_put t a b c d =
+    let e : suc d ≡ d + 1 = omega arith in
+    ap (sub (put t c a)) (sym (up_by_put c d b))
+    ∙ sub_sub t (put_at c a) (up_by c (put_at d b))
+    ∙ ap (sub t) (same _ _ (put_put_at c d a b))
+    ∙ sym (sub_sub t (up_by c (put_at (suc d) b)) (put_at c (put a d b)))
+    ∙ ap (λ σ. sub (sub t σ) (put_at c (put a d b))) (up_by_put c (suc d) b ∙ ap (λ n. put_at (n + c) b) e)

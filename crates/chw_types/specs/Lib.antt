@@ -4,6 +4,7 @@ pub mod Scopes
 pub mod TypeCode
 pub mod TypeFalls
 pub mod TypeMoves
+pub mod TypePromises
 pub mod TypeSize
 pub mod TypeTree
 pub mod TypeView

@@ -5,6 +5,7 @@
 pub mod declarations;
 pub mod kind;
 pub mod kinding;
+pub mod laws;
 pub mod moves;
 mod scope;
 pub mod ty;

@@ -31,6 +31,19 @@ fn raise(number: u32, by: u32) -> Result<u32, NoMemory>
     number.checked_add(by).ok_or(NoMemory)
 }
 
+// A variable, raised if it stands at or above `from`.
+#[tactic(auto, unfolding(crate::specs::TypeMoves::rename), using(crate::proofs::TypeMoved::raised_below, crate::proofs::TypeMoved::raised_above))]
+fn shift_var(x: TyIx, from: u32, by: u32) -> Result<Ty, NoMemory>
+    ensures { IfOk result (λ r. r ≡ shift (ty_var x.number) from by) }
+{
+    if x.number < from {
+        Ok(Ty::var(x))
+    } else {
+        let number = raise(x.number, by)?;
+        Ok(Ty::var(TyIx { number }))
+    }
+}
+
 // What is put for a variable.
 #[tactic(auto, using(crate::proofs::TypeMoved::put_below, crate::proofs::TypeMoved::put_here, crate::proofs::TypeMoved::put_above, crate::proofs::TypeMoved::put_var))]
 fn put_var(alloc: Global, x: TyIx, at: u32, arg: &Ty) -> Result<Ty, NoMemory>
@@ -46,19 +59,12 @@ fn put_var(alloc: Global, x: TyIx, at: u32, arg: &Ty) -> Result<Ty, NoMemory>
     }
 }
 
-#[tactic(auto, unfolding(crate::specs::TypeMoves::rename), using(crate::proofs::TypeMoved::raised_below, crate::proofs::TypeMoved::raised_above))]
+#[tactic(auto, unfolding(crate::specs::TypeMoves::rename))]
 fn shift(alloc: Global, t: &Ty, from: u32, by: u32) -> Result<Ty, NoMemory>
     ensures { IfOk result (λ r. r ≡ shift t.now from by) }
 {
     match &t.node {
-        TyNode::Var(x) => {
-            if x.number < from {
-                Ok(Ty::var(*x))
-            } else {
-                let number = raise(x.number, by)?;
-                Ok(Ty::var(TyIx { number }))
-            }
-        }
+        TyNode::Var(x) => shift_var(*x, from, by),
         TyNode::NatLit(n) => Ok(Ty::nat(*n)),
         TyNode::Sum(a, b) => Ty::sum(
             alloc,

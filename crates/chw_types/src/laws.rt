@@ -1,0 +1,32 @@
+//! Laws of types, each as the contract of a call that does nothing.
+ghost use Rattle.chw_types.specs.TypePromises.{ShiftAfterPut, PutAfterShift, PutAfterPut, OneKind, ShiftKeepsKind, PutKeepsKind};
+
+/// Shifting after putting is putting after shifting, with the places moved.
+pub fn shift_after_put()
+    ensures { ShiftAfterPut }
+{}
+
+/// Anything may be put for a variable that doesn't occur.
+pub fn put_after_shift()
+    ensures { PutAfterShift }
+{}
+
+/// The order of two puttings, with the places moved.
+pub fn put_after_put()
+    ensures { PutAfterPut }
+{}
+
+/// A type has at most one kind.
+pub fn one_kind()
+    ensures { OneKind }
+{}
+
+/// A shift keeps the kind.
+pub fn shift_keeps_kind()
+    ensures { ShiftKeepsKind }
+{}
+
+/// Putting a type of the variable's kind keeps the kind, where it is of degree at most 1, as a closed type is.
+pub fn put_keeps_kind()
+    ensures { PutKeepsKind }
+{}
