@@ -1,0 +1,14 @@
+//! The primitives of the language and their types.
+#![tactic(auto)]
+
+mod build;
+pub mod prim;
+pub mod row;
+pub mod schemas;
+mod signals;
+mod vectors;
+mod words;
+
+pub use prim::Prim;
+pub use row::Row;
+pub use schemas::schema;
