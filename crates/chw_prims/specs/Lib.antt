@@ -1,1 +1,2 @@
+pub mod SchemaKinds
 pub mod Schemas

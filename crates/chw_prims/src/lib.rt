@@ -2,6 +2,7 @@
 #![tactic(auto)]
 
 mod build;
+pub mod laws;
 pub mod prim;
 pub mod row;
 pub mod schemas;

@@ -1,3 +1,4 @@
+pub mod BuiltIn
 pub mod KindFound
 pub mod Kinds
 pub mod Scopes
