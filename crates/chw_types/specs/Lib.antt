@@ -1,6 +1,7 @@
 pub mod BuiltIn
 pub mod KindFound
 pub mod Kinds
+pub mod Polynomials
 pub mod Scopes
 pub mod TypeCode
 pub mod TypeFalls
