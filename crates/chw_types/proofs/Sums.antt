@@ -10,7 +10,7 @@ both true true h = (refl, refl)
 both true false h = absurd (cc)
 both false b h = absurd (cc)
 
-same_factors_is : (m n : Monomial) → same_factors m n ≡ true → m ≡ n
+pub same_factors_is : (m n : Monomial) → same_factors m n ≡ true → m ≡ n
 same_factors_is [] [] h = refl
 same_factors_is (x ∷ m) (y ∷ n) h = let e = both (eqb x y) (same_factors m n) h in λ i. eqb-true x y e.0 i ∷ same_factors_is m n e.1 i
 same_factors_is _ _ h = absurd (cc)

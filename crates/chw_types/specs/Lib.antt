@@ -1,8 +1,12 @@
+pub mod Agreement
 pub mod BuiltIn
 pub mod KindFound
 pub mod Kinds
 pub mod Polynomials
+pub mod SameFound
+pub mod SameTypes
 pub mod Scopes
+pub mod SummandView
 pub mod TypeCode
 pub mod TypeFalls
 pub mod TypeMoves

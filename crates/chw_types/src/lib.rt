@@ -7,6 +7,8 @@ pub mod kind;
 pub mod kinding;
 pub mod laws;
 pub mod moves;
+mod polynomial;
+pub mod sameness;
 mod scope;
 pub mod ty;
 
@@ -14,4 +16,5 @@ pub use declarations::{ConDecl, Data};
 pub use kind::{Kind, Scalar};
 pub use kinding::{KindFault, kind_of};
 pub use moves::{put_type, shift_type};
+pub use sameness::same;
 pub use ty::{Ty, TyNode};
