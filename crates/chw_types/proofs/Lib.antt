@@ -6,3 +6,4 @@ pub mod Sums
 pub mod SumsFound
 pub mod TypeLaws
 pub mod TypeMoved
+pub mod TypeTexts

@@ -12,5 +12,6 @@ pub mod TypeFalls
 pub mod TypeMoves
 pub mod TypePromises
 pub mod TypeSize
+pub mod TypeText
 pub mod TypeTree
 pub mod TypeView

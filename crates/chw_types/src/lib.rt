@@ -10,6 +10,7 @@ pub mod moves;
 mod polynomial;
 pub mod sameness;
 mod scope;
+pub mod text;
 pub mod ty;
 
 pub use declarations::{ConDecl, Data};
@@ -17,4 +18,5 @@ pub use kind::{Kind, Scalar};
 pub use kinding::{KindFault, kind_of};
 pub use moves::{put_type, shift_type};
 pub use sameness::same;
+pub use text::type_text;
 pub use ty::{Ty, TyNode};
