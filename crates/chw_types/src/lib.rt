@@ -20,3 +20,6 @@ pub use moves::{put_type, shift_type};
 pub use sameness::same;
 pub use text::type_text;
 pub use ty::{Ty, TyNode};
+
+#[cfg(test)]
+mod tests;
