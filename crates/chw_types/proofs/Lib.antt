@@ -1,6 +1,7 @@
 pub mod KindsFound
 pub mod KindsInLists
 pub mod KindsKept
+pub mod SameLaws
 pub mod SameTypesFound
 pub mod Sums
 pub mod SumsFound

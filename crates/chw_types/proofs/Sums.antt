@@ -19,10 +19,10 @@ pub same_factors_self : (m : Monomial) → same_factors m m ≡ true
 same_factors_self [] = refl
 same_factors_self (x ∷ m) = λ i. eq-eqb x x refl i && same_factors_self m i
 
-cap_plus : (c a b : ℕ) → min (a + b) c ≡ min (min a c + min b c) c
+pub cap_plus : (c a b : ℕ) → min (a + b) c ≡ min (min a c + min b c) c
 cap_plus c a b = omega arith
 
-cap_times : (c a x : ℕ) → min (a * x) c ≡ min (min a c * x) c
+pub cap_times : (c a x : ℕ) → min (a * x) c ≡ min (min a c * x) c
 cap_times c a zero = omega arith
 cap_times c a (suc x) = at_more (leb a c) refl
   where

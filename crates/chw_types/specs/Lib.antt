@@ -4,6 +4,7 @@ pub mod KindFound
 pub mod Kinds
 pub mod Polynomials
 pub mod SameFound
+pub mod SamePromises
 pub mod SameTypes
 pub mod Scopes
 pub mod SummandView

@@ -1,5 +1,6 @@
 //! Laws of types, each as the contract of a call that does nothing.
 ghost use Rattle.chw_types.specs.TypePromises.{ShiftAfterPut, PutAfterShift, PutAfterPut, OneKind, ShiftKeepsKind, PutKeepsKind};
+ghost use Rattle.chw_types.specs.SamePromises.{SameReflexive, SameSymmetric, SameTransitive, SameValues};
 
 /// Shifting after putting is putting after shifting, with the places moved.
 pub fn shift_after_put()
@@ -29,4 +30,24 @@ pub fn shift_keeps_kind()
 /// Putting a type of the variable's kind keeps the kind, where it is of degree at most 1, as a closed type is.
 pub fn put_keeps_kind()
     ensures { PutKeepsKind }
+{}
+
+/// A type is the same as itself.
+pub fn same_as_itself()
+    ensures { SameReflexive }
+{}
+
+/// Sameness goes both ways.
+pub fn same_both_ways()
+    ensures { SameSymmetric }
+{}
+
+/// What is the same as one is the same as what that is the same as.
+pub fn same_in_a_chain()
+    ensures { SameTransitive }
+{}
+
+/// Naturals of one polynomial have one value, whatever their variables stand for.
+pub fn same_values()
+    ensures { SameValues }
 {}
