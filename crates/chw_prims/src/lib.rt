@@ -28,7 +28,8 @@ mod tests {
         let domains: &[Name] = &[];
         let map = schema(alloc, Prim::VMapC)?;
         let text = type_text(alloc, &map, datas, domains)?;
-        let wanted = b"forall ( t0 : Nat ) . forall ( t1 : Cir ) . forall ( t2 : Cir ) . ( t1 -> t2 ) -> Vec t0 t1 -> Vec t0 t2";
+        let wanted =
+            b"forall ( t0 : Nat ) . forall ( t1 : Cir ) . forall ( t2 : Cir ) . ( t1 -> t2 ) -> Vec t0 t1 -> Vec t0 t2";
         assert_eq!(rt; text.as_slice(), wanted.as_slice());
         Ok(())
     }
