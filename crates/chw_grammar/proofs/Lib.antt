@@ -1,0 +1,4 @@
+pub mod Examples
+pub mod TermsBack
+pub mod TreesBack
+pub mod TypesBack

@@ -1,0 +1,13 @@
+pub mod Grammar
+pub mod Lexemes
+pub mod TermCode
+pub mod TermFalls
+pub mod TermSize
+pub mod TermTree
+pub mod TermView
+pub mod Text
+pub mod TypeCode
+pub mod TypeFalls
+pub mod TypeSize
+pub mod TypeTree
+pub mod TypeView

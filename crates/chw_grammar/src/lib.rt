@@ -1,0 +1,15 @@
+//! The grammar of descriptions: their trees, which words make which tree, and the canonical text of a tree.
+#![tactic(auto)]
+
+pub mod laws;
+pub mod program;
+pub mod term_tree;
+pub mod terminal;
+pub mod type_tree;
+pub mod word;
+
+pub use program::{Constructor, Declaration, Parameter, Top, Tree};
+pub use term_tree::{Alternative, Argument, Binding, Pattern, TermNode, TermTree};
+pub use terminal::Terminal;
+pub use type_tree::{KindTree, TypeNode, TypeTree};
+pub use word::Word;
