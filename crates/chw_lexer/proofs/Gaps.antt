@@ -78,7 +78,7 @@ no_comment_form sort word more bytes same form =
           no_digit_front (is_letter true) 45 bytes negative.0 more refl tail negative.2
     ]
 
-white_number : (b : ℕ) → IsTrue (is_white b) → (b ≡ 32) ⊎ ((b ≡ 9) ⊎ ((b ≡ 10) ⊎ (b ≡ 13)))
+pub white_number : (b : ℕ) → IsTrue (is_white b) → (b ≡ 32) ⊎ ((b ≡ 9) ⊎ ((b ≡ 10) ⊎ (b ≡ 13)))
 white_number b is_white_b =
     elim (or_cases (eqb b 32) _ is_white_b) [
       | inl space ↦ inl (eqb-true _ _ space)

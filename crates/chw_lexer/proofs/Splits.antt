@@ -16,7 +16,7 @@ last_gap_append gap rest gaps (inr cut) =
     inr (gap ++ cut.0, cut.1, gap_append gaps cut.0 cut.2, cut.3, ap (λ r. gap ++ r) cut.4 ∙ sym (append_assoc gap cut.0 (45 ∷ 45 ∷ cut.1)))
 
 -- the first token, at places that are given in another way
-next_at : (at from to : ℕ) (text gap word rest : List ℕ) (sort : Sort) (tokens : List Token) → Gap gap → IsLongest sort word rest → from ≡ at + length gap → to ≡ from + length word → text ≡ gap ++ (word ++ rest) → TokensFrom to rest tokens → TokensFrom at text (token sort from to ∷ tokens)
+pub next_at : (at from to : ℕ) (text gap word rest : List ℕ) (sort : Sort) (tokens : List Token) → Gap gap → IsLongest sort word rest → from ≡ at + length gap → to ≡ from + length word → text ≡ gap ++ (word ++ rest) → TokensFrom to rest tokens → TokensFrom at text (token sort from to ∷ tokens)
 next_at at from to text gap word rest sort tokens gaps longest from_is to_is text_is splits =
     let place : to ≡ at + length gap + length word = omega arith in
     let first = next at gap word rest sort tokens gaps longest (subst (λ p. TokensFrom p rest tokens) place splits) in

@@ -1,5 +1,6 @@
 -- Tokens without their places: what a grammar speaks of.
-use Rattle.std.specs.Prelude.{ℕ, ◌≤◌, List, length, map, slice_range}
+use Rattle.std.specs.Prelude.{ℕ, ◌≤◌, List, [], ◌∷◌, ◌++◌, length, map, slice_range}
+use Rattle.chw_lexer.specs.Forms.{HasForm}
 use Rattle.chw_lexer.specs.declared.token.Sort.{Sort}
 use Rattle.chw_lexer.specs.declared.token.Token.{Token}
 
@@ -18,3 +19,13 @@ word_of text token = record { sort = token.sort; bytes = slice_range text token.
 -- the words of the tokens of a text
 abbrev pub words_of : List ℕ → List Token → List Word
 words_of text tokens = map (word_of text) tokens
+
+-- the word is a token of its sort
+abbrev pub IsToken : Word → Type 0
+IsToken word = HasForm word.sort word.bytes
+
+-- the text is these words, each of them a token, with a space or a line feed behind each
+pub data Spaced : List ℕ → List Word → Type 0 where
+  no_word : Spaced [] []
+  with_space : (word : Word) (text : List ℕ) (words : List Word) → IsToken word → Spaced text words → Spaced (word.bytes ++ 32 ∷ text) (word ∷ words)
+  with_line_feed : (word : Word) (text : List ℕ) (words : List Word) → IsToken word → Spaced text words → Spaced (word.bytes ++ 10 ∷ text) (word ∷ words)
