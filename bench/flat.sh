@@ -1,14 +1,13 @@
 #!/usr/bin/env bash
 # Times `chw emit` on flat descriptions of 64 KiB to just under 1 MiB, beside yosys reading the printed text where yosys is installed.
-# Usage: bench/flat.sh [sum|copy]
+# Usage: bench/flat.sh [sum|copy|order]
 #   sum: each binding adds the two before it (about 130 bytes a binding)    copy: each binding is the one after it (about 30 bytes a binding)
+#   order: in place of texts, nets of 25,000 to 200,000 wires whose cells stand in reverse order, by the program net_speed, beside tsort
 set -eu
 top=$(cd "$(dirname "$0")/.." && pwd)
 form=${1:-sum}
 work=$(mktemp -d)
 trap 'rm -rf "$work"' EXIT
-"$top/chw" >/dev/null 2>&1 || true  # builds the program where it isn't built
-program=$top/crates/chw/out/chw
 
 # A flat description of about this many bytes. The copies stand in reverse order, and end in a register, so that an order has to be looked for.
 make() {
@@ -38,14 +37,37 @@ print(head + "".join(out) + "}in " + last + ";top main(x)(o);", end="")
 PY
 }
 
-# The least of five times, in milliseconds.
+# The least of so many times, in microseconds.
+times=5
 least() {
-  for _ in 1 2 3 4 5; do
+  for _ in $(seq "$times"); do
     local from to
     from=$(date +%s%N); "$@" >/dev/null 2>&1 || true; to=$(date +%s%N)
     echo $(((to - from) / 1000))
   done | sort -n | head -n 1
 }
+
+# Flattens and orders nets, beside tsort on the same graph as a text: each wire is read by the cell that drives the one before it.
+if [ "$form" = order ]; then
+  times=40
+  (cd "$top/crates/net_speed" && rt run -- 25000) >"$work/log" 2>&1 || { cat "$work/log"; exit 1; }
+  program=$top/crates/net_speed/out/net_speed
+  printf '%10s %12s %12s %10s %12s %8s\n' wires 'net_speed us' 'ns a wire' 'to first' 'tsort us' ratio
+  first=
+  for wires in 25000 50000 100000 200000; do
+    seq 1 $((wires - 1)) | awk -v n="$wires" '{ print ($1 + 1) % n, $1 }' >"$work/graph"
+    [ "$("$program" "$wires")" = $((wires - 1)) ]
+    mine=$(least "$program" "$wires")
+    other=$(least tsort "$work/graph")
+    each=$((mine * 1000 / wires))
+    first=${first:-$each}
+    printf '%10d %12d %12d %10s %12d %8s\n' "$wires" "$mine" "$each" "$(awk "BEGIN { printf \"%.2f\", $each / $first }")" "$other" "$(awk "BEGIN { printf \"%.2f\", $mine / $other }")"
+  done
+  exit
+fi
+
+"$top/chw" >/dev/null 2>&1 || true  # builds the program where it isn't built
+program=$top/crates/chw/out/chw
 
 printf '%10s %9s %12s %12s %12s %8s\n' bytes bindings 'chw us' 'ns a byte' 'yosys us' ratio
 for size in 65536 131072 262144 524288 1048000; do

@@ -1,0 +1,74 @@
+-- Chains of wires of 8 bits.
+use Rattle.std.proofs.Common.{◌≡◌, ℕ, ◌+◌, ◌<◌, ◌≤◌, List, [], ◌∷◌, ◌++◌, length, map, replicate, refl, ap, arith, Some, slice_get, add-zero, zero, suc, ◌∙◌, sym}
+use Rattle.std.specs.List.{AllByRecursion}
+use Rattle.std.proofs.lemmas.List.{length-replicate, length-map, get_or-replicate, take-replicate}
+use Rattle.std.proofs.lemmas.Option.{slice_get-get_or}
+use Rattle.netlist.specs.Feeds.{target}
+use Rattle.netlist.specs.Flattened.{IsFlatOf, NoUse, flat_cells, flat_outputs, flat_widths}
+use Rattle.netlist.specs.Sound.{DrivenOnce, DrivesFrom, FitsCell, Sound}
+use Rattle.netlist.specs.declared.net.Cell.{Cell}
+use Rattle.netlist.specs.declared.net.Cell.TheVariants.{Const, Copy, Join, Cut, Un, Bin, Mux, Reg, Ram, Use}
+use Rattle.netlist.specs.declared.net.Flat.{Flat}
+use Rattle.netlist.specs.declared.net.Module.{Module}
+use Rattle.netlist.specs.declared.net.Net.{Net}
+
+-- each of some, and one more
+pub all_and_one : {X : Type 0} (P : X → Type 0) (xs : List X) (x : X) → AllByRecursion P xs → P x → AllByRecursion P (xs ++ x ∷ [])
+all_and_one P [] x h p = (p, tt)
+all_and_one P (y ∷ ys) x h p = (h.0, all_and_one P ys x h.1 p)
+
+-- one more cell drives the next wire
+pub next_driven : (w : ℕ) (cells : List Cell) (cell : Cell) → DrivesFrom w cells → target cell ≡ Some (w + length cells)
+    → DrivesFrom w (cells ++ cell ∷ [])
+next_driven w [] cell h t = let e : w + 0 ≡ w = add-zero w in (t ∙ ap Some e, tt)
+next_driven w (c ∷ cs) cell h t =
+    (h.0, next_driven (w + 1) cs cell h.1 (let e : w + length (c ∷ cs) ≡ w + 1 + length cs = omega arith in rw (← e) t))
+
+-- all these wires have 8 bits
+pub eight_bits : (n w : ℕ) → w < n → slice_get {X = ℕ} (replicate n 8) w ≡ Some 8
+eight_bits n w l =
+    slice_get-get_or (replicate n 8) w 0 (omega (arith, length-replicate {A = ℕ} n 8)) ∙ ap Some (get_or-replicate {A = ℕ} n w 8 0 l)
+
+eights_fit : (n : ℕ) → AllByRecursion (λ k. (1 ≤ k) × (k ≤ 4096)) (replicate n 8)
+eights_fit zero = tt
+eights_fit (suc n) = ((omega arith, omega arith), eights_fit n)
+
+-- a net of an input and a chain of wires of 8 bits is sound
+pub sound_chain : (net : Net) (top : Module) (flat : Flat) (n : ℕ) → 0 < n → n ≤ 200000 → net.modules ≡ top ∷ [] → IsFlatOf net flat
+    → length net.ports.domains ≡ 1 → map (λ port. port.width) net.ports.inputs ≡ 8 ∷ [] → net.ports.outputs ≡ []
+    → top.widths ≡ replicate n 8 → top.outputs ≡ [] → length top.cells + 1 ≡ n → AllByRecursion (FitsCell 1 (replicate n 8)) top.cells
+    → DrivesFrom 1 top.cells
+    → ((inputs wires : ℕ) (cells : List Cell) → DrivesFrom inputs cells → inputs + length cells ≡ wires → DrivenOnce inputs wires cells)
+    → Sound flat
+sound_chain net top flat n some few m f d i o w u s fits drives once =
+    let ports : flat.ports ≡ net.ports = f.ports in
+    let widths : flat.widths ≡ replicate n 8 = f.widths ∙ ap flat_widths m ∙ w in
+    let outputs : flat.outputs ≡ [] = f.outputs ∙ ap flat_outputs m ∙ u in
+    let cells : flat.cells ≡ top.cells = f.cells ∙ ap flat_cells m in
+    let one : length net.ports.inputs ≡ 1 = omega (arith, ap length i, length-map net.ports.inputs (λ port. port.width)) in
+    let size : length flat.widths ≡ n = ap length widths ∙ length-replicate {A = ℕ} n 8 in
+    record {
+      few = omega (arith, size);
+      widths = rw widths (eights_fit n);
+      inputs = rw (ports, one, widths) (i ∙ sym (take-replicate {X = ℕ} 1 n 8 some));
+      outputs = rw (ports, outputs, o) refl;
+      cells = rw (ports, d, widths, cells) fits;
+      drivers = rw (ports, one, size, cells) (once 1 n top.cells drives (omega (arith, s)));
+    }
+
+no_use : (domains : ℕ) (widths : List ℕ) (cell : Cell) → FitsCell domains widths cell → NoUse cell
+no_use domains widths (Use m reads drives) h = h
+no_use domains widths (Const w bits) h = tt
+no_use domains widths (Copy w a) h = tt
+no_use domains widths (Join w parts) h = tt
+no_use domains widths (Cut w a high low) h = tt
+no_use domains widths (Un w op a) h = tt
+no_use domains widths (Bin w op a b) h = tt
+no_use domains widths (Mux w c a b) h = tt
+no_use domains widths (Reg w domain initial a) h = tt
+no_use domains widths (Ram w domain words inputs) h = tt
+
+-- cells that fit are no uses
+pub no_uses : (domains : ℕ) (widths : List ℕ) (cells : List Cell) → AllByRecursion (FitsCell domains widths) cells → AllByRecursion NoUse cells
+no_uses domains widths [] h = tt
+no_uses domains widths (cell ∷ cells) h = (no_use domains widths cell h.0, no_uses domains widths cells h.1)
