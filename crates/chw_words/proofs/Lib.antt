@@ -1,0 +1,9 @@
+pub mod CheckWords
+pub mod Commands
+pub mod EmitWords
+pub mod Exactly
+pub mod Forms
+pub mod Matched
+pub mod Outcomes
+pub mod Shapes
+pub mod Walks

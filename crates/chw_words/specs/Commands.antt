@@ -1,0 +1,51 @@
+-- The commands, by their words. The program's own name is none of these.
+use Rattle.std.specs.Prelude.{◌≡◌, ◌≤◌, ℕ, Bool, false, ◌==◌, List, [], ◌∷◌, ◌++◌, length, codes}
+use Rattle.std.specs.Str.{IsUtf8}
+use Rattle.std.specs.Str.Parse.{IsNumeral, digits_value}
+use Rattle.chw_words.specs.declared.command.Command.{Command}
+use Rattle.chw_words.specs.declared.command.Command.TheVariants.{Emit, Check}
+use Rattle.chw_words.specs.declared.budget.TheConstants.{BUDGET_DIGITS, DEFAULT_BUDGET, MOST_BUDGET}
+
+-- the word begins with `-`
+abbrev pub is_option : List ℕ → Bool
+is_option [] = false
+is_option (b ∷ bs) = b == 45
+
+-- the word may be a file's name: it is UTF-8 text and no option
+pub record IsFile (word : List ℕ) : Type 0 where
+  pub text : IsUtf8 word
+  pub no_option : is_option word ≡ false
+
+-- the word is a budget, in decimal digits
+pub record IsBudget (word : List ℕ) (budget : ℕ) : Type 0 where
+  pub digits : IsNumeral 10 word
+  pub few_digits : length word ≤ BUDGET_DIGITS
+  pub value : digits_value 10 word ≡ budget
+  pub within : budget ≤ MOST_BUDGET
+
+-- the words that say what the budget is, if any
+pub data SayBudget : List (List ℕ) → ℕ → Type 0 where
+  unsaid : SayBudget [] DEFAULT_BUDGET
+  apart : (word : List ℕ) (budget : ℕ) → IsBudget word budget → SayBudget (codes "--budget" ∷ word ∷ []) budget
+  joined : (word : List ℕ) (budget : ℕ) → IsBudget word budget → SayBudget ((codes "--budget=" ++ word) ∷ []) budget
+
+-- the words are these arguments, and those of the budget stand together anywhere among them
+pub record AreWithBudget (words arguments : List (List ℕ)) (budget : ℕ) : Type 0 where
+  pub before : List (List ℕ)
+  pub said : List (List ℕ)
+  pub after : List (List ℕ)
+  pub words_are : words ≡ before ++ said ++ after
+  pub arguments_are : arguments ≡ before ++ after
+  pub budget_is : SayBudget said budget
+
+-- the words are the command
+pub data IsCommand : List (List ℕ) → Command → Type 0 where
+  -- `emit FILE`, with a budget
+  emit : (words : List (List ℕ)) (file : List ℕ) (budget : ℕ) → IsFile file → AreWithBudget words (file ∷ []) budget
+      → IsCommand (codes "emit" ∷ words) (Emit file budget)
+  -- `check FILE`
+  check : (file : List ℕ) → IsFile file → IsCommand (codes "check" ∷ file ∷ []) (Check file)
+
+-- the words are no command
+abbrev pub AreNoCommand : List (List ℕ) → Type 0
+AreNoCommand words = (command : Command) → IsCommand words command → ⊥

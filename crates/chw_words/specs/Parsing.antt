@@ -1,0 +1,55 @@
+-- The commands as `clap` reads them, and what its matches say.
+use Rattle.std.specs.Prelude.{◌≡◌, ℕ, true, List, Option, Some, None, codes}
+use Rattle.clap.specs.Matches.{found_of}
+use Rattle.clap.specs.Walk.{Row, Rule, Text, first_of, rows_of}
+use Rattle.clap.specs.Simple.{App, new_app, new_rule, on_top, with_rule, with_subcommand}
+use Rattle.clap.specs.declared.parser.matches.ArgMatches.{ArgMatches}
+use Rattle.clap.specs.declared.builder.action.ArgAction.TheVariants.{Set}
+use Rattle.chw_words.specs.Commands.{IsBudget}
+use Rattle.chw_words.specs.declared.command.Command.{Command}
+use Rattle.chw_words.specs.declared.command.Command.TheVariants.{Emit, Check}
+use Rattle.chw_words.specs.declared.budget.TheConstants.{DEFAULT_BUDGET}
+
+-- the one argument FILE
+abbrev pub file_rule : Rule
+file_rule = record (new_rule (codes "file")) { required = true; action = Some Set }
+
+-- the option `--budget N`
+abbrev pub budget_rule : Rule
+budget_rule = record (new_rule (codes "budget")) { long = Some (codes "budget"); action = Some Set }
+
+abbrev pub emit_app : App
+emit_app = with_rule (with_rule (new_app (codes "emit")) file_rule) budget_rule
+
+abbrev pub check_app : App
+check_app = with_rule (new_app (codes "check")) file_rule
+
+-- the program's commands, one of which has to stand first
+abbrev pub chw_app : App
+chw_app =
+    with_subcommand
+    (with_subcommand
+    (on_top
+    (λ s. record s { no_binary_name = true; disable_help_flag = true; disable_help_subcommand = true; subcommand_required = true })
+    (new_app (codes "chw")))
+    emit_app.top)
+    check_app.top
+
+-- the budget that was matched, or the default
+abbrev pub BudgetIs : Option Text → ℕ → Type 0
+BudgetIs (Some word) budget = IsBudget word budget
+BudgetIs None budget = budget ≡ DEFAULT_BUDGET
+
+-- the subcommand that was matched, with its rows, is this command
+pub data IsMatched : Option (Text × List Row) → Command → Type 0 where
+  emit : (rows : List Row) (file : Text) (budget : ℕ) → first_of (codes "file") rows ≡ Some file → BudgetIs (first_of (codes "budget") rows) budget
+      → IsMatched (Some (codes "emit", rows)) (Emit file budget)
+  check : (rows : List Row) (file : Text) → first_of (codes "file") rows ≡ Some file → IsMatched (Some (codes "check", rows)) (Check file)
+
+-- no command was matched
+abbrev pub IsNoneMatched : Option (Text × List Row) → Type 0
+IsNoneMatched matched = (command : Command) → IsMatched matched command → ⊥
+
+-- a subcommand of this name, with these matches
+abbrev pub matched_under : Text → ArgMatches → Option (Text × List Row)
+matched_under name matches = Some (name, rows_of (found_of matches))

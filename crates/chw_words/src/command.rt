@@ -1,0 +1,18 @@
+//! What the words may ask for.
+
+use chw_base::Name;
+use thiserror::Error;
+
+/// A command of the program.
+#[derive(Debug, Drop)]
+pub enum Command {
+    /// To write the Verilog text of the description in a file, with at most so many rewrites.
+    Emit { file: Name, budget: u32 },
+    /// To write the canonical text of the description in a file.
+    Check { file: Name },
+}
+
+/// The words are no command.
+#[derive(Clone, Copy, Debug, PartialEq, Eq, Error)]
+#[error("the words are no command")]
+pub struct WordsFault;

@@ -1,0 +1,159 @@
+//! The command that the words are.
+ghost use Rattle.std.specs.Prelude.{◌≡◌, ℕ, false, IfOk, MatchOption, codes, option_map};
+ghost use Rattle.chw_base.specs.Outcome.{IfFault, OfFault};
+ghost use Rattle.clap.specs.Words.{app_of, kind_of, rule_of, subcommand_rows_of};
+ghost use Rattle.clap.specs.declared.builder.command.Command.TheViews.{out-Command as fields_of};
+ghost use Rattle.clap.specs.declared.error.kind.ErrorKind.TheVariants.{OutOfMemory};
+ghost use Rattle.chw_words.specs.Commands.{AreNoCommand, IsCommand};
+ghost use Rattle.chw_words.specs.Parsing.{BudgetIs, IsMatched, IsNoneMatched, budget_rule, check_app, chw_app, emit_app, file_rule, matched_under};
+
+use crate::budget::{DEFAULT_BUDGET, read_budget};
+use crate::command::{Command, WordsFault};
+use crate::form::{has_form, texts};
+use chw_base::{Name, NoMemory, Or};
+use clap::error::ErrorKind;
+use clap::{Arg, ArgAction, ArgMatches, Error};
+use std::alloc::{AllocError, Global};
+
+// The one argument FILE.
+fn file_arg<'a>(alloc: Global) -> Arg<'a>
+    ensures rule { rule_of result ≡ file_rule }
+    ensures local { result.global ≡ false }
+{
+    Arg::new(alloc, "file")
+        .required(true)
+        .action(ArgAction::Set)
+}
+
+// The option `--budget N`.
+fn budget_arg<'a>(alloc: Global) -> Arg<'a>
+    ensures rule { rule_of result ≡ budget_rule }
+    ensures local { result.global ≡ false }
+{
+    Arg::new(alloc, "budget")
+        .long("budget")
+        .action(ArgAction::Set)
+}
+
+// `emit FILE`, with a budget.
+fn emit_parser<'a>(alloc: Global) -> Result<clap::Command<'a>, AllocError>
+    ensures app { IfOk result (λ c. app_of c ≡ emit_app) }
+    ensures local { IfOk result (λ c. (fields_of c).has_globals ≡ false) }
+{
+    clap::Command::new(alloc, "emit")
+        .arg(file_arg(alloc))?
+        .arg(budget_arg(alloc))
+}
+
+// `check FILE`.
+fn check_parser<'a>(alloc: Global) -> Result<clap::Command<'a>, AllocError>
+    ensures app { IfOk result (λ c. app_of c ≡ check_app) }
+    ensures local { IfOk result (λ c. (fields_of c).has_globals ≡ false) }
+{
+    clap::Command::new(alloc, "check").arg(file_arg(alloc))
+}
+
+// The commands as clap reads them, each with its arguments.
+fn parser<'a>(alloc: Global) -> Result<clap::Command<'a>, AllocError>
+    ensures { IfOk result (λ c. app_of c ≡ chw_app) }
+{
+    let chw = clap::Command::new(alloc, "chw")
+        .no_binary_name(true)
+        .disable_help_flag(true)
+        .disable_help_subcommand(true)
+        .subcommand_required(true);
+    chw.subcommand(emit_parser(alloc)?)?
+        .subcommand(check_parser(alloc)?)
+}
+
+// A name of its own.
+fn name(alloc: Global, text: &str) -> Result<Name, NoMemory>
+    ensures { IfOk result (λ name. name ≡ text.now) }
+{
+    let bytes = Vec::from_slice(alloc, text.as_bytes())?;
+    Ok(Name::from(bytes))
+}
+
+// The budget that was said, or the default.
+fn budget(said: Option<&str>) -> Option<u32>
+    ensures { MatchOption result ((n : ℕ) → BudgetIs (option_map (λ s. s.now) said.entry) n → ⊥) (BudgetIs (option_map (λ s. s.now) said.entry)) }
+{
+    match said {
+        Some(word) => read_budget(word),
+        None => Some(DEFAULT_BUDGET),
+    }
+}
+
+// What an error of clap's comes to.
+fn refusal(error: &Error) -> Or<WordsFault>
+    ensures { OfFault result (λ _. kind_of error.now ≡ OutOfMemory → ⊥) }
+{
+    match error.kind() {
+        ErrorKind::OutOfMemory => Or::Memory,
+        _ => Or::Fault(WordsFault),
+    }
+}
+
+// What was matched under `emit`, in its digits too.
+fn emit(alloc: Global, matches: &ArgMatches) -> Result<Command, Or<WordsFault>>
+    ensures command { IfOk result (IsMatched (matched_under (codes "emit") matches.now)) }
+    ensures fault { IfFault result (λ _. IsNoneMatched (matched_under (codes "emit") matches.now)) }
+{
+    let Some(file) = matches.get_str("file") else {
+        return Err(Or::Fault(WordsFault));
+    };
+    let Some(budget) = budget(matches.get_str("budget")) else {
+        return Err(Or::Fault(WordsFault));
+    };
+    Ok(Command::Emit {
+        file: name(alloc, file)?,
+        budget,
+    })
+}
+
+// What was matched under `check`.
+fn check(alloc: Global, matches: &ArgMatches) -> Result<Command, Or<WordsFault>>
+    ensures command { IfOk result (IsMatched (matched_under (codes "check") matches.now)) }
+    ensures fault { IfFault result (λ _. IsNoneMatched (matched_under (codes "check") matches.now)) }
+{
+    let Some(file) = matches.get_str("file") else {
+        return Err(Or::Fault(WordsFault));
+    };
+    Ok(Command::Check {
+        file: name(alloc, file)?,
+    })
+}
+
+// The command that was matched.
+fn reading(alloc: Global, matches: &ArgMatches) -> Result<Command, Or<WordsFault>>
+    ensures command { IfOk result (IsMatched (subcommand_rows_of matches.now)) }
+    ensures fault { IfFault result (λ _. IsNoneMatched (subcommand_rows_of matches.now)) }
+{
+    let Some((command, matches)) = matches.subcommand() else {
+        return Err(Or::Fault(WordsFault));
+    };
+    match command {
+        "emit" => emit(alloc, matches),
+        "check" => check(alloc, matches),
+        _ => Err(Or::Fault(WordsFault)),
+    }
+}
+
+/// The command that the words are. They don't hold the program's own name.
+///
+/// `WordsFault` comes where the words are no command.
+pub fn read_words(alloc: Global, words: &[Name]) -> Result<Command, Or<WordsFault>>
+    ensures command { IfOk result (IsCommand words.now) }
+    ensures fault { IfFault result (λ _. AreNoCommand words.now) }
+{
+    let Some(texts) = texts(alloc, words)? else {
+        return Err(Or::Fault(WordsFault));
+    };
+    if !has_form(words) {
+        return Err(Or::Fault(WordsFault));
+    }
+    match parser(alloc)?.try_get_matches_from(texts.as_slice()) {
+        Ok(matches) => reading(alloc, &matches),
+        Err(error) => Err(refusal(&error)),
+    }
+}
