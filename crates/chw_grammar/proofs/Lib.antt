@@ -1,4 +1,14 @@
+pub mod Again
+pub mod AgainTerms
+pub mod AgainTrees
+pub mod AgainTypes
 pub mod Examples
+pub mod Formed
+pub mod FormedTerms
+pub mod FormedTrees
+pub mod FormedTypes
+pub mod Reprint
+pub mod SameText
 pub mod TermsBack
 pub mod TreesBack
 pub mod TypesBack

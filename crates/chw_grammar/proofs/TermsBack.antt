@@ -3,6 +3,7 @@ use Rattle.std.specs.Prelude.{◌≡◌, true, false, List, [], ◌∷◌, ◌++
 use Rattle.std.proofs.Common.{sym, subst}
 use Rattle.std.proofs.lemmas.List.{append_assoc}
 use Rattle.chw_grammar.specs.declared.terminal.Terminal.TheVariants as the
+use Rattle.chw_grammar.specs.declared.stand.Stand.TheVariants.{Alone as alone, Simple as simple}
 use Rattle.chw_grammar.specs.declared.word.Word.{Word}
 use Rattle.chw_grammar.specs.declared.term_tree.Pattern.{Pattern}
 use Rattle.chw_grammar.specs.declared.term_tree.Binding.{Binding}
@@ -12,7 +13,7 @@ use Rattle.chw_grammar.specs.Lexemes.{Lexeme}
 use Rattle.chw_grammar.specs.Grammar.{TypeAt, AtomAt, NamesAt, no_name, name, PatternAt, constructor_pattern, literal_pattern, TermAt, lambda, type_lambda, letrec, case_of, application, BindingsAt, no_binding, binding, AlternativesAt, no_alternative, alternative, default, ApplicationAt, head_alone, applied, ArgumentsAt, no_argument, argument, ArgumentAt, term_argument, type_argument, SimpleAt, name_term, constructor_term, literal_term, vec_term, bracketed_term, ElementsAt, no_element, elements, MoreElementsAt, no_more_element, element}
 use Rattle.chw_grammar.specs.TermTree.{Tm, Arguments}
 use Rattle.chw_grammar.specs.TermView.{terms_of, bindings_of, alternatives_of, before, arguments_of}
-use Rattle.chw_grammar.specs.Text.{sign, lowers, closed, alone, simple, type_lexemes, pattern_lexemes, term_lexemes, bindings_lexemes, alternatives_lexemes, arguments_lexemes, elements_lexemes, more_elements_lexemes}
+use Rattle.chw_grammar.specs.Text.{sign, lowers, closed, type_lexemes, pattern_lexemes, term_lexemes, bindings_lexemes, alternatives_lexemes, arguments_lexemes, elements_lexemes, more_elements_lexemes}
 use Rattle.chw_grammar.proofs.TypesBack.{kind_read, upper_read, lower_read, type_back, atom_back}
 
 pub moved : (P : List Lexeme → Type 0) (xs ys rest : List Lexeme) → P (xs ++ (ys ++ rest)) → P ((xs ++ ys) ++ rest)

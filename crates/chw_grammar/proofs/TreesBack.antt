@@ -2,6 +2,7 @@
 use Rattle.std.specs.Prelude.{false, List, [], ◌∷◌, ◌++◌, refl}
 use Rattle.std.specs.List.{flat_map}
 use Rattle.chw_grammar.specs.declared.terminal.Terminal.TheVariants as the
+use Rattle.chw_grammar.specs.declared.stand.Stand.TheVariants.{Alone as alone, Simple as simple}
 use Rattle.chw_grammar.specs.declared.word.Word.{Word}
 use Rattle.chw_grammar.specs.declared.program.Tree.{Tree}
 use Rattle.chw_grammar.specs.declared.program.Top.{Top}
@@ -9,9 +10,9 @@ use Rattle.chw_grammar.specs.declared.program.Declaration.{Declaration}
 use Rattle.chw_grammar.specs.declared.program.Parameter.{Parameter}
 use Rattle.chw_grammar.specs.declared.program.Constructor.{Constructor}
 use Rattle.chw_grammar.specs.Lexemes.{Lexeme}
-use Rattle.chw_grammar.specs.Grammar.{TypeAt, AtomsAt, no_atom, atom, AtomAt, TermAt, ParametersAt, no_parameter, parameter, ConstructorAt, constructor, ConstructorsAt, no_constructor, one_more, DeclarationAt, domain_declared, definition_declared, data_declared, DeclarationsAt, no_declaration, declared, MorePortsAt, no_port, port, PortsAt, ports, TopAt, top, Reads}
+use Rattle.chw_grammar.specs.Grammar.{TypeAt, AtomsAt, no_atom, atom, AtomAt, TermAt, ParametersAt, no_parameter, parameter, ConstructorAt, constructor, ConstructorsAt, no_constructor, one_more, DeclarationAt, domain_declared, definition_declared, data_declared, DeclarationsAt, no_declaration, declared, MorePortsAt, no_port, port, PortsAt, ports, InputNamesAt, no_input, input_names, InputsAt, inputs, TopAt, top, Reads}
 use Rattle.chw_grammar.specs.TypeTree.{Ty}
-use Rattle.chw_grammar.specs.Text.{sign, alone, simple, type_lexemes, term_lexemes, parameter_lexemes, fields_lexemes, constructor_lexemes, more_constructor_lexemes, constructors_lexemes, declaration_lexemes, port_lexemes, ports_lexemes, top_lexemes, tree_lexemes}
+use Rattle.chw_grammar.specs.Text.{sign, type_lexemes, term_lexemes, parameter_lexemes, fields_lexemes, constructor_lexemes, more_constructor_lexemes, constructors_lexemes, declaration_lexemes, port_lexemes, port_names_lexemes, ports_lexemes, top_lexemes, tree_lexemes}
 use Rattle.chw_grammar.proofs.TypesBack.{kind_read, upper_read, lower_read, type_back, atom_back}
 use Rattle.chw_grammar.proofs.TermsBack.{moved, term_back}
 
@@ -67,8 +68,17 @@ ports_back (ports {w = w} {ws = ws} b c d h1 h2 more h3) rest =
     ports _ _ _ (refl, refl) (lower_read w _)
     (moved (λ (z : List Lexeme). MorePortsAt ws z (sign the.Close ∷ rest)) (flat_map port_lexemes ws) (sign the.Close ∷ []) rest (more_ports_back more _)) (refl, refl)
 
+input_names_back : {ws : List Word} {a b : List Lexeme} → InputNamesAt ws a b → (rest : List Lexeme) → InputNamesAt ws (port_names_lexemes ws ++ rest) rest
+input_names_back no_input rest = no_input
+input_names_back (input_names {w = w} b h more) rest = input_names _ (lower_read w _) (more_ports_back more rest)
+
+inputs_back : {ws : List Word} {a b : List Lexeme} → InputsAt ws a b → (rest : List Lexeme) → InputsAt ws (ports_lexemes ws ++ rest) rest
+inputs_back (inputs {ws = ws} b c h1 names h2) rest =
+    inputs _ _ (refl, refl)
+    (moved (λ (z : List Lexeme). InputNamesAt ws z (sign the.Close ∷ rest)) (port_names_lexemes ws) (sign the.Close ∷ []) rest (input_names_back names _)) (refl, refl)
+
 top_back : {x : Top} {a b : List Lexeme} → TopAt x a b → TopAt x (top_lexemes x) []
-top_back (top {w = w} b c d e h1 h2 first second h3) = top _ _ _ _ (refl, refl) (lower_read w _) (ports_back first _) (ports_back second _) (refl, refl)
+top_back (top {w = w} b c d e h1 h2 first second h3) = top _ _ _ _ (refl, refl) (lower_read w _) (inputs_back first _) (ports_back second _) (refl, refl)
 
 pub tree_back : (lexemes : List Lexeme) (tree : Tree) → Reads lexemes tree → Reads (tree_lexemes tree) tree
 tree_back lexemes tree r = record { last = top_lexemes tree.top; declared = declarations_back r.declared (top_lexemes tree.top); topped = top_back r.topped }

@@ -7,12 +7,14 @@ use Rattle.std.specs.Prelude.{codes}
 use Rattle.chw_grammar.specs.declared.type_tree.KindTree.{KindTree}
 use Rattle.chw_grammar.specs.declared.type_tree.KindTree.TheVariants as kinds
 use Rattle.chw_grammar.specs.declared.terminal.Terminal.TheVariants as the
+use Rattle.chw_grammar.specs.declared.stand.Stand.{Stand}
+use Rattle.chw_grammar.specs.declared.stand.Stand.TheVariants.{Alone as alone, Left as left, Summand as as_summand, Factor as as_factor, Simple as simple}
 use Rattle.chw_grammar.specs.declared.word.Word.{Word}
 use Rattle.chw_grammar.specs.Lexemes.{Lexeme, upper_terminal}
 use Rattle.chw_grammar.specs.Grammar.{is_upper, LowerAt, UpperAt, NumeralAt, KindAt, TypeAt, forall_type, sum_type, arrow_type, SumAt, one_product, sum_of, SummandsAt, no_summand, summand, ProductAt, one_factor, product_of, FactorsAt, no_factor, factor, AppliedAt, named_type, atom_type, AtomsAt, no_atom, atom, AtomAt, variable_type, name_type, numeral_type, bracketed_type}
 use Rattle.chw_grammar.specs.TypeTree.{Ty, type_forall, type_arrow, type_sum, type_product, type_named, type_numeral, Tys, no_types, type_and}
 use Rattle.chw_grammar.specs.TypeView.{types_of}
-use Rattle.chw_grammar.specs.Text.{sign, lower, upper, kind, closed, Stand, alone, left, summand as as_summand, factor as as_factor, simple, closes_arrow, closes_sum, closes_product, type_lexemes, more_lexemes, types_lexemes}
+use Rattle.chw_grammar.specs.Text.{sign, lower, upper, kind, closed, closes_arrow, closes_sum, closes_product, type_lexemes, more_lexemes, types_lexemes}
 
 pub kind_read : (k : KindTree) (b : List Lexeme) → KindAt k (kind k ∷ b) b
 kind_read kinds.Nat b = (refl, refl)

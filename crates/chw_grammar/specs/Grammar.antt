@@ -253,13 +253,23 @@ pub data PortsAt : List Word → List Lexeme → List Lexeme → Type 0 where
   ports : {w : Word} {ws : List Word} {a e : List Lexeme} (b c d : List Lexeme)
       → Takes (the.Open ∷ []) a b → LowerAt w b c → MorePortsAt ws c d → Takes (the.Close ∷ []) d e → PortsAt (w ∷ ws) a e
 
--- "top" l "(" l {"," l} ")" "(" l {"," l} ")" ";"
+-- [l {"," l}]
+pub data InputNamesAt : List Word → List Lexeme → List Lexeme → Type 0 where
+  no_input : {a : List Lexeme} → InputNamesAt [] a a
+  input_names : {w : Word} {ws : List Word} {a c : List Lexeme} (b : List Lexeme) → LowerAt w a b → MorePortsAt ws b c → InputNamesAt (w ∷ ws) a c
+
+-- "(" [l {"," l}] ")"
+pub data InputsAt : List Word → List Lexeme → List Lexeme → Type 0 where
+  inputs : {ws : List Word} {a d : List Lexeme} (b c : List Lexeme)
+      → Takes (the.Open ∷ []) a b → InputNamesAt ws b c → Takes (the.Close ∷ []) c d → InputsAt ws a d
+
+-- "top" l "(" [l {"," l}] ")" "(" l {"," l} ")" ";"
 pub data TopAt : Top → List Lexeme → List Lexeme → Type 0 where
   top : {w : Word} {ins outs : List Word} {a f : List Lexeme} (b c d e : List Lexeme)
-      → Takes (the.Top ∷ []) a b → LowerAt w b c → PortsAt ins c d → PortsAt outs d e → Takes (the.Semicolon ∷ []) e f
+      → Takes (the.Top ∷ []) a b → LowerAt w b c → InputsAt ins c d → PortsAt outs d e → Takes (the.Semicolon ∷ []) e f
       → TopAt (record { definition = w; inputs = ins; outputs = outs }) a f
 
--- program = {decl} "top" l "(" l {"," l} ")" "(" l {"," l} ")" ";"
+-- program = {decl} "top" l "(" [l {"," l}] ")" "(" l {"," l} ")" ";"
 pub record Reads (lexemes : List Lexeme) (tree : Tree) : Type 0 where
   pub last : List Lexeme
   pub declared : DeclarationsAt tree.declarations lexemes last

@@ -1,5 +1,7 @@
 pub mod Grammar
+pub mod Height
 pub mod Lexemes
+pub mod Places
 pub mod TermCode
 pub mod TermFalls
 pub mod TermSize

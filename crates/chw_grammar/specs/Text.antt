@@ -7,6 +7,8 @@ use Rattle.chw_lexer.specs.declared.token.Sort.TheVariants as sort
 use Rattle.chw_grammar.specs.declared.type_tree.KindTree.{KindTree}
 use Rattle.chw_grammar.specs.declared.terminal.Terminal.{Terminal}
 use Rattle.chw_grammar.specs.declared.terminal.Terminal.TheVariants as the
+use Rattle.chw_grammar.specs.declared.stand.Stand.{Stand}
+use Rattle.chw_grammar.specs.declared.stand.Stand.TheVariants.{Alone as alone, Left as left, Summand as summand, Factor as factor, Simple as simple}
 use Rattle.chw_grammar.specs.declared.word.Word.{Word}
 use Rattle.chw_grammar.specs.declared.term_tree.Pattern.{Pattern}
 use Rattle.chw_grammar.specs.declared.term_tree.Pattern.TheVariants as pattern
@@ -98,14 +100,6 @@ lowers (w ∷ ws) = lower w ∷ lowers ws
 abbrev pub closed : Bool → List Lexeme → List Lexeme
 closed true ls = sign the.Open ∷ (ls ++ sign the.Close ∷ [])
 closed false ls = ls
-
--- where a type stands: by itself, on the left of `->`, beside `+`, beside `*`, or as an argument
-pub data Stand : Type 0 where
-  alone : Stand
-  left : Stand
-  summand : Stand
-  factor : Stand
-  simple : Stand
 
 -- whether a type with `->` or `forall`, a sum, a product, or a name with arguments needs parentheses there
 abbrev pub closes_arrow : Stand → Bool
@@ -224,9 +218,13 @@ declaration_lexemes (Def w t e) =
 abbrev pub port_lexemes : Word → List Lexeme
 port_lexemes w = sign the.Comma ∷ lower w ∷ []
 
+-- the names with commas between
+abbrev pub port_names_lexemes : List Word → List Lexeme
+port_names_lexemes [] = []
+port_names_lexemes (w ∷ ws) = lower w ∷ flat_map port_lexemes ws
+
 abbrev pub ports_lexemes : List Word → List Lexeme
-ports_lexemes [] = []
-ports_lexemes (w ∷ ws) = sign the.Open ∷ lower w ∷ (flat_map port_lexemes ws ++ sign the.Close ∷ [])
+ports_lexemes ws = sign the.Open ∷ (port_names_lexemes ws ++ sign the.Close ∷ [])
 
 abbrev pub top_lexemes : Top → List Lexeme
 top_lexemes x = sign the.Top ∷ lower x.definition ∷ (ports_lexemes x.inputs ++ (ports_lexemes x.outputs ++ sign the.Semicolon ∷ []))

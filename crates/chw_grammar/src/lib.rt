@@ -3,12 +3,14 @@
 
 pub mod laws;
 pub mod program;
+pub mod stand;
 pub mod term_tree;
 pub mod terminal;
 pub mod type_tree;
 pub mod word;
 
 pub use program::{Constructor, Declaration, Parameter, Top, Tree};
+pub use stand::Stand;
 pub use term_tree::{Alternative, Argument, Binding, Pattern, TermNode, TermTree};
 pub use terminal::Terminal;
 pub use type_tree::{KindTree, TypeNode, TypeTree};

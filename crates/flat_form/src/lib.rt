@@ -13,8 +13,6 @@ mod owned;
 mod parts;
 mod reader;
 mod table;
-#[cfg(test)]
-mod tests;
 mod words;
 
 pub use build::net;

@@ -1,7 +1,7 @@
 //! Descriptions and nets worked by hand.
 
-use crate::{NotFlat, net, read};
 use chw_base::{NoMemory, Or};
+use flat_form::{NotFlat, net, read};
 use netlist::Cell;
 use std::alloc::Global;
 use std::test::Fail;

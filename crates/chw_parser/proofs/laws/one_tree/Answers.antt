@@ -1,0 +1,5 @@
+use Rattle.chw_parser.proofs.OneTree.{one_tree}
+use Rattle.chw_parser.proofs.laws.one_tree.Goals as goal
+
+pub returns : goal.returns
+returns c = one_tree

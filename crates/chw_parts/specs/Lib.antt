@@ -1,0 +1,4 @@
+pub mod Actions
+pub mod Heights
+pub mod Parts
+pub mod Stacks

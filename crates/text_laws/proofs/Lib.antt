@@ -1,0 +1,6 @@
+mod Fits
+mod Heights
+mod NoFault
+mod TermsFit
+mod TreesFit
+mod TypesFit
