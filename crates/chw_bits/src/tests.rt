@@ -20,6 +20,7 @@ fn bits_of_a_number(rt: HostRuntime) -> Result<(), Fail> {
     let same = bits.copy(rt.alloc()).expect(&rt, "nine bits");
     assert!(rt; same == bits);
     assert!(rt; Bits::of_number(rt.alloc(), 8, 256).is_err());
+    assert!(rt; Bits::of_number(rt.alloc(), 3, 8).is_err());
     Ok(())
 }
 
@@ -45,13 +46,16 @@ fn bits_of_a_text(rt: HostRuntime) -> Result<(), Fail> {
     let bits = Bits::of_number(rt.alloc(), 9, 300).expect(&rt, "nine bits");
     let read = Bits::of_hex(rt.alloc(), 9, b"12C").expect(&rt, "nine bits");
     assert!(rt; read == bits);
-    for (text, fault) in [
-        ("12g", HexFault::NotHex),
-        ("g", HexFault::NotHex),
-        ("012c", HexFault::Width),
-        ("32c", HexFault::Width),
+    for (len, text, fault) in [
+        (9, "12g", HexFault::NotHex),
+        (9, "g", HexFault::NotHex),
+        (9, "012c", HexFault::Width),
+        (9, "32c", HexFault::Width),
+        (8, "0g", HexFault::NotHex),
+        (8, "5", HexFault::Width),
+        (3, "9", HexFault::Width),
     ] {
-        match Bits::of_hex(rt.alloc(), 9, text.as_bytes()) {
+        match Bits::of_hex(rt.alloc(), len, text.as_bytes()) {
             Err(Or::Fault(found)) => assert_eq!(rt; found, fault, "at {text}"),
             _ => assert!(rt; false, "at {text}"),
         }

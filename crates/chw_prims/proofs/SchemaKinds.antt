@@ -7,12 +7,12 @@ use Rattle.chw_types.specs.declared.declarations.Data.{Data}
 use Rattle.chw_types.specs.BuiltIn.{built_in}
 use Rattle.chw_types.specs.Kinds.{IsOfTerms}
 use Rattle.chw_types.specs.KindFound.{kind_found}
-use Rattle.chw_prims.specs.declared.prim.Prim.{Prim}
-use Rattle.chw_prims.specs.declared.prim.Prim.TheVariants.{AddU, AddS, SubU, SubS, MulU, MulS, XaddU, XaddS, XmulU, XmulS, AndU, AndS, AndB, OrU, OrS, OrB, XorU, XorS, XorB, NotU, NotS, NotB, ShlU, ShlS, ShlB, ShrU, ShrS, ShrB, EqU, EqS, EqB, LtU, LtS, ExtU, ExtS, ExtB, TruncU, TruncS, TruncB, Slice, Join, RedAnd, RedOr, RedXor, PackU, PackS, UnpackU, UnpackS, Fmap, Ap, Pure, Register, BlockRam, UnsafeSynchronizer, VGet, VGetC, VAt, VReplace, VMap, VMapC, VZipWith, VZipWithC, VFoldl, VFoldlC, VFoldr, VFoldrC, VGenerate, VGenerateC, VReplicate, VReplicateC, VAppend, VAppendC, VConcat, VConcatC, VTake, VTakeC, VDrop, VDropC, VReverse, VReverseC, VRotl, VRotlC}
+use Rattle.chw_prims.specs.declared.prim.Primitive.{Primitive}
+use Rattle.chw_prims.specs.declared.prim.Primitive.TheVariants.{AddU, AddS, SubU, SubS, MulU, MulS, XaddU, XaddS, XmulU, XmulS, AndU, AndS, AndB, OrU, OrS, OrB, XorU, XorS, XorB, NotU, NotS, NotB, ShlU, ShlS, ShlB, ShrU, ShrS, ShrB, EqU, EqS, EqB, LtU, LtS, ExtU, ExtS, ExtB, TruncU, TruncS, TruncB, Slice, Join, RedAnd, RedOr, RedXor, PackU, PackS, UnpackU, UnpackS, Fmap, Ap, Pure, Register, BlockRam, UnsafeSynchronizer, VGet, VGetC, VAt, VReplace, VMap, VMapC, VZipWith, VZipWithC, VFoldl, VFoldlC, VFoldr, VFoldrC, VGenerate, VGenerateC, VReplicate, VReplicateC, VAppend, VAppendC, VConcat, VConcatC, VTake, VTakeC, VDrop, VDropC, VReverse, VReverseC, VRotl, VRotlC}
 use Rattle.chw_prims.specs.Schemas.{schema_type}
 
 -- a signal or a circuit is among the arguments
-abbrev pub is_circuit : Prim → Bool
+abbrev pub is_circuit : Primitive → Bool
 is_circuit AddU = false
 is_circuit AddS = false
 is_circuit SubU = false
@@ -100,14 +100,14 @@ abbrev pub kind_by : Bool → Kind
 kind_by false = Val
 kind_by true = Cir
 
-abbrev pub kind_of_schema : Prim → Kind
+abbrev pub kind_of_schema : Primitive → Kind
 kind_of_schema p = kind_by (is_circuit p)
 
 pub is_of_terms : (b : Bool) → IsOfTerms (kind_by b)
 is_of_terms false = tt
 is_of_terms true = tt
 
-pub schema_has_kind : (p : Prim) (others : List Data) (domains : ℕ) → kind_found (built_in ++ others) domains [] (schema_type p) ≡ Some (kind_of_schema p)
+pub schema_has_kind : (p : Primitive) (others : List Data) (domains : ℕ) → kind_found (built_in ++ others) domains [] (schema_type p) ≡ Some (kind_of_schema p)
 unfolding kind_found
 schema_has_kind AddU others domains = refl
 schema_has_kind AddS others domains = refl

@@ -3,8 +3,8 @@ use Rattle.chw_types.specs.declared.kind.Kind.{Kind}
 use Rattle.chw_types.specs.declared.kind.Kind.TheVariants.{Nat, Dom, Val, Cir}
 use Rattle.chw_types.specs.declared.kind.Scalar.TheVariants.{U, S, B}
 use Rattle.chw_types.specs.TypeTree.{TypeTree, ty_var, nat_lit, nat_sum, nat_product, scalar, vector, data_of, fun, signal, for_all, no_types, type_and}
-use Rattle.chw_prims.specs.declared.prim.Prim.{Prim}
-use Rattle.chw_prims.specs.declared.prim.Prim.TheVariants.{AddU, AddS, SubU, SubS, MulU, MulS, AndU, AndS, AndB, OrU, OrS, OrB, XorU, XorS, XorB, XaddU, XaddS, XmulU, XmulS, NotU, NotS, NotB, ShlU, ShlS, ShlB, ShrU, ShrS, ShrB, EqU, EqS, EqB, LtU, LtS, ExtU, ExtS, ExtB, TruncU, TruncS, TruncB, Slice, Join, RedAnd, RedOr, RedXor, PackU, PackS, UnpackU, UnpackS, Fmap, Ap, Pure, Register, BlockRam, UnsafeSynchronizer, VGet, VGetC, VAt, VReplace, VMap, VMapC, VZipWith, VZipWithC, VFoldl, VFoldlC, VFoldr, VFoldrC, VGenerate, VGenerateC, VReplicate, VReplicateC, VAppend, VAppendC, VConcat, VConcatC, VTake, VTakeC, VDrop, VDropC, VReverse, VReverseC, VRotl, VRotlC}
+use Rattle.chw_prims.specs.declared.prim.Primitive.{Primitive}
+use Rattle.chw_prims.specs.declared.prim.Primitive.TheVariants.{AddU, AddS, SubU, SubS, MulU, MulS, AndU, AndS, AndB, OrU, OrS, OrB, XorU, XorS, XorB, XaddU, XaddS, XmulU, XmulS, NotU, NotS, NotB, ShlU, ShlS, ShlB, ShrU, ShrS, ShrB, EqU, EqS, EqB, LtU, LtS, ExtU, ExtS, ExtB, TruncU, TruncS, TruncB, Slice, Join, RedAnd, RedOr, RedXor, PackU, PackS, UnpackU, UnpackS, Fmap, Ap, Pure, Register, BlockRam, UnsafeSynchronizer, VGet, VGetC, VAt, VReplace, VMap, VMapC, VZipWith, VZipWithC, VFoldl, VFoldlC, VFoldr, VFoldrC, VGenerate, VGenerateC, VReplicate, VReplicateC, VAppend, VAppendC, VConcat, VConcatC, VTake, VTakeC, VDrop, VDropC, VReverse, VReverseC, VRotl, VRotlC}
 use Rattle.chw_prims.specs.declared.row.Row.{Row}
 use Rattle.chw_prims.specs.declared.row.Row.TheVariants.{Binary, WideSum, WideProduct, Unary, Shift, Compare, Extend, Truncate, Cut, Joined, Reduce, Packed, Unpacked, Mapping, Applying, Constant, Delay, Memory, Crossing, Element, ElementAt, Replaced, Mapped, Zipped, FoldedLeft, FoldedRight, Generated, Replicated, Appended, Concatenated, Taken, Dropped, Reversed, Rotated}
 
@@ -74,7 +74,7 @@ row_type (Reversed kind) = for_2 Nat kind (λ n a. vector n a ⇒ vector n a)
 row_type (Rotated kind) = for_3 Nat Nat kind (λ n k a. vector n a ⇒ vector n a)
 
 -- the line of each primitive
-abbrev pub row_of : Prim → Row
+abbrev pub row_of : Primitive → Row
 row_of AddU = Binary U
 row_of AddS = Binary S
 row_of SubU = Binary U
@@ -159,5 +159,5 @@ row_of VRotl = Rotated Val
 row_of VRotlC = Rotated Cir
 
 -- the type of each primitive
-abbrev pub schema_type : Prim → TypeTree
+abbrev pub schema_type : Primitive → TypeTree
 schema_type p = row_type (row_of p)

@@ -3,7 +3,7 @@
 /// A primitive. `U`, `S` and `B` at the end of a name say on which scalars it works; a vector primitive with `C` at the end of its name
 /// works on circuits.
 #[derive(Clone, Copy, Debug, PartialEq, Eq, Hash)]
-pub enum Prim {
+pub enum Primitive {
     AddU,
     AddS,
     SubU,

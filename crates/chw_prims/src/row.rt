@@ -2,7 +2,7 @@
 ghost use Rattle.std.specs.Prelude.{◌≡◌};
 ghost use Rattle.chw_prims.specs.Schemas.{row_of};
 
-use crate::prim::Prim;
+use crate::Prim;
 use chw_types::{Kind, Scalar};
 
 /// A line of the table of types, at a sort of scalars or at a kind of elements.

@@ -2,9 +2,8 @@
 ghost use Rattle.std.specs.Prelude.{◌≡◌, IfOk};
 ghost use Rattle.chw_prims.specs.Schemas.{schema_type, row_type};
 
-use crate::prim::Prim;
 use crate::row::Row;
-use crate::{signals, vectors, words};
+use crate::{Prim, signals, vectors, words};
 use chw_base::NoMemory;
 use chw_types::Ty;
 use std::alloc::Global;

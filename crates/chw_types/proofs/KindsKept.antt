@@ -1,5 +1,5 @@
 -- Kinds are kept by renaming and by putting.
-use Rattle.std.proofs.Common.{◌≡◌, ℕ, suc, zero, ◌+◌, ◌≤◌, refl, sym, subst, List, [], ◌∷◌, ◌++◌, length, max, arith}
+use Rattle.std.proofs.Common.{◌≡◌, ℕ, suc, zero, ◌+◌, ◌≤◌, refl, sym, ap, ◌∙◌, subst, List, [], ◌∷◌, ◌++◌, length, max, arith}
 use Rattle.std.specs.Prelude.{Some}
 use Rattle.std.specs.List.{slice_get}
 use Rattle.chw_types.specs.declared.kind.Kind.{Kind}
@@ -7,6 +7,7 @@ use Rattle.chw_types.specs.declared.kind.Kind.TheVariants.{Nat}
 use Rattle.chw_types.specs.declared.declarations.Data.{Data}
 use Rattle.chw_types.specs.TypeTree.{TypeTree, ty_var, nat_lit, nat_sum, nat_product, domain, scalar, vector, data_of, fun, signal, for_all, TypeTrees}
 use Rattle.chw_types.specs.TypeMoves.{Renaming, lift, rename, rename_all, Substitution, up, up_by, sub, sub_all, raised, one, put_at}
+use Rattle.chw_types.proofs.TypeLaws.{rename_ids}
 use Rattle.chw_types.specs.Kinds.{degree, KindOf, kind_var, kind_nat, kind_sum, kind_product, kind_domain, kind_scalar, kind_vector, kind_data, kind_fun, kind_signal, kind_for_all, KindsOf, no_kinds, kind_and}
 
 pub degree_renamed : (t : TypeTree) (ρ : Renaming) → degree (rename t ρ) ≡ degree t
@@ -130,3 +131,27 @@ pub puts_put : (datas : List Data) (domains : ℕ) (inner outer : List Kind) (a 
 unfolding put_at up_by
 puts_put datas domains [] outer a j d small = puts_one datas domains outer a j d small
 puts_put datas domains (i ∷ inner) outer a j d small = puts_under datas domains (put_at (length inner) a) (inner ++ j ∷ outer) (inner ++ outer) i (puts_put datas domains inner outer a j d small)
+
+-- a closed type has no variable, and so degree 0
+closed_degree : {datas : List Data} {domains : ℕ} {scope : List Kind} {t : TypeTree} {k : Kind} → KindOf datas domains scope t k → scope ≡ [] → degree t ≤ 0
+closed_degree (kind_var {x = x} {k = k} e) is = absurd (let f = ap (λ s. slice_get s x) (sym is) ∙ e in cc)
+closed_degree kind_nat is = omega arith
+closed_degree (kind_sum d e small) is = let l = closed_degree d is in let r = closed_degree e is in omega arith
+closed_degree (kind_product d e small) is = let l = closed_degree d is in let r = closed_degree e is in omega arith
+closed_degree (kind_domain l) is = omega arith
+closed_degree (kind_scalar d) is = omega arith
+closed_degree (kind_vector d e o) is = omega arith
+closed_degree (kind_data e ds) is = omega arith
+closed_degree (kind_fun d e o) is = omega arith
+closed_degree (kind_signal d e) is = omega arith
+closed_degree (kind_for_all d o) is = omega arith
+
+renames_none : (scope : List Kind) → Renames (λ x. x) [] scope
+renames_none scope x k e = absurd (cc)
+
+-- a closed type has its kind in every scope
+pub closed_anywhere : {datas : List Data} {domains : ℕ} {t : TypeTree} {k : Kind} → KindOf datas domains [] t k → (scope : List Kind) → KindOf datas domains scope t k
+closed_anywhere {datas} {domains} {t = t} {k = k} d scope = subst (λ u. KindOf datas domains scope u k) (rename_ids t) (kind_renamed d (λ x. x) scope (renames_none scope))
+
+pub closed_small : {datas : List Data} {domains : ℕ} {t : TypeTree} {k : Kind} → KindOf datas domains [] t k → degree t ≤ 1
+closed_small d = let l = closed_degree d refl in omega arith

@@ -1,8 +1,16 @@
 pub mod Agreement
+pub mod Arguments
 pub mod BuiltIn
+pub mod Ceiling
 pub mod KindFound
 pub mod Kinds
 pub mod Polynomials
+pub mod Ports
+pub mod PortsFound
+pub mod References
+pub mod Representable
+pub mod RowsFound
+pub mod RowsRight
 pub mod SameFound
 pub mod SamePromises
 pub mod SameTypes

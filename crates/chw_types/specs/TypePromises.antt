@@ -1,5 +1,5 @@
 -- What is promised of kinds, and of shifting and putting types.
-use Rattle.std.specs.Prelude.{◌≡◌, ℕ, ◌+◌, ◌≤◌, List, ◌∷◌, ◌++◌, length}
+use Rattle.std.specs.Prelude.{◌≡◌, ℕ, ◌+◌, ◌≤◌, List, [], ◌∷◌, ◌++◌, length}
 use Rattle.chw_types.specs.declared.kind.Kind.{Kind}
 use Rattle.chw_types.specs.declared.declarations.Data.{Data}
 use Rattle.chw_types.specs.TypeTree.{TypeTree}
@@ -34,3 +34,8 @@ ShiftKeepsKind =
 abbrev pub PutKeepsKind : Type 0
 PutKeepsKind =
     (datas : List Data) (domains : ℕ) (inner outer : List Kind) (t a : TypeTree) (j k : Kind) → KindOf datas domains (inner ++ j ∷ outer) t k → KindOf datas domains outer a j → degree a ≤ 1 → KindOf datas domains (inner ++ outer) (put t (length inner) a) k
+
+-- a closed type of the variable's kind keeps the kind
+abbrev pub PutClosedKeepsKind : Type 0
+PutClosedKeepsKind =
+    (datas : List Data) (domains : ℕ) (inner outer : List Kind) (t a : TypeTree) (j k : Kind) → KindOf datas domains (inner ++ j ∷ outer) t k → KindOf datas domains [] a j → KindOf datas domains (inner ++ outer) (put t (length inner) a) k

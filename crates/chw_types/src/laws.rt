@@ -1,5 +1,6 @@
 //! Laws of types, each as the contract of a call that does nothing.
-ghost use Rattle.chw_types.specs.TypePromises.{ShiftAfterPut, PutAfterShift, PutAfterPut, OneKind, ShiftKeepsKind, PutKeepsKind};
+ghost use Rattle.chw_types.specs.TypePromises.{ShiftAfterPut, PutAfterShift, PutAfterPut, OneKind, ShiftKeepsKind, PutKeepsKind, PutClosedKeepsKind};
+ghost use Rattle.chw_types.specs.Ceiling.{SumsCommute, SumsAssociate, ProductsCommute, ProductsAssociate, ProductsOverSums, ZeroIsNeutral, OneIsNeutral, ZeroAbsorbs};
 ghost use Rattle.chw_types.specs.SamePromises.{SameReflexive, SameSymmetric, SameTransitive, SameValues};
 
 /// Shifting after putting is putting after shifting, with the places moved.
@@ -30,6 +31,43 @@ pub fn shift_keeps_kind()
 /// Putting a type of the variable's kind keeps the kind, where it is of degree at most 1, as a closed type is.
 pub fn put_keeps_kind()
     ensures { PutKeepsKind }
+{}
+
+/// Putting a closed type of the variable's kind keeps the kind.
+pub fn put_closed_keeps_kind()
+    ensures { PutClosedKeepsKind }
+{}
+
+/// Sums that end at the greatest natural don't depend on the order.
+pub fn sums_commute()
+    ensures { SumsCommute }
+{}
+
+/// Nor on how they are grouped.
+pub fn sums_associate()
+    ensures { SumsAssociate }
+{}
+
+/// Products that end at the greatest natural don't depend on the order.
+pub fn products_commute()
+    ensures { ProductsCommute }
+{}
+
+/// Nor on how they are grouped.
+pub fn products_associate()
+    ensures { ProductsAssociate }
+{}
+
+/// A product with a sum is the sum of the products, where all end at the greatest natural.
+pub fn products_over_sums()
+    ensures { ProductsOverSums }
+{}
+
+/// Zero adds nothing, one changes no factor, and a product with zero is zero.
+pub fn zero_and_one()
+    ensures zero { ZeroIsNeutral }
+    ensures one { OneIsNeutral }
+    ensures absorbs { ZeroAbsorbs }
 {}
 
 /// A type is the same as itself.

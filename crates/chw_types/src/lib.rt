@@ -2,24 +2,28 @@
 //! types are made over these trees.
 #![tactic(auto)]
 
+pub mod arguments;
 pub mod declarations;
 pub mod kind;
 pub mod kinding;
 pub mod laws;
 pub mod moves;
 mod polynomial;
+pub mod ports;
+pub mod representation;
+mod rows;
 pub mod sameness;
 mod scope;
 pub mod text;
 pub mod ty;
 
+pub use arguments::put_arguments;
 pub use declarations::{ConDecl, Data};
 pub use kind::{Kind, Scalar};
 pub use kinding::{KindFault, kind_of};
 pub use moves::{put_type, shift_type};
+pub use ports::{Leaf, leaves};
+pub use representation::representable;
 pub use sameness::same;
 pub use text::type_text;
 pub use ty::{Ty, TyNode};
-
-#[cfg(test)]
-mod tests;

@@ -25,7 +25,7 @@ pub fn shift_type(alloc: Global, t: &Ty, from: TyIx, by: u32) -> Result<Ty, NoMe
 }
 
 // The number of a variable that is raised.
-fn raise(number: u32, by: u32) -> Result<u32, NoMemory>
+pub(crate) fn raise(number: u32, by: u32) -> Result<u32, NoMemory>
     ensures { IfOk result (λ n. n ≡ number + by) }
 {
     number.checked_add(by).ok_or(NoMemory)
@@ -60,7 +60,7 @@ fn put_var(alloc: Global, x: TyIx, at: u32, arg: &Ty) -> Result<Ty, NoMemory>
 }
 
 #[tactic(auto, unfolding(crate::specs::TypeMoves::rename))]
-fn shift(alloc: Global, t: &Ty, from: u32, by: u32) -> Result<Ty, NoMemory>
+pub(crate) fn shift(alloc: Global, t: &Ty, from: u32, by: u32) -> Result<Ty, NoMemory>
     ensures { IfOk result (λ r. r ≡ shift t.now from by) }
 {
     match &t.node {

@@ -1,0 +1,85 @@
+//! Putting the arguments of a data type into its fields.
+ghost use Rattle.std.specs.Prelude.{◌≡◌, ◌+◌, reverse, IfOk};
+ghost use Rattle.chw_types.specs.Arguments.{given, arguments};
+ghost use Rattle.chw_types.specs.TypeMoves.{sub, up_by};
+ghost use Rattle.chw_types.specs.TypeView.{trees_of};
+
+use crate::kind::Scalar;
+use crate::moves::{raise, shift};
+use crate::ty::{Ty, TyNode};
+use chw_base::{NoMemory, TyIx};
+use std::alloc::Global;
+
+/// Puts these types for the parameters of a data type, of which the last is the variable 0, all at once. Later variables come down by
+/// their number, and under a binder the variables of the arguments are raised.
+pub fn put_arguments(alloc: Global, field: &Ty, args: &[Ty]) -> Result<Ty, NoMemory>
+    ensures { IfOk result (λ t. t ≡ sub field.now (arguments (trees_of args.now))) }
+{
+    Ok(fill(alloc, field, 0, args)?)
+}
+
+// What stands for a variable under so many binders.
+#[tactic(auto, using(crate::proofs::Filled::filled_below, crate::proofs::Filled::filled_here, crate::proofs::Filled::filled_above))]
+fn fill_var(alloc: Global, x: TyIx, under: u32, args: &[Ty]) -> Result<Ty, NoMemory>
+    ensures { IfOk result (λ t. t ≡ up_by under (given (reverse args.now)) x.number) }
+{
+    let number = x.number;
+    if number < under {
+        return Ok(Ty::var(x));
+    }
+    let at = (number - under) as usize;
+    if at < args.len() {
+        shift(alloc, &args[args.len() - 1 - at], 0, under)
+    } else {
+        Ok(Ty::var(TyIx {
+            number: number - args.len() as u32,
+        }))
+    }
+}
+
+// The type under so many binders.
+#[tactic(auto, unfolding(crate::specs::TypeMoves::sub))]
+fn fill(alloc: Global, t: &Ty, under: u32, args: &[Ty]) -> Result<Ty, NoMemory>
+    ensures { IfOk result (λ r. r ≡ sub t.now (up_by under (given (reverse args.now)))) }
+{
+    match &t.node {
+        TyNode::Var(x) => fill_var(alloc, *x, under, args),
+        TyNode::NatLit(n) => Ok(Ty::nat(*n)),
+        TyNode::Sum(a, b) => {
+            let a = fill(alloc, a, under, args)?;
+            Ok(Ty::sum(alloc, a, fill(alloc, b, under, args)?)?)
+        }
+        TyNode::Times(a, b) => {
+            let a = fill(alloc, a, under, args)?;
+            Ok(Ty::times(alloc, a, fill(alloc, b, under, args)?)?)
+        }
+        TyNode::DomOf(d) => Ok(Ty::dom_of(*d)),
+        TyNode::Unsigned(w) => Ty::scalar(alloc, Scalar::U, fill(alloc, w, under, args)?),
+        TyNode::Signed(w) => Ty::scalar(alloc, Scalar::S, fill(alloc, w, under, args)?),
+        TyNode::BitVector(w) => Ty::scalar(alloc, Scalar::B, fill(alloc, w, under, args)?),
+        TyNode::Vec(n, t) => {
+            let n = fill(alloc, n, under, args)?;
+            Ok(Ty::vec(alloc, n, fill(alloc, t, under, args)?)?)
+        }
+        TyNode::DataOf(d, parts) => {
+            let mut done = Vec::new(alloc);
+            for part in parts {
+                done.push(fill(alloc, part, under, args)?)?;
+            }
+            Ok(Ty::data_of(*d, done))
+        }
+        TyNode::Fun(a, b) => {
+            let a = fill(alloc, a, under, args)?;
+            Ok(Ty::fun(alloc, a, fill(alloc, b, under, args)?)?)
+        }
+        TyNode::Signal(d, t) => {
+            let d = fill(alloc, d, under, args)?;
+            Ok(Ty::signal(alloc, d, fill(alloc, t, under, args)?)?)
+        }
+        TyNode::Forall(k, t) => {
+            let inner = raise(under, 1)?;
+            let t = fill(alloc, t, inner, args)?;
+            Ok(Ty::forall(alloc, *k, t)?)
+        }
+    }
+}
