@@ -1,87 +1,82 @@
 -- How a run ends says why it ended so.
-use Rattle.std.proofs.Common.{◌≡◌, ℕ, ◌≤◌, List, length, Option, Some, None, Result, Ok, Err, ◌⊎◌, inl, inr, refl, ap, sym, subst, ◌∙◌, arith}
+use Rattle.std.proofs.Common.{◌≡◌, ℕ, ◌<◌, ◌≤◌, List, length, Option, Some, None, Result, Ok, Err, ◌⊎◌, inl, inr, refl, ap, sym, subst, ◌∙◌, arith}
 use Rattle.std.specs.Option.{IsSomeAnd}
 use Rattle.chw_base.specs.Files.{Files, file_of}
 use Rattle.chw_base.specs.Outcome.{OfFault}
 use Rattle.chw_base.specs.declared.limits.TheConstants.{DESCRIPTION_BYTES, FLAT_WIRES}
 use Rattle.chw_base.specs.declared.outcome.Or.{Or}
 use Rattle.chw_base.specs.declared.outcome.Or.TheVariants.{Memory, Fault}
+use Rattle.chw_base.specs.declared.shelf.Fetched.{Fetched}
+use Rattle.chw_base.specs.declared.shelf.Fetched.TheVariants.{Whole, TooLong, Absent}
+use Rattle.chw_base.specs.declared.shelf.ShelfFault.{ShelfFault}
 use Rattle.chw_base.specs.declared.sink.SinkFault.{SinkFault}
-use Rattle.chw_cli.specs.Answer.{Answer, EmitAnswer, HasFewWires, HasNoLoop}
-use Rattle.chw_cli.specs.Answer.Answer.{no_command, absent, long_text, emit}
+use Rattle.chw_cli.specs.Answer.{Answer, CommandAnswer, EmitAnswer, HasFewWires, HasNoLoop, IsUnread, Source, TextAnswer, file_read}
+use Rattle.chw_cli.specs.Answer.Answer.{no_command, unread as not_read, long_text, text as of_text}
 use Rattle.chw_cli.specs.Answer.EmitAnswer.{form, too_large, loops, emitted}
-use Rattle.chw_cli.specs.Commands.{AreNoCommand, IsEmit}
-use Rattle.chw_cli.specs.Exact.{Ends, IsExact, IsUsed}
+use Rattle.chw_cli.specs.Answer.TextAnswer.{no_description, description}
+use Rattle.chw_cli.specs.Descriptions.{IsDescription, NoDescription}
+use Rattle.chw_cli.specs.Descriptions.NoDescription.{lex, syntax, depth}
+use Rattle.chw_cli.specs.Exact.{BreaksNothing, Ends, IsExact, IsUsed}
 use Rattle.chw_cli.specs.Lines.{status_of}
 use Rattle.chw_cli.specs.Outcome.{AnswersBy, Outcome, Refuses, Told, stopped}
 use Rattle.chw_cli.specs.Outcome.Outcome.{answered, refused, unwritten}
 use Rattle.chw_cli.specs.Outcome.Told.{told as was_told, untold as was_untold}
-use Rattle.chw_cli.specs.Outcome.Refuses.{for_memory, for_fault, by_answer}
+use Rattle.chw_cli.specs.Outcome.Refuses.{for_memory, by_answer}
 use Rattle.chw_cli.specs.declared.refusal.Refusal.{Refusal}
 use Rattle.chw_cli.specs.declared.refusal.Refusal.TheVariants as refusal
 use Rattle.chw_cli.specs.declared.status.Status.{Status}
 use Rattle.chw_cli.specs.declared.status.Status.TheVariants as status
+use Rattle.chw_cli.proofs.Asking.{AskSays, FetchSays}
+use Rattle.chw_grammar.specs.declared.program.Tree.{Tree}
+use Rattle.chw_words.specs.Commands.{IsCommand, AreNoCommand}
+use Rattle.chw_words.specs.declared.command.Command.{Command}
+use Rattle.chw_words.specs.declared.command.Command.TheVariants.{Emit, Check}
 use Rattle.flat_form.specs.Grammar.{IsFlatText}
 use Rattle.flat_form.specs.declared.flat.FlatText.{FlatText}
 use Rattle.flat_law.specs.FlatOf.{flat_of}
 use Rattle.netlist.specs.Orders.{IsLoop}
 
--- words name at most one file
-one_file : (words : List (List ℕ)) (file other : List ℕ) → IsEmit words file → IsEmit words other → other ≡ file
-one_file words file other e e' = let is = sym e'.words_are ∙ e.words_are in cc
+-- words are at most one command, a text is at most one flat description, and a description has no fault
+abbrev pub OneCommand : Type 0
+OneCommand = (words : List (List ℕ)) (a b : Command) → IsCommand words a → IsCommand words b → a ≡ b
 
--- a text is at most one flat description
-abbrev pub OneDescription : Type 0
-OneDescription = (text : List ℕ) (f g : FlatText) → IsFlatText text f → IsFlatText text g → f ≡ g
+abbrev pub OneFlatText : Type 0
+OneFlatText = (text : List ℕ) (f g : FlatText) → IsFlatText text f → IsFlatText text g → f ≡ g
 
--- a flat text that can be emitted is
-text_is_emitted : (text : List ℕ) (f : FlatText) (answer : Result (List ℕ) Refusal) → OneDescription → IsFlatText text f → HasFewWires f → HasNoLoop f
-    → EmitAnswer text answer → (bytes : List ℕ) × (answer ≡ Ok bytes)
-text_is_emitted text f _ one is few no_loop (form h) = absurd (h f is)
-text_is_emitted text f _ one is few no_loop (too_large g is' big) =
-    let same = one text f g is is' in let many = subst (λ d. length (flat_of d).widths ≤ FLAT_WIRES) same few in absurd (omega arith)
-text_is_emitted text f _ one is few no_loop (loops g cycle is' few' l) =
-    absurd (no_loop cycle (subst (λ d. IsLoop (flat_of d) cycle) (one text g f is' is) l))
-text_is_emitted text f _ one is few no_loop (emitted g is' can) = (_, refl)
+abbrev pub HasNoFault : Type 0
+HasNoFault = (text : List ℕ) (tree : Tree) (r : Refusal) → IsDescription text tree → NoDescription text r → ⊥
 
-file_is_emitted : (words : List (List ℕ)) (files : Files) (file text : List ℕ) (f : FlatText) (answer : Result (List ℕ) Refusal) → OneDescription
-    → IsEmit words file → file_of files file ≡ Some text → length text ≤ DESCRIPTION_BYTES → IsFlatText text f → HasFewWires f → HasNoLoop f
-    → Answer words files answer → (bytes : List ℕ) × (answer ≡ Ok bytes)
-file_is_emitted words files file text f _ one e held le is few no_loop (no_command h) = absurd (h file e)
-file_is_emitted words files file text f _ one e held le is few no_loop (absent other e' none) =
-    let same = ap (file_of files) (one_file words file other e e') in absurd (cc)
-file_is_emitted words files file text f _ one e held le is few no_loop (long_text other text' e' held' lt) =
-    let same = ap (file_of files) (one_file words file other e e') in
-    let texts : text' ≡ text = cc in absurd (omega (arith, ap length texts))
-file_is_emitted words files file text f answer one e held le is few no_loop (emit other text' _ e' held' le' a) =
-    let same = ap (file_of files) (one_file words file other e e') in
-    let texts : text' ≡ text = cc in
-    text_is_emitted text f answer one is few no_loop (subst (λ t. EmitAnswer t answer) texts a)
-
--- an answer by the files that are told
-by_told : (told : Option Files) (words : List (List ℕ)) (files : Files) (answer : Result (List ℕ) Refusal) → told ≡ Some files → AnswersBy told words answer
-    → Answer words files answer
-by_told told words files answer e a = subst (λ fs. Answer words fs answer) (sym (a.held files e)) a.answers
-
--- what the refusals of wrong words and of reads are by
-no_words : (words : List (List ℕ)) (files : Files) → Answer words files (Err refusal.Words) → AreNoCommand words
-no_words words files a = only refl a
+-- a description that breaks no restriction isn't refused
+flat_is_emitted : OneFlatText → (text : List ℕ) (r : Refusal) → BreaksNothing (Emit text 0) text → EmitAnswer text (Err r) → ⊥
+flat_is_emitted one text r (f, is, few, no_loop) a = only refl a
   where
-    only : {answer : Result (List ℕ) Refusal} → answer ≡ Err refusal.Words → Answer words files answer → AreNoCommand words
-    only e (no_command h) = h
-    only e (absent file is none) = absurd (cc)
-    only e (long_text file text is held lt) = absurd (cc)
-    only e (emit file text answer is held le a) = by_emit e a
-      where
-        by_emit : {answer : Result (List ℕ) Refusal} → answer ≡ Err refusal.Words → EmitAnswer text answer → AreNoCommand words
-        by_emit e (form h) = absurd (cc)
-        by_emit e (too_large f is big) = absurd (cc)
-        by_emit e (loops f cycle is few l) = absurd (cc)
-        by_emit e (emitted f is can) = absurd (cc)
+    only : {answer : Result (List ℕ) Refusal} → answer ≡ Err r → EmitAnswer text answer → ⊥
+    only e (form h) = h f is
+    only e (too_large g is' big) = let many = subst (λ d. length (flat_of d).widths ≤ FLAT_WIRES) (one text f g is is') few in absurd (omega arith)
+    only e (loops g cycle is' few' l) = no_loop cycle (subst (λ d. IsLoop (flat_of d) cycle) (one text g f is' is) l)
+    only e (emitted g is' can) = absurd (cc)
 
--- the text of a file is refused neither as unread nor as unwritten
-emit_refuses : (text : List ℕ) (r : Refusal) → EmitAnswer text (Err r) → status_of r ≡ status.Refused
-emit_refuses text r a = only refl a
+command_answers : OneFlatText → (command : Command) (text : List ℕ) (tree : Tree) (r : Refusal) → BreaksNothing command text
+    → CommandAnswer command text tree (Err r) → ⊥
+command_answers one (Emit file budget) text tree r b a = flat_is_emitted one text r b a
+command_answers one (Check file) text tree r b a = absurd (cc)
+
+text_answers : OneFlatText → HasNoFault → (command : Command) (text : List ℕ) (tree : Tree) (r : Refusal) → IsDescription text tree → BreaksNothing command text
+    → TextAnswer command text (Err r) → ⊥
+text_answers one sound command text tree r d b a = only refl a
+  where
+    only : {answer : Result (List ℕ) Refusal} → answer ≡ Err r → TextAnswer command text answer → ⊥
+    only e (no_description q n) = sound text tree q d n
+    only e (description t answer d' c) = command_answers one command text t r b (subst (CommandAnswer command text t) e c)
+
+-- the refusal of a text has one status
+fault_status : (text : List ℕ) (r : Refusal) → NoDescription text r → status_of r ≡ status.Refused
+fault_status text _ (lex at h) = refl
+fault_status text _ (syntax tokens at split h) = refl
+fault_status text _ (depth tokens at split h) = refl
+
+emit_status : (text : List ℕ) (r : Refusal) → EmitAnswer text (Err r) → status_of r ≡ status.Refused
+emit_status text r a = only refl a
   where
     only : {answer : Result (List ℕ) Refusal} → answer ≡ Err r → EmitAnswer text answer → status_of r ≡ status.Refused
     only e (form h) = let is : refusal.Form ≡ r = cc in sym (ap status_of is)
@@ -89,139 +84,154 @@ emit_refuses text r a = only refl a
     only e (loops f cycle is few l) = let is' : refusal.Loop cycle ≡ r = cc in sym (ap status_of is')
     only e (emitted f is can) = absurd (cc)
 
--- what a refusal that is an answer is by
-pub data Cause (words : List (List ℕ)) (files : Files) (r : Refusal) : Type 0 where
-  for_words : AreNoCommand words → r ≡ refusal.Words → Cause words files r
-  for_absent : (file : List ℕ) → IsEmit words file → file_of files file ≡ None → r ≡ refusal.Read file → Cause words files r
-  for_text : (file text : List ℕ) → IsEmit words file → file_of files file ≡ Some text → status_of r ≡ status.Refused → Cause words files r
+command_status : (command : Command) (text : List ℕ) (tree : Tree) (r : Refusal) → CommandAnswer command text tree (Err r) → status_of r ≡ status.Refused
+command_status (Emit file budget) text tree r a = emit_status text r a
+command_status (Check file) text tree r a = absurd (cc)
 
-cause : (words : List (List ℕ)) (files : Files) (r : Refusal) → Answer words files (Err r) → Cause words files r
-cause words files r a = only refl a
+text_status : (command : Command) (text : List ℕ) (r : Refusal) → TextAnswer command text (Err r) → status_of r ≡ status.Refused
+text_status command text r a = only refl a
   where
-    only : {answer : Result (List ℕ) Refusal} → answer ≡ Err r → Answer words files answer → Cause words files r
-    only e (no_command h) = let is : r ≡ refusal.Words = cc in for_words h is
-    only e (absent file is none) = let is' : r ≡ refusal.Read file = cc in for_absent file is none is'
-    only e (long_text file text is held lt) = let is' : refusal.LongText ≡ r = cc in for_text file text is held (sym (ap status_of is'))
-    only e (emit file text answer is held le a) = for_text file text is held (emit_refuses text r (subst (EmitAnswer text) e a))
+    only : {answer : Result (List ℕ) Refusal} → answer ≡ Err r → TextAnswer command text answer → status_of r ≡ status.Refused
+    only e (no_description q n) = let is : q ≡ r = cc in subst (λ q. status_of q ≡ status.Refused) is (fault_status text q n)
+    only e (description t answer d c) = command_status command text t r (subst (CommandAnswer command text t) e c)
 
--- an answer that isn't a refusal is by a file that is held
-emits_held : (words : List (List ℕ)) (files : Files) (bytes : List ℕ) → Answer words files (Ok bytes)
-    → (file : List ℕ) × (text : List ℕ) × IsEmit words file × (file_of files file ≡ Some text)
-emits_held words files bytes a = only refl a
-  where
-    only : {answer : Result (List ℕ) Refusal} → answer ≡ Ok bytes → Answer words files answer
-        → (file : List ℕ) × (text : List ℕ) × IsEmit words file × (file_of files file ≡ Some text)
-    only e (no_command h) = absurd (cc)
-    only e (absent file is none) = absurd (cc)
-    only e (long_text file text is held lt) = absurd (cc)
-    only e (emit file text answer is held le a) = (file, text, is, held)
+module _ (told : Option Files) (words : List (List ℕ)) (ShelfRose : Type 0) where
+  -- the file of the command is held, by what was read of it
+  abbrev pub Held : Command → Type 0
+  Held command = (files : Files) → told ≡ Some files → file_of files (file_read command) ≡ None → ⊥
 
--- why a run ends with this status
-pub data Reason (told : Option Files) (words : List (List ℕ)) (ShelfRose OutRose : Type 0) (s : Status) : Type 0 where
-  ok : (bytes : List ℕ) → AnswersBy told words (Ok bytes) → s ≡ status.Ok → Reason told words ShelfRose OutRose s
-  refusal_ : (r : Refusal) → Refuses told words ShelfRose r → s ≡ status_of r → Reason told words ShelfRose OutRose s
-  write : (bytes : List ℕ) → AnswersBy told words (Ok bytes) → OutRose → s ≡ status.Write → Reason told words ShelfRose OutRose s
-  memory : s ≡ status.Memory → Reason told words ShelfRose OutRose s
+  -- what an answer is by: the words are no command, the file isn't read, or it is held
+  pub data Cause (answer : Result (List ℕ) Refusal) : Type 0 where
+    for_words : AreNoCommand words → answer ≡ Err refusal.Words → Cause answer
+    for_file : (command : Command) → IsCommand words command → IsSomeAnd told (λ files. file_of files (file_read command) ≡ None) ⊎ ShelfRose
+        → answer ≡ Err (refusal.Read (file_read command)) → Cause answer
+    for_length : (command : Command) (text : List ℕ) → IsCommand words command → DESCRIPTION_BYTES < length text
+        → ((files : Files) → told ≡ Some files → file_of files (file_read command) ≡ Some text) → answer ≡ Err refusal.LongText → Cause answer
+    for_text : (command : Command) (text : List ℕ) → IsCommand words command
+        → ((files : Files) → told ≡ Some files → file_of files (file_read command) ≡ Some text) → TextAnswer command text answer → Cause answer
 
-module _ (told : Option Files) (words : List (List ℕ)) (ShelfRose OutRose OutSame ErrSame : Type 0) (All : List ℕ → Type 0) (Part : Or SinkFault → List ℕ → Type 0)
-    (Tells : Refusal → Status → Type 0) (tells : (r : Refusal) (s : Status) → Tells r s → Ends (status_of r) s) where
-  pub reason : (s : Status) → Outcome told words ShelfRose OutRose OutSame ErrSame All Part Tells s → Reason told words ShelfRose OutRose s
-  reason _ (answered bytes a all same) = ok bytes a refl
-  reason s (refused r _ why same t) = ended (tells r s t)
+  unread_cause : (command other : Command) (answer : Result Fetched (Or ShelfFault)) (bytes : List ℕ) → other ≡ command → IsUnread answer
+      → FetchSays told ShelfRose (file_read command) answer bytes → IsSomeAnd told (λ files. file_of files (file_read other) ≡ None) ⊎ ShelfRose
+  unread_cause command other answer bytes same (inl e) says =
+      inl (subst (λ c. IsSomeAnd told (λ files. file_of files (file_read c) ≡ None)) (sym same) (subst (λ a. FetchSays told ShelfRose (file_read command) a bytes) e says))
+  unread_cause command other answer bytes same (inr (f, e)) says = inr (subst (λ a. FetchSays told ShelfRose (file_read command) a bytes) e says)
+
+  pub cause : OneCommand → (source : Source) (answer : Result (List ℕ) Refusal) → Answer words source answer → AskSays told ShelfRose words source → Cause answer
+  cause once _ _ (no_command h) q = for_words h refl
+  cause once _ _ (not_read other answer bytes is' u) q =
+      for_file other is' (unread_cause q.command other answer bytes (once words other q.command is' q.is) u q.says) refl
+  cause once _ _ (long_text bytes) q = for_length q.command q.says.0 q.is q.says.1 q.says.2 refl
+  cause once _ _ (of_text other bytes answer is' a) q =
+      for_text other bytes is' (subst (λ c. (files : Files) → told ≡ Some files → file_of files (file_read c) ≡ Some bytes) (once words q.command other q.is is') q.says.1) a
+
+module _ (told : Option Files) (words : List (List ℕ)) (ShelfRose OutRose : Type 0) where
+  -- why a run ends with this status
+  pub data Reason (s : Status) : Type 0 where
+    ok : (bytes : List ℕ) → Cause told words ShelfRose (Ok bytes) → s ≡ status.Ok → Reason s
+    refusal_ : (r : Refusal) → Cause told words ShelfRose (Err r) → s ≡ status_of r → Reason s
+    write : (bytes : List ℕ) → Cause told words ShelfRose (Ok bytes) → OutRose → s ≡ status.Write → Reason s
+    memory : s ≡ status.Memory → Reason s
+
+module _ (told : Option Files) (words : List (List ℕ)) (ShelfRose OutRose OutSame ErrSame : Type 0) (Asked : Source → Type 0) (All : List ℕ → Type 0)
+    (Part : Or SinkFault → List ℕ → Type 0) (Tells : Refusal → Status → Type 0) (once : OneCommand)
+    (says : (source : Source) → Asked source → AskSays told ShelfRose words source) (tells : (r : Refusal) (s : Status) → Tells r s → Ends (status_of r) s) where
+  cause_of : (answer : Result (List ℕ) Refusal) → AnswersBy Asked words answer → Cause told words ShelfRose answer
+  cause_of answer a = cause told words ShelfRose once a.source answer a.answers (says a.source a.asked)
+
+  pub reason : (s : Status) → Outcome Asked words OutRose OutSame ErrSame All Part Tells s → Reason told words ShelfRose OutRose s
+  reason _ (answered bytes a all same) = ok bytes (cause_of (Ok bytes) a) refl
+  reason s (refused _ _ (for_memory source asked) same t) = ended (tells refusal.Memory s t)
+    where
+      ended : Ends status.Memory s → Reason told words ShelfRose OutRose s
+      ended (inl e) = memory e
+      ended (inr e) = memory e
+  reason s (refused _ _ (by_answer r a) same t) = ended (tells r s t)
     where
       ended : Ends (status_of r) s → Reason told words ShelfRose OutRose s
-      ended (inl e) = refusal_ r why e
+      ended (inl e) = refusal_ r (cause_of (Err r) a) e
       ended (inr e) = memory e
   reason s (unwritten bytes answer _ a part rose t) = ended answer rose (tells (stopped answer) s t)
     where
       ended : (answer : Or SinkFault) → OfFault answer (λ _. OutRose) → Ends (status_of (stopped answer)) s → Reason told words ShelfRose OutRose s
       ended Memory rose (inl e) = memory e
       ended Memory rose (inr e) = memory e
-      ended (Fault f) rose (inl e) = write bytes a rose e
+      ended (Fault f) rose (inl e) = write bytes (cause_of (Ok bytes) a) rose e
       ended (Fault f) rose (inr e) = memory e
 
-module _ (told : Option Files) (words : List (List ℕ)) (ShelfRose OutRose : Type 0) (one : OneDescription) (s : Status) where
+module _ (told : Option Files) (words : List (List ℕ)) (ShelfRose OutRose : Type 0) (once : OneCommand) (one : OneFlatText) (sound : HasNoFault) (s : Status) where
+  -- an answer to words that are a command has a cause in its file
   words_wrong : Reason told words ShelfRose OutRose s → s ≡ status.Words → AreNoCommand words
-  words_wrong (ok bytes a e) is = absurd (cc)
-  words_wrong (refusal_ _ for_memory e) is = absurd (cc)
-  words_wrong (refusal_ _ (for_fault file h rose) e) is = absurd (cc)
-  words_wrong (refusal_ _ (by_answer r a) e) is = by_cause (cause words a.files r a.answers)
-    where
-      by_cause : Cause words a.files r → AreNoCommand words
-      by_cause (for_words h r_is) = h
-      by_cause (for_absent file h none r_is) = let st = ap status_of r_is in absurd (cc)
-      by_cause (for_text file text h held st) = absurd (cc)
-  words_wrong (write bytes a rose e) is = absurd (cc)
+  words_wrong (ok bytes c e) is = absurd (cc)
+  words_wrong (refusal_ r (for_words h r_is) e) is = h
+  words_wrong (refusal_ r (for_file command h u r_is) e) is = let q : r ≡ refusal.Read (file_read command) = cc in let st = ap status_of q in absurd (cc)
+  words_wrong (refusal_ r (for_length command text h l held r_is) e) is = let q : r ≡ refusal.LongText = cc in let st = ap status_of q in absurd (cc)
+  words_wrong (refusal_ r (for_text command text h held a) e) is = let st = text_status command text r a in absurd (cc)
+  words_wrong (write bytes c rose e) is = absurd (cc)
   words_wrong (memory e) is = absurd (cc)
 
   wrong_words : Reason told words ShelfRose OutRose s → AreNoCommand words → Ends status.Words s
-  wrong_words (ok bytes a e) wrong = let h = emits_held words a.files bytes a.answers in absurd (wrong h.0 h.2)
-  wrong_words (refusal_ _ for_memory e) wrong = inr e
-  wrong_words (refusal_ _ (for_fault file h rose) e) wrong = absurd (wrong file h)
-  wrong_words (refusal_ _ (by_answer r a) e) wrong = by_cause (cause words a.files r a.answers)
-    where
-      by_cause : Cause words a.files r → Ends status.Words s
-      by_cause (for_words h r_is) = inl (e ∙ ap status_of r_is)
-      by_cause (for_absent file h none r_is) = absurd (wrong file h)
-      by_cause (for_text file text h held st) = absurd (wrong file h)
-  wrong_words (write bytes a rose e) wrong = let h = emits_held words a.files bytes a.answers in absurd (wrong h.0 h.2)
-  wrong_words (memory e) wrong = inr e
+  wrong_words (ok bytes (for_words h e') e) never = absurd (cc)
+  wrong_words (ok bytes (for_file command h u e') e) never = absurd (never command h)
+  wrong_words (ok bytes (for_length command text h l held e') e) never = absurd (never command h)
+  wrong_words (ok bytes (for_text command text h held a) e) never = absurd (never command h)
+  wrong_words (refusal_ r (for_words h r_is) e) never = let q : r ≡ refusal.Words = cc in inl (e ∙ ap status_of q)
+  wrong_words (refusal_ r (for_file command h u r_is) e) never = absurd (never command h)
+  wrong_words (refusal_ r (for_length command text h l held r_is) e) never = absurd (never command h)
+  wrong_words (refusal_ r (for_text command text h held a) e) never = absurd (never command h)
+  wrong_words (write bytes (for_words h e') rose e) never = absurd (cc)
+  wrong_words (write bytes (for_file command h u e') rose e) never = absurd (never command h)
+  wrong_words (write bytes (for_length command text h l held e') rose e) never = absurd (never command h)
+  wrong_words (write bytes (for_text command text h held a) rose e) never = absurd (never command h)
+  wrong_words (memory e) never = inr e
 
   unread : Reason told words ShelfRose OutRose s → s ≡ status.Read
-      → (file : List ℕ) × IsEmit words file × (IsSomeAnd told (λ files. file_of files file ≡ None) ⊎ ShelfRose)
-  unread (ok bytes a e) is = absurd (cc)
-  unread (refusal_ _ for_memory e) is = absurd (cc)
-  unread (refusal_ _ (for_fault file h rose) e) is = (file, h, inr rose)
-  unread (refusal_ _ (by_answer r a) e) is = by_cause (cause words a.files r a.answers)
-    where
-      by_cause : Cause words a.files r → (file : List ℕ) × IsEmit words file × (IsSomeAnd told (λ files. file_of files file ≡ None) ⊎ ShelfRose)
-      by_cause (for_words h r_is) = let st = ap status_of r_is in absurd (cc)
-      by_cause (for_absent file h none r_is) =
-          let t : told ≡ Some a.files = a.absent_told file (ap Err r_is) in
-          (file, h, inl (subst (λ o. IsSomeAnd o (λ files. file_of files file ≡ None)) (sym t) none))
-      by_cause (for_text file text h held st) = absurd (cc)
-  unread (write bytes a rose e) is = absurd (cc)
+      → (command : Command) × IsCommand words command × (IsSomeAnd told (λ files. file_of files (file_read command) ≡ None) ⊎ ShelfRose)
+  unread (ok bytes c e) is = absurd (cc)
+  unread (refusal_ r (for_words h r_is) e) is = let q : r ≡ refusal.Words = cc in let st = ap status_of q in absurd (cc)
+  unread (refusal_ r (for_file command h u r_is) e) is = (command, h, u)
+  unread (refusal_ r (for_length command text h l held r_is) e) is = let q : r ≡ refusal.LongText = cc in let st = ap status_of q in absurd (cc)
+  unread (refusal_ r (for_text command text h held a) e) is = let st = text_status command text r a in absurd (cc)
+  unread (write bytes c rose e) is = absurd (cc)
   unread (memory e) is = absurd (cc)
 
-  absent_ends : Reason told words ShelfRose OutRose s → (files : Files) (file : List ℕ) → told ≡ Some files → IsEmit words file → file_of files file ≡ None
-      → Ends status.Read s
-  absent_ends (ok bytes a e) files file t h none =
-      let held = emits_held words a.files bytes a.answers in
-      let same : files ≡ a.files = a.held files t in
-      let name = one_file words file held.0 h held.2 in absurd (cc)
-  absent_ends (refusal_ _ for_memory e) files file t h none = inr e
-  absent_ends (refusal_ _ (for_fault other h' rose) e) files file t h none = inl e
-  absent_ends (refusal_ _ (by_answer r a) e) files file t h none = by_cause (cause words a.files r a.answers)
-    where
-      by_cause : Cause words a.files r → Ends status.Read s
-      by_cause (for_words wrong r_is) = absurd (wrong file h)
-      by_cause (for_absent other h' none' r_is) = inl (e ∙ ap status_of r_is)
-      by_cause (for_text other text h' held st) =
-          let same : files ≡ a.files = a.held files t in
-          let name = one_file words file other h h' in absurd (cc)
-  absent_ends (write bytes a rose e) files file t h none =
-      let held = emits_held words a.files bytes a.answers in
-      let same : files ≡ a.files = a.held files t in
-      let name = one_file words file held.0 h held.2 in absurd (cc)
-  absent_ends (memory e) files file t h none = inr e
+  -- a text is held of no file that isn't
+  no_text : (files : Files) (command other : Command) (text : List ℕ) → told ≡ Some files → IsCommand words command → IsCommand words other
+      → file_of files (file_read command) ≡ None → ((files : Files) → told ≡ Some files → file_of files (file_read other) ≡ Some text) → ⊥
+  no_text files command other text t is is' none held =
+      let same = ap (λ c. file_of files (file_read c)) (once words command other is is') in let some = held files t in absurd (cc)
+
+  absent : Reason told words ShelfRose OutRose s → (files : Files) (command : Command) → told ≡ Some files → IsCommand words command
+      → file_of files (file_read command) ≡ None → Ends status.Read s
+  absent (ok bytes (for_words h e') e) files command t is none = absurd (cc)
+  absent (ok bytes (for_file other h u e') e) files command t is none = absurd (cc)
+  absent (ok bytes (for_length other text h l held e') e) files command t is none = absurd (cc)
+  absent (ok bytes (for_text other text h held a) e) files command t is none = absurd (no_text files command other text t is h none held)
+  absent (refusal_ r (for_words h r_is) e) files command t is none = absurd (h command is)
+  absent (refusal_ r (for_file other h u r_is) e) files command t is none = let q : r ≡ refusal.Read (file_read other) = cc in inl (e ∙ ap status_of q)
+  absent (refusal_ r (for_length other text h l held r_is) e) files command t is none = absurd (no_text files command other text t is h none held)
+  absent (refusal_ r (for_text other text h held a) e) files command t is none = absurd (no_text files command other text t is h none held)
+  absent (write bytes (for_words h e') rose e) files command t is none = absurd (cc)
+  absent (write bytes (for_file other h u e') rose e) files command t is none = absurd (cc)
+  absent (write bytes (for_length other text h l held e') rose e) files command t is none = absurd (cc)
+  absent (write bytes (for_text other text h held a) rose e) files command t is none = absurd (no_text files command other text t is h none held)
+  absent (memory e) files command t is none = inr e
 
   unwritten_ends : Reason told words ShelfRose OutRose s → s ≡ status.Write → OutRose
-  unwritten_ends (ok bytes a e) is = absurd (cc)
-  unwritten_ends (refusal_ _ for_memory e) is = absurd (cc)
-  unwritten_ends (refusal_ _ (for_fault file h rose) e) is = absurd (cc)
-  unwritten_ends (refusal_ _ (by_answer r a) e) is = by_cause (cause words a.files r a.answers)
-    where
-      by_cause : Cause words a.files r → OutRose
-      by_cause (for_words h r_is) = let st = ap status_of r_is in absurd (cc)
-      by_cause (for_absent file h none r_is) = let st = ap status_of r_is in absurd (cc)
-      by_cause (for_text file text h held st) = absurd (cc)
-  unwritten_ends (write bytes a rose e) is = rose
+  unwritten_ends (ok bytes c e) is = absurd (cc)
+  unwritten_ends (refusal_ r (for_words h r_is) e) is = let q : r ≡ refusal.Words = cc in let st = ap status_of q in absurd (cc)
+  unwritten_ends (refusal_ r (for_file command h u r_is) e) is = let q : r ≡ refusal.Read (file_read command) = cc in let st = ap status_of q in absurd (cc)
+  unwritten_ends (refusal_ r (for_length command text h l held r_is) e) is = let q : r ≡ refusal.LongText = cc in let st = ap status_of q in absurd (cc)
+  unwritten_ends (refusal_ r (for_text command text h held a) e) is = let st = text_status command text r a in absurd (cc)
+  unwritten_ends (write bytes c rose e) is = rose
   unwritten_ends (memory e) is = absurd (cc)
 
   used_by : (r : Refusal) → IsUsed (status_of r)
   used_by refusal.Words = tt
   used_by (refusal.Read file) = tt
   used_by refusal.LongText = tt
+  used_by (refusal.Lex at) = tt
+  used_by (refusal.Syntax at) = tt
+  used_by refusal.Depth = tt
   used_by refusal.Form = tt
   used_by refusal.TooLarge = tt
   used_by (refusal.Loop cycle) = tt
@@ -229,29 +239,37 @@ module _ (told : Option Files) (words : List (List ℕ)) (ShelfRose OutRose : Ty
   used_by refusal.Memory = tt
 
   used : Reason told words ShelfRose OutRose s → IsUsed s
-  used (ok bytes a e) = subst IsUsed (sym e) tt
-  used (refusal_ r why e) = subst IsUsed (sym e) (used_by r)
-  used (write bytes a rose e) = subst IsUsed (sym e) tt
+  used (ok bytes c e) = subst IsUsed (sym e) tt
+  used (refusal_ r c e) = subst IsUsed (sym e) (used_by r)
+  used (write bytes c rose e) = subst IsUsed (sym e) tt
   used (memory e) = subst IsUsed (sym e) tt
 
-  complete : Reason told words ShelfRose OutRose s → (files : Files) (file text : List ℕ) (f : FlatText) → told ≡ Some files → IsEmit words file
-      → file_of files file ≡ Some text → length text ≤ DESCRIPTION_BYTES → IsFlatText text f → HasFewWires f → HasNoLoop f → (ShelfRose → ⊥) → (OutRose → ⊥)
-      → Ends status.Ok s
-  complete (ok bytes a e) files file text f t h held le is few no_loop shelf out = inl e
-  complete (refusal_ _ for_memory e) files file text f t h held le is few no_loop shelf out = inr e
-  complete (refusal_ _ (for_fault other h' rose) e) files file text f t h held le is few no_loop shelf out = absurd (shelf rose)
-  complete (refusal_ _ (by_answer r a) e) files file text f t h held le is few no_loop shelf out =
-      let b = file_is_emitted words files file text f (Err r) one h held le is few no_loop (by_told told words files (Err r) t a) in
-      let no : Err r ≡ Ok b.0 = b.1 in absurd (cc)
-  complete (write bytes a rose e) files file text f t h held le is few no_loop shelf out = absurd (out rose)
-  complete (memory e) files file text f t h held le is few no_loop shelf out = inr e
+  complete : Reason told words ShelfRose OutRose s → (files : Files) (command : Command) (text : List ℕ) (tree : Tree) → told ≡ Some files
+      → IsCommand words command → file_of files (file_read command) ≡ Some text → length text ≤ DESCRIPTION_BYTES → IsDescription text tree
+      → BreaksNothing command text → (ShelfRose → ⊥) → (OutRose → ⊥) → Ends status.Ok s
+  complete (ok bytes c e) files command text tree t is held le d b shelf out = inl e
+  complete (refusal_ r (for_words h r_is) e) files command text tree t is held le d b shelf out = absurd (h command is)
+  complete (refusal_ r (for_file other h (inl none) r_is) e) files command text tree t is held le d b shelf out =
+      let same = ap (λ c. file_of files (file_read c)) (once words command other is h) in
+      let none' : file_of files (file_read other) ≡ None = subst (λ o. IsSomeAnd o (λ files. file_of files (file_read other) ≡ None)) t none in absurd (cc)
+  complete (refusal_ r (for_file other h (inr rose) r_is) e) files command text tree t is held le d b shelf out = absurd (shelf rose)
+  complete (refusal_ r (for_length other text' h l held' r_is) e) files command text tree t is held le d b shelf out =
+      let same = ap (λ c. file_of files (file_read c)) (once words command other is h) in let some = held' files t in
+      let texts : text' ≡ text = cc in absurd (omega (arith, ap length texts))
+  complete (refusal_ r (for_text other text' h held' a) e) files command text tree t is held le d b shelf out =
+      let commands = once words command other is h in
+      let same = ap (λ c. file_of files (file_read c)) commands in let some = held' files t in
+      let texts : text' ≡ text = cc in
+      absurd (text_answers one sound command text tree r d b (subst (λ x. TextAnswer command x (Err r)) texts (subst (λ c. TextAnswer c text' (Err r)) (sym commands) a)))
+  complete (write bytes c rose e) files command text tree t is held le d b shelf out = absurd (out rose)
+  complete (memory e) files command text tree t is held le d b shelf out = inr e
 
   pub exact_by : Reason told words ShelfRose OutRose s → IsExact told words ShelfRose OutRose s
   exact_by r = record {
     words_wrong = words_wrong r;
     wrong_words = wrong_words r;
     unread = unread r;
-    absent = absent_ends r;
+    absent = absent r;
     unwritten = unwritten_ends r;
     used = used r;
     complete = complete r;

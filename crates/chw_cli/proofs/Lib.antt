@@ -1,6 +1,7 @@
+pub mod Asking
+pub mod Descriptions
 pub mod Emitting
 pub mod Exactly
-pub mod Fetching
 pub mod Progress
+pub mod Reasons
 pub mod Telling
-pub mod Words

@@ -2,10 +2,14 @@
 use Rattle.std.specs.Prelude.{◌≡◌, ◌≤◌, ℕ, List, length, Option, Some, None, ◌⊎◌, IsSomeAnd}
 use Rattle.chw_base.specs.Files.{Files, file_of}
 use Rattle.chw_base.specs.declared.limits.TheConstants.{DESCRIPTION_BYTES}
-use Rattle.chw_cli.specs.Answer.{HasFewWires, HasNoLoop}
-use Rattle.chw_cli.specs.Commands.{AreNoCommand, IsEmit}
+use Rattle.chw_cli.specs.Answer.{HasFewWires, HasNoLoop, file_read}
+use Rattle.chw_cli.specs.Descriptions.{IsDescription}
 use Rattle.chw_cli.specs.declared.status.Status.{Status}
 use Rattle.chw_cli.specs.declared.status.Status.TheVariants as status
+use Rattle.chw_grammar.specs.declared.program.Tree.{Tree}
+use Rattle.chw_words.specs.Commands.{IsCommand, AreNoCommand}
+use Rattle.chw_words.specs.declared.command.Command.{Command}
+use Rattle.chw_words.specs.declared.command.Command.TheVariants.{Emit, Check}
 use Rattle.flat_form.specs.Grammar.{IsFlatText}
 use Rattle.flat_form.specs.declared.flat.FlatText.{FlatText}
 
@@ -20,17 +24,25 @@ IsUsed status.Stimulus = ⊥
 IsUsed status.Verilog = ⊥
 IsUsed _ = Unit {0}
 
+-- the description breaks no restriction of the command: for `emit` it is flat, and its net has no more wires than the limit and no loop
+abbrev pub BreaksNothing : Command → List ℕ → Type 0
+BreaksNothing (Emit file budget) text = (f : FlatText) × IsFlatText text f × HasFewWires f × HasNoLoop f
+BreaksNothing (Check file) text = Unit {0}
+
 -- by the files where they are told, the words, and whether the faults of the shelf and of `out` rose
 pub record IsExact (told : Option Files) (words : List (List ℕ)) (ShelfRose OutRose : Type 0) (s : Status) : Type 0 where
   -- the words are refused exactly where they are no command
   pub words_wrong : s ≡ status.Words → AreNoCommand words
   pub wrong_words : AreNoCommand words → Ends status.Words s
   -- the read is refused only where the file isn't held or the shelf's faults rose, and always where it isn't held
-  pub unread : s ≡ status.Read → (file : List ℕ) × IsEmit words file × (IsSomeAnd told (λ files. file_of files file ≡ None) ⊎ ShelfRose)
-  pub absent : (files : Files) (file : List ℕ) → told ≡ Some files → IsEmit words file → file_of files file ≡ None → Ends status.Read s
+  pub unread : s ≡ status.Read
+      → (command : Command) × IsCommand words command × (IsSomeAnd told (λ files. file_of files (file_read command) ≡ None) ⊎ ShelfRose)
+  pub absent : (files : Files) (command : Command) → told ≡ Some files → IsCommand words command → file_of files (file_read command) ≡ None
+      → Ends status.Read s
   -- the write is refused only where the faults of `out` rose
   pub unwritten : s ≡ status.Write → OutRose
   pub used : IsUsed s
-  -- a flat text within the limits, without a loop, is emitted where no fault rose
-  pub complete : (files : Files) (file text : List ℕ) (f : FlatText) → told ≡ Some files → IsEmit words file → file_of files file ≡ Some text
-      → length text ≤ DESCRIPTION_BYTES → IsFlatText text f → HasFewWires f → HasNoLoop f → (ShelfRose → ⊥) → (OutRose → ⊥) → Ends status.Ok s
+  -- a description that breaks no restriction is answered where no fault rose
+  pub complete : (files : Files) (command : Command) (text : List ℕ) (tree : Tree) → told ≡ Some files → IsCommand words command
+      → file_of files (file_read command) ≡ Some text → length text ≤ DESCRIPTION_BYTES → IsDescription text tree → BreaksNothing command text
+      → (ShelfRose → ⊥) → (OutRose → ⊥) → Ends status.Ok s

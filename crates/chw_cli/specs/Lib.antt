@@ -1,9 +1,9 @@
 pub mod Answer
-pub mod Asks
-pub mod Commands
 pub mod Delivery
+pub mod Descriptions
 pub mod Exact
 pub mod Lines
 pub mod Outcome
 pub mod Refusals
 pub mod Telling
+pub mod Unread

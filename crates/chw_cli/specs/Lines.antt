@@ -3,7 +3,7 @@ use Rattle.std.specs.Prelude.{ℕ, List, ◌++◌, codes, decimal}
 use Rattle.std.specs.List.{flat_map}
 use Rattle.chw_base.specs.declared.index.WireId.{WireId}
 use Rattle.chw_cli.specs.declared.refusal.Refusal.{Refusal}
-use Rattle.chw_cli.specs.declared.refusal.Refusal.TheVariants.{Words, Read, LongText, Form, TooLarge, Loop, Write, Memory}
+use Rattle.chw_cli.specs.declared.refusal.Refusal.TheVariants.{Words, Read, LongText, Lex, Syntax, Depth, Form, TooLarge, Loop, Write, Memory}
 use Rattle.chw_cli.specs.declared.status.Status.{Status}
 use Rattle.chw_cli.specs.declared.status.Status.TheVariants as status
 
@@ -22,6 +22,9 @@ abbrev pub status_of : Refusal → Status
 status_of Words = status.Words
 status_of (Read name) = status.Read
 status_of LongText = status.Refused
+status_of (Lex at) = status.Refused
+status_of (Syntax at) = status.Refused
+status_of Depth = status.Refused
 status_of Form = status.Refused
 status_of TooLarge = status.Refused
 status_of (Loop cycle) = status.Refused
@@ -37,6 +40,9 @@ abbrev pub line_of : Refusal → List ℕ
 line_of Words = codes "chw: words\n"
 line_of (Read name) = codes "chw: read " ++ name ++ codes "\n"
 line_of LongText = codes "chw: E03 limit text 1048576\n"
+line_of (Lex at) = codes "chw: E01 lex at " ++ decimal at ++ codes "\n"
+line_of (Syntax at) = codes "chw: E02 syntax at " ++ decimal at ++ codes "\n"
+line_of Depth = codes "chw: E03 limit depth 200\n"
 line_of Form = codes "chw: E20 form at 0\n"
 line_of TooLarge = codes "chw: E17 size wires 200000\n"
 line_of (Loop cycle) = codes "chw: E16 loop" ++ wire_texts cycle ++ codes "\n"

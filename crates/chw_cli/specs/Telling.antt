@@ -1,5 +1,5 @@
 -- The telling of one line.
-use Rattle.std.specs.Prelude.{ℕ, List, Option, Result}
+use Rattle.std.specs.Prelude.{ℕ, List, ◌++◌, codes, decimal, Option, Result}
 use Rattle.chw_base.specs.declared.outcome.Or.{Or}
 use Rattle.chw_base.specs.declared.sink.SinkFault.{SinkFault}
 use Rattle.chw_cli.specs.Delivery.{TellsLine, TellsNothing}
@@ -11,3 +11,7 @@ pub data Puts {S : Type 0} (gives : S → List ℕ → Result (Unit {0}) (Or Sin
     (line : List ℕ) (status : Status) (s t : S) : Status → Type 0 where
   put : TellsLine gives written faults line s t → Puts gives written faults line status s t status
   no_memory : TellsNothing gives s t → Puts gives written faults line status s t Memory
+
+-- words, a place, and a line feed
+abbrev pub place_line : List ℕ → ℕ → List ℕ
+place_line words at = words ++ decimal at ++ codes "\n"

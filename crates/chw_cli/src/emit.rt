@@ -2,7 +2,7 @@
 ghost use Rattle.std.specs.Prelude.{◌≡◌, ◌≤◌, length, Ok, IfOk, IfErr, OnOk};
 ghost use Rattle.chw_base.specs.declared.limits.TheConstants.{DESCRIPTION_BYTES};
 ghost use Rattle.chw_cli.specs.Answer.{EmitAnswer, CanBeEmitted};
-ghost use Rattle.chw_cli.specs.Refusals.{RefusesNet, RefusesText};
+ghost use Rattle.chw_cli.specs.Refusals.{RefusesEmit, RefusesNet};
 ghost use Rattle.flat_form.specs.FlatNet.{net_of};
 ghost use Rattle.flat_form.specs.Holds.{Holds};
 
@@ -19,7 +19,7 @@ use std::alloc::Global;
 pub(crate) fn emitted(alloc: Global, text: &[u8]) -> Result<Vec<u8>, Refusal>
     requires { length text.now ≤ DESCRIPTION_BYTES }
     ensures emitted { IfOk result (λ bytes. EmitAnswer text.now (Ok bytes.items)) }
-    ensures refused { IfErr result (RefusesText text.now) }
+    ensures refused { IfErr result (RefusesEmit text.now) }
 {
     let flat = flat_form::read(alloc, text)?;
     let net = flat_form::net(alloc, &flat)?;

@@ -2,8 +2,8 @@
 #![tactic(auto)]
 
 mod answer;
-mod command;
 mod deliver;
+mod describe;
 mod emit;
 mod fetch;
 pub mod refusal;

@@ -1,9 +1,12 @@
 //! Why the program gave no answer.
 ghost use Rattle.std.specs.Prelude.{◌≡◌};
-ghost use Rattle.chw_cli.specs.Refusals.{of_loop, of_not_flat, of_too_large};
+ghost use Rattle.chw_cli.specs.Refusals.{of_lex_fault, of_loop, of_not_flat, of_parse_fault, of_too_large, of_words_fault};
 ghost use Rattle.chw_cli.specs.declared.refusal.Refusal.TheVariants.{Memory};
 
 use chw_base::{Name, NoMemory, Or, Seq, WireId};
+use chw_lexer::LexFault;
+use chw_parser::ParseFault;
+use chw_words::WordsFault;
 use flat_form::NotFlat;
 use netlist::{Loop, TooLarge};
 
@@ -16,6 +19,12 @@ pub enum Refusal {
     Read(Name),
     /// The text of the description is longer than the limit.
     LongText,
+    /// No token begins at this byte.
+    Lex(u32),
+    /// The token at this byte goes on with no description; or the text ends too early, and this is its length.
+    Syntax(u32),
+    /// More than 200 brackets are open, or the description is nested more deeply than that.
+    Depth,
     /// The text isn't of the flat form.
     Form,
     /// The net has more flat wires than the limit.
@@ -33,6 +42,40 @@ impl From<NoMemory> for Refusal {
 
     fn from(_error: NoMemory) -> Refusal {
         Refusal::Memory
+    }
+}
+
+impl From<Or<WordsFault>> for Refusal {
+    ghost from_gives = { λ e r. r ≡ of_words_fault e };
+
+    fn from(error: Or<WordsFault>) -> Refusal {
+        match error {
+            Or::Memory => Refusal::Memory,
+            Or::Fault(_) => Refusal::Words,
+        }
+    }
+}
+
+impl From<Or<LexFault>> for Refusal {
+    ghost from_gives = { λ e r. r ≡ of_lex_fault e };
+
+    fn from(error: Or<LexFault>) -> Refusal {
+        match error {
+            Or::Memory => Refusal::Memory,
+            Or::Fault(fault) => Refusal::Lex(fault.at),
+        }
+    }
+}
+
+impl From<Or<ParseFault>> for Refusal {
+    ghost from_gives = { λ e r. r ≡ of_parse_fault e };
+
+    fn from(error: Or<ParseFault>) -> Refusal {
+        match error {
+            Or::Memory => Refusal::Memory,
+            Or::Fault(ParseFault::Syntax { at }) => Refusal::Syntax(at),
+            Or::Fault(ParseFault::Depth { .. }) => Refusal::Depth,
+        }
     }
 }
 

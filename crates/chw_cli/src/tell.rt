@@ -2,7 +2,8 @@
 ghost use Rattle.std.specs.Prelude.{◌≡◌, IfOk};
 ghost use Rattle.chw_cli.specs.Lines.{line_of};
 ghost use Rattle.chw_cli.specs.Outcome.{Told};
-ghost use Rattle.chw_cli.specs.Telling.{Puts};
+ghost use Rattle.chw_cli.specs.Telling.{Puts, place_line};
+ghost use Rattle.chw_cli.specs.declared.status.Status.TheVariants.{Refused};
 
 use crate::refusal::Refusal;
 use crate::status::Status;
@@ -20,6 +21,9 @@ pub(crate) fn tell<E: Sink>(alloc: Global, refusal: &Refusal, err: &mut E) -> St
         Refusal::Words => put_line(alloc, "chw: words\n", Status::Words, err),
         Refusal::Read(file) => tell_unread(alloc, file, err),
         Refusal::LongText => put_line(alloc, "chw: E03 limit text 1048576\n", Status::Refused, err),
+        Refusal::Lex(at) => tell_place(alloc, "chw: E01 lex at ", *at, err),
+        Refusal::Syntax(at) => tell_place(alloc, "chw: E02 syntax at ", *at, err),
+        Refusal::Depth => put_line(alloc, "chw: E03 limit depth 200\n", Status::Refused, err),
         Refusal::Form => put_line(alloc, "chw: E20 form at 0\n", Status::Refused, err),
         Refusal::TooLarge => put_line(alloc, "chw: E17 size wires 200000\n", Status::Refused, err),
         Refusal::Loop(cycle) => tell_loop(alloc, cycle, err),
@@ -36,6 +40,27 @@ fn tell_unread<E: Sink>(alloc: Global, file: &Name, err: &mut E) -> Status
         Ok(line) => put_bytes(alloc, line.as_slice(), Status::Read, err),
         Err(NoMemory) => Status::Memory,
     }
+}
+
+/// Puts the line of a place in the text.
+fn tell_place<E: Sink>(alloc: Global, text: &str, at: u32, err: &mut E) -> Status
+    ensures { Puts E.put_gives E.written E.faults (place_line text.now at) Refused err.old err.new result }
+{
+    match place_line(alloc, text, at) {
+        Ok(line) => put_bytes(alloc, line.as_slice(), Status::Refused, err),
+        Err(NoMemory) => Status::Memory,
+    }
+}
+
+/// The line of a place in the text: these words, the place, and a line feed.
+fn place_line(alloc: Global, text: &str, at: u32) -> Result<Vec<u8>, NoMemory>
+    ensures { IfOk result (λ line. line.items ≡ place_line text.now at) }
+{
+    let mut buffer = Buffer::new();
+    let mut line = Vec::from_slice(alloc, text.as_bytes())?;
+    line.extend_from_slice(buffer.format(at).as_bytes())?;
+    line.push(b'\n')?;
+    Ok(line)
 }
 
 /// Puts the line of a loop.

@@ -1,9 +1,10 @@
 //! The one call that does all that the program does.
 ghost use Rattle.std.specs.Prelude.{◌≡◌};
 ghost use Rattle.chw_base.specs.Faults.{Rose};
+ghost use Rattle.chw_cli.specs.Answer.{Asks};
 ghost use Rattle.chw_cli.specs.Delivery.{WritesAll, StopsAt};
 ghost use Rattle.chw_cli.specs.Exact.{IsExact};
-ghost use Rattle.chw_cli.specs.Outcome.{Outcome, Told, FetchesOnce};
+ghost use Rattle.chw_cli.specs.Outcome.{Outcome, Told};
 
 use crate::answer::answer;
 use crate::deliver::deliver;
@@ -11,6 +12,9 @@ use crate::refusal::Refusal;
 use crate::status::Status;
 use crate::tell::tell;
 use chw_base::{Name, Or, Shelf, Sink};
+use chw_lexer::laws::{no_fault, one_splitting};
+use chw_parser::laws::one_tree;
+use chw_words::laws::words_are_one_command;
 use flat_form::one_description;
 use std::alloc::Global;
 
@@ -25,16 +29,19 @@ pub fn top<F: Shelf, K: Sink, E: Sink>(
     out: &mut K,
     err: &mut E,
 ) -> Status
-    ensures outcome { Outcome (F.told shelf.old) words.now (Rose (F.faults shelf.old) (F.faults shelf.new)) (Rose (K.faults out.old) (K.faults out.new))
+    ensures outcome { Outcome (Asks F.fetch_gives F.told F.faults words.now shelf.old shelf.new) words.now (Rose (K.faults out.old) (K.faults out.new))
         (out.new ≡ out.old) (err.new ≡ err.old)
         (λ bytes. WritesAll K.put_gives K.written bytes out.old out.new)
         (λ answer bytes. StopsAt K.put_gives K.written answer bytes out.old out.new)
         (λ refusal status. Told E.put_gives E.written E.faults refusal err.old err.new status)
         result }
     ensures exact { IsExact (F.told shelf.old) words.now (Rose (F.faults shelf.old) (F.faults shelf.new)) (Rose (K.faults out.old) (K.faults out.new)) result }
-    ensures fetches { FetchesOnce F.fetch_gives words.now shelf.old shelf.new }
 {
     one_description();
+    words_are_one_command();
+    no_fault();
+    one_splitting();
+    one_tree();
     match answer(alloc, words, shelf) {
         Ok(bytes) => match deliver(alloc, bytes.as_slice(), out) {
             Ok(()) => Status::Ok,

@@ -13,7 +13,8 @@ const ACCUMULATOR_TEXT: &str =
 
 const EMIT: &[&[u8]] = &[b"emit", b"a.chw"];
 
-fn expect(rt: &impl Abort, ran: &Ran, status: Status, out: &str, err: &str) {
+/// Compares what a run gave with what it must give.
+pub fn expect(rt: &impl Abort, ran: &Ran, status: Status, out: &str, err: &str) {
     assert_eq!(rt; ran.status, status);
     assert_eq!(rt; ran.out.as_slice(), out.as_bytes());
     assert_eq!(rt; ran.err.as_slice(), err.as_bytes());
@@ -31,9 +32,21 @@ fn accumulator_is_emitted(rt: HostRuntime) -> Result<(), Fail> {
 }
 
 #[test]
-fn empty_file_is_no_flat_text(rt: HostRuntime) -> Result<(), Fail> {
-    let ran = run(rt.alloc(), EMIT, &Given::file("a.chw", b""))?;
-    expect(&rt, &ran, Status::Refused, "", "chw: E20 form at 0\n");
+fn texts_that_are_refused(rt: HostRuntime) -> Result<(), Fail> {
+    let rows = [
+        // no description, which comes before the flat form
+        ("", "chw: E02 syntax at 0\n"),
+        ("domain Sys; #", "chw: E01 lex at 12\n"),
+        // a description that isn't flat
+        (
+            "domain Sys; def main : Bool = True; top main () (o);",
+            "chw: E20 form at 0\n",
+        ),
+    ];
+    for (text, line) in rows {
+        let ran = run(rt.alloc(), EMIT, &Given::file("a.chw", text.as_bytes()))?;
+        expect(&rt, &ran, Status::Refused, "", line);
+    }
     Ok(())
 }
 
@@ -72,16 +85,41 @@ fn fault_of_err_leaves_the_status(rt: HostRuntime) -> Result<(), Fail> {
 }
 
 #[test]
+fn emit_with_a_budget(rt: HostRuntime) -> Result<(), Fail> {
+    let rows: [&[&[u8]]; 3] = [
+        &[b"emit", b"a.chw", b"--budget", b"06"],
+        &[b"emit", b"--budget=6", b"a.chw"],
+        &[b"emit", b"--budget", b"10000000", b"a.chw"],
+    ];
+    let given = Given::file("a.chw", ACCUMULATOR.as_bytes());
+    for words in rows {
+        let ran = run(rt.alloc(), words, &given)?;
+        expect(&rt, &ran, Status::Ok, ACCUMULATOR_TEXT, "");
+    }
+    Ok(())
+}
+
+#[test]
 fn words_that_are_no_command(rt: HostRuntime) -> Result<(), Fail> {
-    let rows: [&[&[u8]]; 8] = [
+    let rows: [&[&[u8]]; 18] = [
         &[],
+        &[b""],
         &[b"emit"],
+        &[b"check"],
+        &[b"help"],
+        &[b"--help"],
         &[b"emit", b"a.chw", b"a.chw"],
         &[b"Emit", b"a.chw"],
         &[b"emit", b"--budget"],
-        &[b"emit", b"a.chw", b"--budget=6"],
+        &[b"emit", b"a.chw", b"--budget", b"6", b"--budget", b"6"],
+        &[b"emit", b"--", b"a.chw"],
+        &[b"check", b"a.chw", b"--budget", b"1"],
+        &[b"--budget", b"6", b"emit", b"a.chw"],
+        &[b"emit", b"a.chw", b"--budget", b"000000006"],
+        &[b"emit", b"a.chw", b"--budget", b"10000001"],
         &[b"emit", b"a\xff"],
-        &[b"check", b"a.chw"],
+        &[b"normalise", b"a.chw"],
+        &[b"emit", b"a.chw", b"--budget=-6"],
     ];
     for words in rows {
         let ran = run(rt.alloc(), words, &Given::file("a.chw", b""))?;

@@ -26,3 +26,15 @@ returns-in-Write g c =
 pub returns-in-Memory : goal.returns-in-Memory
 returns-in-Memory g c =
     told_by g.E.Sink.put_gives g.E.Sink.written g.E.Sink.faults c.args.refusal.now _ _ _ _ _ (ap line_of (sym c.in-Memory.is)) (ap status_of (sym c.in-Memory.is)) c.put_line-in-Memory.ensures
+
+pub returns-in-Lex : goal.returns-in-Lex
+returns-in-Lex g c =
+    told_by g.E.Sink.put_gives g.E.Sink.written g.E.Sink.faults c.args.refusal.now _ _ _ _ _ (ap line_of (sym c.in-Lex.is)) (ap status_of (sym c.in-Lex.is)) c.tell_place.ensures
+
+pub returns-in-Syntax : goal.returns-in-Syntax
+returns-in-Syntax g c =
+    told_by g.E.Sink.put_gives g.E.Sink.written g.E.Sink.faults c.args.refusal.now _ _ _ _ _ (ap line_of (sym c.in-Syntax.is)) (ap status_of (sym c.in-Syntax.is)) c.tell_place-in-Syntax.ensures
+
+pub returns-in-Depth : goal.returns-in-Depth
+returns-in-Depth g c =
+    told_by g.E.Sink.put_gives g.E.Sink.written g.E.Sink.faults c.args.refusal.now _ _ _ _ _ (ap line_of (sym c.in-Depth.is)) (ap status_of (sym c.in-Depth.is)) c.put_line-in-Depth.ensures

@@ -1,0 +1,63 @@
+#!/usr/bin/env bash
+# Times `chw check` on descriptions of 64 KiB to just under 1 MiB, beside Python's parser on a text of as many bytes and the same shape.
+# Usage: bench/check.sh [definitions|arguments|brackets]
+#   definitions: many short definitions    arguments: applications of 150 arguments    brackets: 150 brackets, one in the other
+set -eu
+top=$(cd "$(dirname "$0")/.." && pwd)
+form=${1:-definitions}
+work=$(mktemp -d)
+trap 'rm -rf "$work"' EXIT
+"$top/chw" >/dev/null 2>&1 || true  # builds the program where it isn't built
+program=$top/crates/chw/out/chw
+
+# A description of about this many bytes, and a Python text of the same shape.
+make() {
+  python3 - "$1" "$form" "$work" <<'PY'
+import sys
+size, form, work = int(sys.argv[1]), sys.argv[2], sys.argv[3]
+def row(k):
+    if form == "definitions":
+        return (f"def f{k} : forall (n : Nat) . Unsigned (n + 1) -> Bool = /\\(n : Nat) . \\(x : Unsigned (n + 1)) . case x of {{ 0u8 -> True; _ -> g @(n * 2) x y; }};\n",
+                f"f{k} = lambda n: lambda x: g(x, y, n * 2) if x == 0 else True if x == {k} else [n + 1, n + 2, n + 3, (n, x, y)]\n")
+    if form == "arguments":
+        return (f"def f{k} : Bool = f " + "x " * 150 + ";\n", f"f{k} = f(" + "x," * 150 + ")\n")
+    return (f"def f{k} : Bool = " + "(" * 150 + "x" + ")" * 150 + ";\n", f"f{k} = " + "(" * 150 + "x" + ")" * 150 + "\n")
+for name, which, end in (("a.chw", 0, "top main () (o);\n"), ("a.py", 1, "")):
+    out, n, k = [], len(end), 0
+    while True:
+        line = row(k)[which]
+        if n + len(line) > size: break
+        out.append(line); n += len(line); k += 1
+    open(f"{work}/{name}", "w").write("".join(out) + end)
+PY
+}
+
+# The least of five times, in microseconds.
+least() {
+  for _ in 1 2 3 4 5; do
+    local from to
+    from=$(date +%s%N); "$@" >/dev/null 2>&1 || true; to=$(date +%s%N)
+    echo $(((to - from) / 1000))
+  done | sort -n | head -n 1
+}
+
+# The least of five times of Python's parser alone, in microseconds.
+python() {
+  python3 - "$work/a.py" <<'PY'
+import ast, sys, time
+text = open(sys.argv[1]).read()
+def once():
+    start = time.perf_counter(); ast.parse(text); return time.perf_counter() - start
+print(int(min(once() for _ in range(5)) * 1e6))
+PY
+}
+
+printf '%10s %12s %12s %12s %8s\n' bytes 'chw us' 'ns a byte' 'python us' ratio
+for size in 65536 131072 262144 524288 1048576; do
+  make "$size"
+  bytes=$(stat -c %s "$work/a.chw")
+  "$program" check "$work/a.chw" >/dev/null || { echo "check refuses the text of $size bytes" >&2; exit 1; }
+  chw=$(least "$program" check "$work/a.chw")
+  parser=$(python)
+  printf '%10s %12s %12s %12s %8s\n' "$bytes" "$chw" "$((chw * 1000 / bytes))" "$parser" "$(awk "BEGIN { printf \"%.2f\", $chw / $parser }")"
+done

@@ -1,0 +1,27 @@
+-- Which texts are descriptions, and why a text is none.
+use Rattle.std.specs.Prelude.{ℕ, ◌≤◌, List, length}
+use Rattle.chw_base.specs.declared.limits.TheConstants.{NESTING}
+use Rattle.chw_lexer.specs.Tokens.{Tokens, NoToken}
+use Rattle.chw_lexer.specs.declared.token.Token.{Token}
+use Rattle.chw_grammar.specs.Grammar.{Reads}
+use Rattle.chw_grammar.specs.Height.{tree_height}
+use Rattle.chw_grammar.specs.Lexemes.{lexemes_of}
+use Rattle.chw_grammar.specs.declared.program.Tree.{Tree}
+use Rattle.chw_parser.specs.Faults.{IsFault, Shallow}
+use Rattle.chw_parser.specs.declared.parsing.ParseFault.TheVariants as fault
+use Rattle.chw_cli.specs.declared.refusal.Refusal.{Refusal}
+use Rattle.chw_cli.specs.declared.refusal.Refusal.TheVariants.{Lex, Syntax, Depth}
+
+-- the text is a description with this tree, within the limits on open brackets and on height
+pub record IsDescription (text : List ℕ) (tree : Tree) : Type 0 where
+  pub tokens : List Token
+  pub split : Tokens text tokens
+  pub reads : Reads (lexemes_of text tokens) tree
+  pub shallow : Shallow (lexemes_of text tokens)
+  pub low : tree_height tree ≤ NESTING
+
+-- why a text is no description: no token begins at a place, or its tokens have a first fault
+pub data NoDescription (text : List ℕ) : Refusal → Type 0 where
+  lex : (at : ℕ) → NoToken text at → NoDescription text (Lex at)
+  syntax : (tokens : List Token) (at : ℕ) → Tokens text tokens → IsFault (length text) (lexemes_of text tokens) (fault.Syntax at) → NoDescription text (Syntax at)
+  depth : (tokens : List Token) (at : ℕ) → Tokens text tokens → IsFault (length text) (lexemes_of text tokens) (fault.Depth at) → NoDescription text Depth

@@ -1,0 +1,36 @@
+//! The examples of the manual, each run by its words: what the program writes to either output, and its status, stand on standard output.
+#![tactic(auto)]
+
+use chw_base::{FileShelf, Name, StdSink};
+use chw_cli::top::top;
+use std::io;
+
+/// The commands of the manual, with their files.
+const ROWS: [[&str; 2]; 10] = [
+    ["check", "bad/lex.chw"],
+    ["check", "good/lex.chw"],
+    ["check", "bad/syntax.chw"],
+    ["check", "good/syntax.chw"],
+    ["check", "bad/depth.chw"],
+    ["check", "good/depth.chw"],
+    ["emit", "bad/form.chw"],
+    ["emit", "good/form.chw"],
+    ["emit", "bad/loop.chw"],
+    ["emit", "good/loop.chw"],
+];
+
+fn main(rt: HostRuntime) -> io::Result<()> {
+    for row in ROWS {
+        println!(rt; "chw {} {}", row[0], row[1])?;
+        let mut words = Vec::new(rt.alloc());
+        for word in row {
+            words.push(Name::from(Vec::from_slice(rt.alloc(), word.as_bytes())?))?;
+        }
+        let mut shelf = FileShelf::new(&rt);
+        let mut out = StdSink::new(rt.stdout());
+        let mut err = StdSink::new(rt.stdout());
+        let status = top(rt.alloc(), words.as_slice(), &mut shelf, &mut out, &mut err);
+        println!(rt; "status {}", status.code())?;
+    }
+    Ok(())
+}
