@@ -1,0 +1,10 @@
+pub mod Arguing
+pub mod Factors
+pub mod Filling
+pub mod KindsExact
+pub mod OneKind
+pub mod Parts
+pub mod PutSame
+pub mod SameForms
+pub mod Shifted
+pub mod Slots
