@@ -1,0 +1,4 @@
+pub mod Results
+pub mod Values
+pub mod Widths
+pub mod Words

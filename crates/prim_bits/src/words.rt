@@ -1,0 +1,80 @@
+//! Words as numbers of the machine, and back.
+ghost use Rattle.std.specs.Prelude.{◌≡◌, ◌≤◌, ◌%◌, ◌^◌, length, slice_index_or, false, IfOk};
+ghost use Rattle.chw_bits.specs.Bits.{number_of, bits_of};
+ghost use Rattle.prim_bits.specs.Results.{one_bit};
+ghost use Rattle.prim_bits.specs.Words.{signed, integer_of, residue_of};
+
+use chw_base::{NoMemory, Or};
+use chw_bits::Bits;
+use chw_types::Scalar;
+use std::alloc::Global;
+
+/// The number of a word of at most 128 bits.
+pub(crate) fn number(word: &Bits) -> u128
+    requires { length word.now ≤ 128 }
+    ensures { result ≡ number_of word.now }
+{
+    match word.number() {
+        Some(n) => n,
+        None => unreachable!(),
+    }
+}
+
+/// A number without the bits from a width up.
+pub(crate) fn low(n: u128, width: u32) -> u128
+    ensures { result ≡ n % 2 ^ width }
+{
+    if width < 128 { n % (1 << width) } else { n }
+}
+
+/// Whether the first bit of a word is set.
+fn is_negative(word: &Bits) -> bool
+    ensures { result ≡ slice_index_or word.now 0 false }
+{
+    word.as_slice().first().copied().unwrap_or(false)
+}
+
+/// The integer of a word of at most 128 bits in two's complement.
+pub(crate) fn signed_number(word: &Bits) -> i128
+    requires { length word.now ≤ 128 }
+    ensures { result ≡ signed word.now }
+{
+    let n = number(word);
+    if is_negative(word) {
+        // The bits above the word are set, so the others are the complement's.
+        !(low(!n, word.len()) as i128)
+    } else {
+        n as i128
+    }
+}
+
+/// The integer of a word of at most 128 bits at its sort, modulo 2 to the 128.
+pub(crate) fn residue(x: Scalar, word: &Bits) -> u128
+    requires { length word.now ≤ 128 }
+    ensures { result ≡ residue_of 128 (integer_of x word.now) }
+{
+    match x {
+        Scalar::U | Scalar::B => number(word),
+        Scalar::S => signed_number(word).cast_unsigned(),
+    }
+}
+
+/// The lowest bits of a number, as many as the width.
+pub(crate) fn word(alloc: Global, width: u32, n: u128) -> Result<Bits, NoMemory>
+    ensures { IfOk result (λ r. r ≡ bits_of width n) }
+{
+    match Bits::of_number(alloc, width, low(n, width)) {
+        Ok(bits) => Ok(bits),
+        Err(Or::Memory) => Err(NoMemory),
+        Err(Or::Fault(_)) => unreachable!(),
+    }
+}
+
+/// A truth value as one bit.
+pub(crate) fn one(alloc: Global, bit: bool) -> Result<Bits, NoMemory>
+    ensures { IfOk result (λ r. r ≡ one_bit bit) }
+{
+    let mut bits = Vec::new(alloc);
+    bits.push(bit)?;
+    Ok(Bits::of_list(bits))
+}
