@@ -1,0 +1,10 @@
+pub mod Coming
+pub mod Encodings
+pub mod Fitting
+pub mod Loops
+pub mod Measures
+pub mod Reaching
+pub mod Recalling
+pub mod Tags
+pub mod Telling
+pub mod Zeros

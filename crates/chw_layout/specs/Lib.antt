@@ -1,0 +1,11 @@
+pub mod Datum
+pub mod DatumCode
+pub mod DatumFalls
+pub mod DatumSize
+pub mod DatumView
+pub mod Encodes
+pub mod EncodingPromises
+pub mod Measured
+pub mod Outcomes
+pub mod Refusals
+pub mod Sizes

@@ -1,0 +1,4 @@
+pub mod Adding
+pub mod Decoded
+pub mod Encoded
+pub mod Unfolded
