@@ -1,0 +1,8 @@
+use Rattle.chw_limits.proofs.Made.{made_without_sign, made_with_sign}
+use Rattle.chw_limits.proofs.laws.literals_have_their_parts.Goals as goal
+
+pub returns-clause-without_sign : goal.returns-clause-without_sign
+returns-clause-without_sign c = made_without_sign
+
+pub returns-clause-with_sign : goal.returns-clause-with_sign
+returns-clause-with_sign c = made_with_sign
