@@ -1,0 +1,42 @@
+-- The examples hold by computation.
+use Rattle.std.proofs.Common.{refl}
+use Rattle.chw_types.specs.TypeMoves.{rename, up, sub}
+use Rattle.chw_types.specs.SamePromises.{natural_value}
+use Rattle.chw_meaning.specs.Run.{zero_by, eval}
+use Rattle.chw_meaning.specs.Shown.{CounterShown, AccumulatorShown, SumsShown, MemoryShown, CrossingShown, SwappingShown, PairShown, SignedShown, FilterShown}
+
+pub counter_shown : CounterShown
+unfolding eval zero_by sub rename up natural_value
+counter_shown = (refl, refl, refl, refl)
+
+pub accumulator_shown : AccumulatorShown
+unfolding eval zero_by sub rename up natural_value
+accumulator_shown = (refl, refl, refl)
+
+pub sums_shown : SumsShown
+unfolding eval zero_by sub rename up natural_value
+sums_shown = (refl, refl, refl, refl)
+
+pub memory_shown : MemoryShown
+unfolding eval zero_by sub rename up natural_value
+memory_shown = (refl, refl, refl, refl, refl, refl, refl)
+
+pub crossing_shown : CrossingShown
+unfolding eval zero_by sub rename up natural_value
+crossing_shown = (refl, refl, refl, refl, refl, refl, refl, refl, refl)
+
+pub swapping_shown : SwappingShown
+unfolding eval zero_by sub rename up natural_value
+swapping_shown = (refl, refl, refl, refl, refl, refl)
+
+pub pair_shown : PairShown
+unfolding eval zero_by sub rename up natural_value
+pair_shown = (refl, refl, refl)
+
+pub signed_shown : SignedShown
+unfolding eval zero_by sub rename up natural_value
+signed_shown = (refl, refl, refl, refl)
+
+pub filter_shown : FilterShown
+unfolding eval zero_by sub rename up natural_value
+filter_shown = (refl, refl, refl, refl, refl)

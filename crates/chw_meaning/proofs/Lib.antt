@@ -1,0 +1,11 @@
+pub mod CornersShown
+pub mod DesignsShown
+pub mod Endless
+pub mod GivenOnce
+pub mod Once
+pub mod ShownSound
+pub mod Sound
+pub mod Still
+pub mod WholeShown
+pub mod Widths
+pub mod ZeroBits

@@ -1,0 +1,5 @@
+use Rattle.chw_meaning.proofs.WholeShown.{whole_program}
+use Rattle.chw_meaning.proofs.examples.of_a_program.Goals as goal
+
+pub returns : goal.returns
+returns c = whole_program

@@ -1,0 +1,15 @@
+pub mod Constructors
+pub mod Corners
+pub mod Datum
+pub mod Designs
+pub mod Eval
+pub mod Gives
+pub mod Laws
+pub mod Layout
+pub mod Means
+pub mod Run
+pub mod Shown
+pub mod Steps
+pub mod Values
+pub mod Whole
+pub mod Writing

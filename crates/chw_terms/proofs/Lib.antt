@@ -1,0 +1,13 @@
+pub mod Absent
+pub mod Deep
+pub mod Found
+pub mod OccursLaws
+pub mod Renamed
+pub mod ShiftLaws
+pub mod Spines
+pub mod TermMoved
+pub mod TermsEvaluated
+pub mod TermsPut
+pub mod TypesEvaluated
+pub mod TypesPut
+pub mod TypesTyped

@@ -1,0 +1,27 @@
+//! Terms of the core language and whole programs, by typed indices: their types, raising variables and putting terms and types for
+//! them, where variables occur, how deep terms nest, and the laws of these. Contracts see a term as a plain tree, and all later promises
+//! about terms are made over these trees.
+#![tactic(auto)]
+
+pub mod depths;
+pub mod laws;
+mod numerals;
+pub mod occurrence;
+pub mod program;
+pub mod putting;
+pub mod rule;
+pub mod scene;
+pub mod shifting;
+pub mod term;
+pub mod types_put;
+
+pub use chw_types::Scalar;
+pub use depths::depth;
+pub use occurrence::occurs;
+pub use program::{Def, Program, Top};
+pub use putting::put;
+pub use rule::Rule;
+pub use scene::{Made, Mode, Place, Scene, Sort};
+pub use shifting::{shift, shift_types};
+pub use term::{Alt, Arg, Binding, Head, Pattern, Term};
+pub use types_put::put_type_in;

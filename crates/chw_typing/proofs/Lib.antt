@@ -1,0 +1,13 @@
+pub mod EvaluatedTypes
+pub mod Heads
+pub mod Kinded
+pub mod Lists
+pub mod OneType
+pub mod ProgramsShown
+pub mod PutAgreeing
+pub mod Renamed
+pub mod Shown
+pub mod TermsEvaluated
+pub mod TermsPut
+pub mod TypesPut
+pub mod TypesRenamed

@@ -1,0 +1,5 @@
+use Rattle.chw_typing.proofs.OneType.{one_type}
+use Rattle.chw_typing.proofs.laws.one_type.Goals as goal
+
+pub returns : goal.returns
+returns c s kinds vars e t u d f = one_type d f
