@@ -1,3 +1,4 @@
+pub mod Constructors
 pub mod Deepest
 pub mod Depth
 pub mod Evaluated
@@ -18,3 +19,4 @@ pub mod Tidy
 pub mod TypesMoved
 pub mod TypesPromises
 pub mod TypesPutIn
+pub mod Unrolled

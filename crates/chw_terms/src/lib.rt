@@ -5,7 +5,7 @@
 
 pub mod depths;
 pub mod laws;
-mod numerals;
+pub mod numerals;
 pub mod occurrence;
 pub mod program;
 pub mod putting;
@@ -17,6 +17,7 @@ pub mod types_put;
 
 pub use chw_types::Scalar;
 pub use depths::depth;
+pub use numerals::{evaluate, numeral};
 pub use occurrence::occurs;
 pub use program::{Def, Program, Top};
 pub use putting::put;

@@ -1,4 +1,4 @@
-//! Putting a type for a type variable of a type, where closed naturals become numerals.
+//! Closed naturals as numerals, in a type and as a type is put for a type variable.
 ghost use Rattle.std.specs.Prelude.{◌≡◌, IfOk};
 ghost use Rattle.chw_types.specs.TypeMoves.{put as put_type_tree};
 ghost use Rattle.chw_terms.specs.Evaluated.{numeral, added, multiplied_by, evaluated};
@@ -8,8 +8,8 @@ use chw_base::{NoMemory, TyIx};
 use chw_types::{Scalar, Ty, TyNode, put_type};
 use std::alloc::Global;
 
-// The number that a numeral means.
-fn numeral(t: &Ty) -> Option<u32>
+/// The number that a numeral means.
+pub fn numeral(t: &Ty) -> Option<u32>
     ensures { result ≡ numeral t.now }
 {
     match &t.node {
@@ -38,9 +38,9 @@ fn multiplied(alloc: Global, a: Ty, b: Ty) -> Result<Ty, NoMemory>
     }
 }
 
-// The type with each closed natural as its numeral.
+/// The type with each closed natural as its numeral, which ends at 4,294,967,295.
 #[tactic(auto, unfolding(crate::specs::Evaluated::evaluated))]
-pub(crate) fn evaluate(alloc: Global, t: &Ty) -> Result<Ty, NoMemory>
+pub fn evaluate(alloc: Global, t: &Ty) -> Result<Ty, NoMemory>
     ensures { IfOk result (λ r. r ≡ evaluated t.now) }
 {
     match &t.node {
