@@ -12,7 +12,7 @@ use Rattle.chw_types.specs.Kinds.{IsOfTerms, HasFunctions, KindOf, kind_var, kin
 use Rattle.chw_terms.specs.References.{IsField}
 use Rattle.chw_terms.specs.Tidy.{HasItsKind}
 use Rattle.type_laws.proofs.KindsExact.{slot_at}
-use Rattle.chw_typing.specs.Constructors.{Constructor, cons_of, constructors_from, con_at}
+use Rattle.chw_terms.specs.Constructors.{Constructor, cons_of, constructors_from, con_at}
 use Rattle.chw_typing.specs.Scopes.{Setting}
 use Rattle.chw_typing.specs.HeadTypes.{for_each, from_each, variables, con_type}
 use Rattle.chw_typing.specs.Programs.{IsSound}

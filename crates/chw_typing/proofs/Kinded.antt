@@ -7,7 +7,7 @@ use Rattle.chw_types.specs.declared.kind.Kind.TheVariants.{Val}
 use Rattle.chw_types.specs.declared.declarations.Data.{Data}
 use Rattle.chw_types.specs.BuiltIn.{built_in}
 use Rattle.chw_types.specs.TypeTree.{TypeTree, fun, for_all}
-use Rattle.chw_types.specs.TypeMoves.{raised, shift, put_at, put}
+use Rattle.chw_types.specs.TypeMoves.{raised, shift, put_at}
 use Rattle.chw_types.specs.Kinds.{IsOfTerms, HasFunctions, KindOf, kind_nat, kind_scalar, kind_vector, kind_fun, kind_for_all}
 use Rattle.chw_types.proofs.KindsFound.{one_kind, found_is_kind}
 use Rattle.chw_types.proofs.KindsKept.{kind_renamed, renames_shift, closed_anywhere}
@@ -15,13 +15,14 @@ use Rattle.chw_prims.specs.declared.prim.Primitive.{Primitive}
 use Rattle.chw_prims.specs.Schemas.{schema_type}
 use Rattle.chw_prims.proofs.SchemaKinds.{kind_of_schema, schema_has_kind, is_of_terms, is_circuit}
 use Rattle.chw_terms.specs.TermTree.{TermTree, Group}
-use Rattle.type_laws.proofs.KindsExact.{kind_fits, kind_if_fits, put_at_kinds}
-use Rattle.chw_typing.specs.Constructors.{Constructor, con_at}
+use Rattle.type_laws.proofs.KindsExact.{put_at_kinds}
+use Rattle.chw_terms.specs.Constructors.{Constructor, con_at}
 use Rattle.chw_typing.specs.Scopes.{Setting, HasKind, IsTermType, AreTermTypes, under_binder, with_more, declared}
 use Rattle.chw_typing.specs.HeadTypes.{con_type}
 use Rattle.chw_typing.specs.Programs.{IsSound}
 use Rattle.chw_typing.specs.Typing.{HasType, h_var, h_global, h_made, h_lam, h_app, h_ty_lam, h_ty_app, h_letrec, h_con, h_prim, h_lit, h_vec, h_case, AreBound, none_bound, bound_and}
 use Rattle.chw_typing.proofs.Lists.{reverse_cons}
+use Rattle.chw_typing.proofs.PutKinds.{same_kind_put}
 use Rattle.chw_typing.proofs.Heads.{functions_of_terms, of_terms_kind, is_constructor, con_kind}
 
 pub term_type : (s : Setting) (kinds : List Kind) (t : TypeTree) (k : Kind) → HasKind s kinds t k → IsOfTerms k → IsTermType s kinds t
@@ -39,11 +40,6 @@ function_gives s kinds a b k d = let at = function_parts d in term_type s kinds 
 
 pub bound_part : {datas : List Data} {domains : ℕ} {scope : List Kind} {j : Kind} {t : TypeTree} {k : Kind} → KindOf datas domains scope (for_all j t) k → KindOf datas domains (j ∷ scope) t k × IsOfTerms k
 bound_part (kind_for_all d o) = (d, o)
-
--- the kind of a type is as before where a type of the variable's kind was put
-pub kind_as_before : {datas : List Data} {domains : ℕ} {scope : List Kind} {t a : TypeTree} {i j k : Kind} → KindOf datas domains (j ∷ scope) t i → KindOf datas domains scope a j → KindOf datas domains scope (put t 0 a) k → i ≡ k
-kind_as_before {datas} {domains} {scope} {a = a} {j = j} d e h =
-    one_kind (kind_if_fits d (put_at 0 a) scope (put_at_kinds datas domains [] scope a j e) (kind_fits h)) h
 
 pub typed_at : (s : Setting) (kinds : List Kind) (vars : List TypeTree) (x : ℕ) (t : TypeTree) → AreTermTypes s kinds vars → slice_get vars x ≡ Some t → IsTermType s kinds t
 typed_at s kinds [] x t h e = absurd (cc)
@@ -95,9 +91,10 @@ type_kinded {s} {kinds} (h_app {a = a} {b = b} d e x) h g = let of = type_kinded
 type_kinded {s} {kinds} {vars} (h_ty_lam {j = j} {t = t} d) h g =
     let of = type_kinded d h (typed_under s kinds j vars g) in
     term_type s kinds (for_all j t) of.kind (kind_for_all of.has of.of_terms) of.of_terms
-type_kinded {s} {kinds} (h_ty_app {k = k} {t = t} {a = a} d l m) h g =
+type_kinded {s} {kinds} (h_ty_app {j = j} {k = k} {a = a} {u = u} d l x m) h g =
     let of = type_kinded d h g in
-    term_type s kinds (put t 0 a) k m (subst IsOfTerms (kind_as_before (bound_part of.has).0 l m) of.of_terms)
+    let is = same_kind_put (bound_part of.has).0 (put_at 0 a) kinds (put_at_kinds s.datas s.domains [] kinds a j l) u k x m in
+    term_type s kinds u k m (subst IsOfTerms (sym is) of.of_terms)
 type_kinded {s} {kinds} {vars} (h_letrec {g = b} {t = t} {k = k} d l bs) h g =
     let of = type_kinded d h (typed_more s kinds (declared b) vars (bound_typed bs) g) in
     term_type s kinds t k l (subst IsOfTerms (one_kind of.has l) of.of_terms)
@@ -105,4 +102,4 @@ type_kinded {s} {kinds} (h_con {c = c} {it = it} e) h g = typed_anywhere s kinds
 type_kinded {s} {kinds} (h_prim {p = p}) h g = typed_anywhere s kinds (schema_type p) (schema_kind s p h)
 type_kinded {s} {kinds} (h_lit l) h g = term_type s kinds _ Val (kind_scalar kind_nat) tt
 type_kinded {s} {kinds} (h_vec l d) h g = term_type s kinds _ l.kind (kind_vector kind_nat l.has l.of_terms) l.of_terms
-type_kinded {s} {kinds} (h_case {t = t} {j = j} {k = k} d i l p b f m a o n) h g = term_type s kinds t k m (functions_of_terms j k a).1
+type_kinded {s} {kinds} (h_case {t = t} {j = j} {k = k} d i l p f m a o n) h g = term_type s kinds t k m (functions_of_terms j k a).1

@@ -1,11 +1,15 @@
+pub mod Degrees
 pub mod EvaluatedTypes
 pub mod Heads
 pub mod Kinded
 pub mod Lists
 pub mod OneType
+pub mod Patterns
 pub mod ProgramsShown
 pub mod PutAgreeing
+pub mod PutKinds
 pub mod Renamed
+pub mod SameScopes
 pub mod Shown
 pub mod TermsEvaluated
 pub mod TermsPut

@@ -1,9 +1,11 @@
 -- The examples of programs that are not typed.
-use Rattle.std.proofs.Common.{◌≡◌, ℕ, ◌<◌, ◌⊎◌, inl, inr, refl, ap, subst, List, [], ◌∷◌, length, arith}
+use Rattle.std.proofs.Common.{◌≡◌, ℕ, ◌<◌, Bool, ◌⊎◌, inl, inr, refl, ap, subst, List, [], ◌∷◌, length, arith}
 use Rattle.std.specs.Prelude.{Option, Some, None, codes}
 use Rattle.std.specs.List.{slice_get}
 use Rattle.chw_types.specs.declared.declarations.Data.{Data}
 use Rattle.chw_types.specs.declared.ports.Leaf.{Leaf}
+use Rattle.chw_types.specs.declared.kind.Kind.{Kind}
+use Rattle.chw_types.specs.declared.kind.Scalar.{Scalar}
 use Rattle.chw_types.specs.declared.kind.Scalar.TheVariants.{U}
 use Rattle.chw_types.specs.BuiltIn.{built_in, data_type_of, constructor_of}
 use Rattle.chw_types.specs.Ports.{Leaves, one_leaf, leaves_of_fields}
@@ -12,15 +14,16 @@ use Rattle.chw_types.specs.TypeTree.{TypeTree, fun, scalar, nat_lit}
 use Rattle.chw_prims.specs.Schemas.{bool}
 use Rattle.chw_terms.specs.declared.program.Def.{Def}
 use Rattle.type_laws.proofs.SameForms.{as_data}
-use Rattle.chw_typing.specs.Constructors.{Constructor, con_at}
+use Rattle.chw_terms.specs.Constructors.{Constructor, con_at}
 use Rattle.chw_terms.specs.declared.term.Pattern.TheVariants.{OfLit}
-use Rattle.chw_terms.specs.TermTree.{var, lam, no_alts, alt}
+use Rattle.chw_terms.specs.TermTree.{var, lam, lit, no_alts, alt}
 use Rattle.chw_typing.specs.Alternatives.{IsFor, ForAll}
 use Rattle.chw_typing.specs.Programs.{LeadsToPort, to_port, from_port}
-use Rattle.chw_typing.specs.Typing.{h_lit}
+use Rattle.chw_typing.specs.Typing.{HasType, h_lit}
+use Rattle.chw_typing.specs.Scopes.{Setting}
+use Rattle.chw_typing.specs.HeadTypes.{literal_type}
 use Rattle.chw_typing.specs.Examples.{no, yes, five, con_pattern, bits_of_a}
 use Rattle.chw_typing.specs.ProgramExamples.{NoPort, NameMissing, OtherType, Incomplete, NoDefault}
-use Rattle.chw_typing.proofs.OneType.{one_type}
 
 abbrev bool_type : Data
 bool_type = data_type_of (codes "Bool") [] (constructor_of (codes "False") [] ∷ constructor_of (codes "True") [] ∷ [])
@@ -52,10 +55,13 @@ no_port h = let at = h.top in no_lead_of_bool at.2 (ap (λ i. i.ty) (here at.0 a
     here : (it : Def) → Some (record { name = codes "f"; ty = bool; body = yes }) ≡ Some it → it ≡ record { name = codes "f"; ty = bool; body = yes }
     here it e = cc
 
+type_of_literal : {s : Setting} {kinds : List Kind} {vars : List TypeTree} {r : Scalar} {bits : List Bool} {t : TypeTree} → HasType s kinds vars (lit r bits) t → t ≡ literal_type r bits
+type_of_literal (h_lit l) = refl
+
 pub other_type : OtherType
 other_type h =
     let at = h.bodies 0 _ refl in
-    not_scalar (subst (SameTypes bool) (one_type at.1 (h_lit {bits = five} (omega arith))) at.2)
+    not_scalar (subst (SameTypes bool) (type_of_literal at.has) at.same)
   where
     not_scalar : SameTypes bool (scalar U (nat_lit 8)) → ⊥
     not_scalar x = let is = as_data x in absurd (let e = is.1 in cc)

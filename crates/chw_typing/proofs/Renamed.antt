@@ -2,21 +2,19 @@
 use Rattle.std.proofs.Common.{◌≡◌, ℕ, suc, zero, ◌+◌, refl, sym, ap, ◌∙◌, subst, List, [], ◌∷◌, ◌++◌, length, reverse, arith}
 use Rattle.std.specs.Prelude.{Some}
 use Rattle.std.specs.List.{slice_get}
-use Rattle.std.proofs.lemmas.List.{length-reverse, length-map}
+use Rattle.std.proofs.lemmas.List.{length-reverse}
 use Rattle.chw_types.specs.declared.kind.Kind.{Kind}
-use Rattle.chw_types.specs.declared.declarations.Data.{Data}
 use Rattle.chw_types.specs.TypeTree.{TypeTree, nat_lit, vector}
-use Rattle.chw_types.specs.TypeMoves.{Renaming, lift, lift_by, raised, shift, sub}
-use Rattle.chw_types.specs.Arguments.{arguments}
+use Rattle.chw_types.specs.TypeMoves.{Renaming, lift, lift_by, raised, shift}
 use Rattle.chw_terms.specs.declared.term.Pattern.{Pattern}
 use Rattle.chw_terms.specs.TermTree.{TermTree, vec_lit, Terms, no_terms, term_and, Group, no_bindings, bind, Alts, no_alts, alt, binders, size_of}
 use Rattle.chw_terms.specs.TermMoves.{rename, rename_all, rename_group, rename_alts}
 use Rattle.chw_typing.specs.Scopes.{Setting, under_binder, with_more, declared}
-use Rattle.chw_typing.specs.HeadTypes.{PatternOf, of_con, of_lit, of_any}
 use Rattle.chw_typing.specs.Alternatives.{HidesNone, NoneHidden}
 use Rattle.chw_typing.specs.Typing.{count, HasType, h_var, h_global, h_made, h_lam, h_app, h_ty_lam, h_ty_app, h_letrec, h_con, h_prim, h_lit, h_vec, h_case, AreBound, none_bound, bound_and, AllHave, none_have, have_and, AllGive, none_give, give_and}
 use Rattle.chw_typing.specs.Laws.{Renames}
 use Rattle.chw_typing.proofs.Lists.{found_in_map, found_before_map}
+use Rattle.chw_typing.proofs.Patterns.{binds}
 
 pub renames_under : (ρ : Renaming) (vars vars' : List TypeTree) (t : TypeTree) → Renames ρ vars vars' → Renames (lift ρ) (t ∷ vars) (t ∷ vars')
 renames_under ρ vars vars' t h zero u e = e
@@ -39,12 +37,6 @@ renames_under_binder ρ vars vars' h x t e =
 pub declared_length : (g : Group) → length (declared g) ≡ size_of g
 declared_length no_bindings = refl
 declared_length (bind t e g) = ap suc (declared_length g)
-
--- a pattern binds as many variables as it says
-pub binds : {datas : List Data} {u : TypeTree} {q : Pattern} {ts : List TypeTree} → PatternOf datas u q ts → length ts ≡ binders q
-binds (of_con {ts = ts} it e o n) = length-map it.decl.fields (λ f. sub f (arguments ts)) ∙ n
-binds (of_lit l e) = refl
-binds of_any = refl
 
 declared_renamed : (g : Group) (ρ : Renaming) → declared (rename_group g ρ) ≡ declared g
 unfolding rename_group
@@ -76,7 +68,7 @@ mutual
   type_renamed (h_lam {vars = vars} {a = a} d k) ρ vars' h = h_lam (type_renamed d (lift ρ) (a ∷ vars') (renames_under ρ vars vars' a h)) k
   type_renamed (h_app d e x) ρ vars' h = h_app (type_renamed d ρ vars' h) (type_renamed e ρ vars' h) x
   type_renamed (h_ty_lam {vars = vars} d) ρ vars' h = h_ty_lam (type_renamed d ρ (under_binder vars') (renames_under_binder ρ vars vars' h))
-  type_renamed (h_ty_app d k l) ρ vars' h = h_ty_app (type_renamed d ρ vars' h) k l
+  type_renamed (h_ty_app d k x l) ρ vars' h = h_ty_app (type_renamed d ρ vars' h) k x l
   type_renamed {s} {kinds} (h_letrec {vars = vars} {g = g} {e = e} {t = t} {k = k} d l b) ρ vars' h =
       let π = lift_by (size_of g) ρ in
       let under = renames_more (declared g) (size_of g) ρ vars vars' (declared_length g) h in
@@ -90,8 +82,8 @@ mutual
   type_renamed (h_lit l) ρ vars' h = h_lit l
   type_renamed {s} {kinds} (h_vec {t = t} {es = es} k d) ρ vars' h =
       subst (λ n. HasType s kinds vars' (vec_lit t (rename_all es ρ)) (vector (nat_lit n) t)) (count_renamed es ρ) (h_vec k (all_have_renamed d ρ vars' h))
-  type_renamed (h_case {vars = vars} {bound = bound} {q = q} {more = more} {f = f} d i j p b e k a o n) ρ vars' h =
-      h_case (type_renamed d ρ vars' h) i j p b (type_renamed e (lift_by (binders q) ρ) (with_more bound vars') (renames_more bound (binders q) ρ vars vars' (binds p) h)) k a (all_give_renamed o ρ vars' h) (none_hidden_renamed (alt q f more) ρ n)
+  type_renamed (h_case {vars = vars} {bound = bound} {q = q} {more = more} {f = f} d i j p e k a o n) ρ vars' h =
+      h_case (type_renamed d ρ vars' h) i j p (type_renamed e (lift_by (binders q) ρ) (with_more bound vars') (renames_more bound (binders q) ρ vars vars' (binds p) h)) k a (all_give_renamed o ρ vars' h) (none_hidden_renamed (alt q f more) ρ n)
 
   pub bound_renamed : {s : Setting} {kinds : List Kind} {vars : List TypeTree} {k : Kind} {g : Group} → AreBound s kinds vars k g → (ρ : Renaming) (vars' : List TypeTree) → Renames ρ vars vars' → AreBound s kinds vars' k (rename_group g ρ)
   bound_renamed none_bound ρ vars' h = none_bound
@@ -103,8 +95,8 @@ mutual
 
   pub all_give_renamed : {s : Setting} {kinds : List Kind} {vars : List TypeTree} {u t : TypeTree} {alts : Alts} → AllGive s kinds vars u t alts → (ρ : Renaming) (vars' : List TypeTree) → Renames ρ vars vars' → AllGive s kinds vars' u t (rename_alts alts ρ)
   all_give_renamed none_give ρ vars' h = none_give
-  all_give_renamed (give_and {vars = vars} {bound = bound} {q = q} p b d x ds) ρ vars' h =
-      give_and p b (type_renamed d (lift_by (binders q) ρ) (with_more bound vars') (renames_more bound (binders q) ρ vars vars' (binds p) h)) x (all_give_renamed ds ρ vars' h)
+  all_give_renamed (give_and {vars = vars} {bound = bound} {q = q} p d x ds) ρ vars' h =
+      give_and p (type_renamed d (lift_by (binders q) ρ) (with_more bound vars') (renames_more bound (binders q) ρ vars vars' (binds p) h)) x (all_give_renamed ds ρ vars' h)
 
 renames_outside : (new outer : List TypeTree) → Renames (raised 0 (length new)) outer (new ++ outer)
 renames_outside [] outer x t e = subst (λ y. slice_get outer y ≡ Some t) (plus x) e

@@ -1,5 +1,5 @@
 -- Types are kept where types are put for type variables.
-use Rattle.std.proofs.Common.{◌≡◌, ℕ, suc, zero, ◌≤◌, ◌⊎◌, true, refl, sym, ap, ◌∙◌, subst, List, [], ◌∷◌, ◌++◌, map, reverse, arith}
+use Rattle.std.proofs.Common.{◌≡◌, ℕ, suc, zero, ◌≤◌, ◌⊎◌, inl, inr, true, refl, sym, ap, ◌∙◌, subst, List, [], ◌∷◌, ◌++◌, map, reverse, arith}
 use Rattle.std.specs.Prelude.{Some}
 use Rattle.std.specs.List.{slice_get}
 use Rattle.std.proofs.lemmas.List.{map-append}
@@ -7,35 +7,32 @@ use Rattle.chw_types.specs.declared.kind.Kind.{Kind}
 use Rattle.chw_types.specs.declared.kind.Kind.TheVariants.{Nat}
 use Rattle.chw_types.specs.declared.declarations.Data.{Data}
 use Rattle.chw_types.specs.TypeTree.{TypeTree, ty_var, nat_lit, nat_sum, nat_product, domain, scalar, vector, data_of, fun, signal, for_all, TypeTrees}
-use Rattle.chw_types.specs.TypeMoves.{Substitution, up, sub, sub_all}
+use Rattle.chw_types.specs.TypeMoves.{Substitution, up, sub, sub_all, put_at, put}
 use Rattle.chw_types.specs.Arguments.{arguments}
-use Rattle.chw_types.specs.Kinds.{KindOf, kind_var, kind_nat, kind_scalar, kind_data, KindsOf}
+use Rattle.chw_types.specs.Kinds.{KindOf, kind_var, kind_nat, kind_scalar, KindsOf}
 use Rattle.chw_types.specs.Polynomials.{is_natural}
 use Rattle.chw_types.specs.SameTypes.{SameTypes}
 use Rattle.chw_types.proofs.KindsKept.{kind_renamed, kind_put, degree_renamed}
 use Rattle.chw_types.proofs.SameLaws.{same_self}
-use Rattle.chw_terms.specs.References.{IsField}
 use Rattle.chw_terms.specs.declared.term.Pattern.{Pattern}
-use Rattle.chw_terms.specs.TermTree.{TermTree, global, made, ty_app, con, prim, vec_lit, Terms, no_terms, term_and, Group, no_bindings, bind, Alts, no_alts, alt}
+use Rattle.chw_terms.specs.TermTree.{TermTree, global, made, con, prim, vec_lit, Terms, no_terms, term_and, Group, no_bindings, bind, Alts, no_alts, alt}
 use Rattle.chw_terms.specs.TypesMoved.{sub_types, sub_types_all, sub_types_group, sub_types_alts}
-use Rattle.type_laws.specs.KindsKept.{AreOfTerms}
 use Rattle.type_laws.specs.Standing.{InSums}
-use Rattle.type_laws.proofs.OneKind.{nat_natural}
+use Rattle.type_laws.proofs.KindsExact.{put_at_kinds}
+use Rattle.type_laws.proofs.OneKind.{nat_natural, sums_kind}
 use Rattle.type_laws.proofs.PutSame.{same_put}
-use Rattle.type_laws.proofs.Slots.{sum_slot}
-use Rattle.chw_typing.specs.Scopes.{Setting, HasKind, IsTermType, AreTermTypes, under_binder, with_more, declared}
+use Rattle.chw_typing.specs.Scopes.{Setting, HasKind, IsTermType, AreTermTypes, AreSame, under_binder, with_more, declared}
 use Rattle.chw_typing.specs.HeadTypes.{IsLookedAt, PatternOf, of_con, of_lit, of_any}
 use Rattle.chw_typing.specs.Alternatives.{HidesNone, NoneHidden}
 use Rattle.chw_typing.specs.Programs.{IsSound}
-use Rattle.chw_typing.specs.Typing.{count, HasType, h_var, h_global, h_made, h_lam, h_app, h_ty_lam, h_ty_app, h_letrec, h_con, h_prim, h_lit, h_vec, h_case, AreBound, none_bound, bound_and, AllHave, none_have, have_and, AllGive, none_give, give_and}
+use Rattle.chw_typing.specs.Typing.{count, Binds, HasType, h_var, h_global, h_made, h_lam, h_app, h_ty_lam, h_ty_app, h_letrec, h_con, h_prim, h_lit, h_vec, h_case, AreBound, none_bound, bound_and, AllHave, none_have, have_and, AllGive, none_give, give_and}
 use Rattle.chw_typing.specs.Laws.{PutsTypes}
 use Rattle.chw_typing.proofs.Lists.{found_in_map, map_reverse}
-use Rattle.chw_typing.proofs.Heads.{of_terms_kind, is_constructor, con_kind}
-use Rattle.chw_typing.proofs.Kinded.{term_type, function_takes, typed_under, typed_more, bound_typed, schema_kind, type_kinded}
+use Rattle.chw_typing.proofs.Heads.{con_kind}
+use Rattle.chw_typing.proofs.Kinded.{term_type, function_takes, bound_part, typed_under, typed_more, bound_typed, schema_kind, type_kinded}
+use Rattle.chw_typing.proofs.Patterns.{are_of_terms, fields_typed, constructor_arguments, AllSumsAreNat, typed_sums, pattern_sums}
+use Rattle.chw_typing.proofs.PutKinds.{SumsAreNat, sums_put}
 use Rattle.chw_typing.proofs.PutAgreeing.{closed_put, put_shifted, put_into, field_put}
-
-pub are_of_terms : (s : Setting) → IsSound s → AreOfTerms s.datas
-are_of_terms s h d it e = of_terms_kind s.datas s.domains it (h.kinds d it e)
 
 puts_under : (s : Setting) (σ : Substitution) (kinds kinds' : List Kind) (j : Kind) → PutsTypes s σ kinds kinds' → PutsTypes s (up σ) (j ∷ kinds) (j ∷ kinds')
 unfolding up
@@ -45,16 +42,26 @@ puts_under s σ kinds kinds' j h (suc x) k e =
     (kind_renamed at.0 suc (j ∷ kinds') (λ y i f. f), subst (λ n. n ≤ 1) (sym (degree_renamed (σ x) suc)) at.1)
 
 -- types that are the same stay so
-same_typed : (s : Setting) (σ : Substitution) (kinds kinds' : List Kind) (t u : TypeTree) (i k : Kind) → IsSound s → PutsTypes s σ kinds kinds' → HasKind s kinds t i → HasKind s kinds u k → SameTypes t u → SameTypes (sub t σ) (sub u σ)
-same_typed s σ kinds kinds' t u i k h p d e x = same_put x σ σ (λ y. same_self (σ y)) natural
+same_if_nat : (s : Setting) (σ : Substitution) (kinds kinds' : List Kind) (t u : TypeTree) → IsSound s → PutsTypes s σ kinds kinds' → SumsAreNat kinds t → SumsAreNat kinds u → SameTypes t u → SameTypes (sub t σ) (sub u σ)
+same_if_nat s σ kinds kinds' t u h p f g x = same_put x σ σ (λ y. same_self (σ y)) natural
   where
     natural : (y : ℕ) → InSums t y ⊎ InSums u y → is_natural (σ y) ≡ true
-    natural y in_sums = nat_natural (are_of_terms s h) (p y Nat (sum_slot d e y in_sums)).0 refl
+    natural y (inl z) = nat_natural (are_of_terms s h) (p y Nat (f y z)).0 refl
+    natural y (inr z) = nat_natural (are_of_terms s h) (p y Nat (g y z)).0 refl
+
+same_typed : (s : Setting) (σ : Substitution) (kinds kinds' : List Kind) (t u : TypeTree) (i k : Kind) → IsSound s → PutsTypes s σ kinds kinds' → HasKind s kinds t i → HasKind s kinds u k → SameTypes t u → SameTypes (sub t σ) (sub u σ)
+same_typed s σ kinds kinds' t u i k h p d e x = same_if_nat s σ kinds kinds' t u h p (sums_kind d) (sums_kind e) x
+
+all_same_put : (s : Setting) (σ : Substitution) (kinds kinds' : List Kind) (ts us : List TypeTree) → IsSound s → PutsTypes s σ kinds kinds' → AllSumsAreNat kinds ts → AllSumsAreNat kinds us → AreSame ts us → AreSame (map (λ t. sub t σ) ts) (map (λ t. sub t σ) us)
+all_same_put s σ kinds kinds' [] [] h p f g x = tt
+all_same_put s σ kinds kinds' (t ∷ ts) (u ∷ us) h p f g x = (same_if_nat s σ kinds kinds' t u h p f.0 g.0 x.0, all_same_put s σ kinds kinds' ts us h p f.1 g.1 x.1)
+all_same_put s σ kinds kinds' [] (u ∷ us) h p f g x = absurd x
+all_same_put s σ kinds kinds' (t ∷ ts) [] h p f g x = absurd x
 
 put_typed : (s : Setting) (σ : Substitution) (kinds kinds' : List Kind) (t : TypeTree) → PutsTypes s σ kinds kinds' → IsTermType s kinds t → IsTermType s kinds' (sub t σ)
 put_typed s σ kinds kinds' t p d = term_type s kinds' (sub t σ) d.kind (kind_put d.has σ kinds' p) d.of_terms
 
-all_put_typed : (s : Setting) (σ : Substitution) (kinds kinds' : List Kind) (ts : List TypeTree) → PutsTypes s σ kinds kinds' → AreTermTypes s kinds ts → AreTermTypes s kinds' (map (λ t. sub t σ) ts)
+pub all_put_typed : (s : Setting) (σ : Substitution) (kinds kinds' : List Kind) (ts : List TypeTree) → PutsTypes s σ kinds kinds' → AreTermTypes s kinds ts → AreTermTypes s kinds' (map (λ t. sub t σ) ts)
 all_put_typed s σ kinds kinds' [] p d = tt
 all_put_typed s σ kinds kinds' (t ∷ ts) p d = (put_typed s σ kinds kinds' t p d.0, all_put_typed s σ kinds kinds' ts p d.1)
 
@@ -99,11 +106,6 @@ looked_at_put (fun a b) σ h = absurd h
 looked_at_put (signal d t) σ h = absurd h
 looked_at_put (for_all k t) σ h = absurd h
 
--- the arguments of a data type have its parameters' kinds
-pub arguments_kinds : {datas : List Data} {domains : ℕ} {scope : List Kind} {d : ℕ} {ts : TypeTrees} {k : Kind} (it : Data) → KindOf datas domains scope (data_of d ts) k → slice_get datas d ≡ Some it → KindsOf datas domains scope ts it.params
-arguments_kinds {datas} {domains} {scope} {ts = ts} it (kind_data {it = other} e ds) f =
-    let is : other ≡ it = cc in subst (λ i. KindsOf datas domains scope ts i.params) is ds
-
 width_kind : {datas : List Data} {domains : ℕ} {scope : List Kind} {s : _} {w : TypeTree} {k : Kind} → KindOf datas domains scope (scalar s w) k → KindOf datas domains scope w Nat
 width_kind (kind_scalar d) = d
 
@@ -115,14 +117,20 @@ fields_put datas domains scope params (f ∷ fs) ts σ h d =
 pattern_put : {s : Setting} {u : TypeTree} {q : Pattern} {bound : List TypeTree} → PatternOf s.datas u q bound → (kinds kinds' : List Kind) (j : Kind) (σ : Substitution) → IsSound s → PutsTypes s σ kinds kinds' → HasKind s kinds u j → PatternOf s.datas (sub u σ) q (map (λ t. sub t σ) bound)
 unfolding sub
 pattern_put {s} (of_con {d = d} {n = n} {c = c} {ts = ts} it e o m) kinds kinds' j σ h p k =
-    let is = is_constructor s.datas c.number it e in
-    let args = arguments_kinds it.it k (subst (λ n. slice_get s.datas n ≡ Some it.it) o is.data_type) in
     subst (PatternOf s.datas (data_of d (sub_all ts σ)) _) (fields_put s.datas s.domains kinds it.it.params it.decl.fields ts σ (λ i f g.
-    let field : IsField it.it f = record { con = is.place; of = it.decl; is_con = is.decl; at = i; is_field = g } in
-    let typed = h.fields it.of it.it f is.data_type field in
-    (typed.kind, typed.has)) args) (of_con it e o m)
+    let typed = fields_typed s c.number it h e i f g in
+    (typed.kind, typed.has)) (constructor_arguments s kinds c.number d it ts j e o k)) (of_con it e o m)
 pattern_put {s} (of_lit {w = w} l x) kinds kinds' j σ h p k = of_lit l (same_typed s σ kinds kinds' w (nat_lit _) Nat Nat h p (width_kind k) kind_nat x)
 pattern_put of_any kinds kinds' j σ h p k = of_any
+
+binds_put : {s : Setting} {kinds : List Kind} {u : TypeTree} {q : Pattern} {bound : List TypeTree} → Binds s kinds u q bound → (kinds' : List Kind) (j : Kind) (σ : Substitution) → IsSound s → PutsTypes s σ kinds kinds' → HasKind s kinds u j → Binds s kinds' (sub u σ) q (map (λ t. sub t σ) bound)
+binds_put {s} {kinds} {bound = bound} b kinds' j σ h p k =
+    record {
+      fields = map (λ t. sub t σ) b.fields;
+      pattern = pattern_put b.pattern kinds kinds' j σ h p k;
+      same = all_same_put s σ kinds kinds' b.fields bound h p (pattern_sums b.pattern h kinds j k) (typed_sums s kinds bound b.typed) b.same;
+      typed = all_put_typed s σ kinds kinds' bound p b.typed;
+    }
 
 mutual
   unfolding sub sub_types
@@ -142,9 +150,12 @@ mutual
       h_app (type_put d h g σ kinds' p) (type_put e h g σ kinds' p) (same_typed s σ kinds kinds' a c takes.kind arg.kind h p takes.has arg.has x)
   type_put {s} {kinds} {vars} (h_ty_lam {j = j} {t = t} {e = e} d) h g σ kinds' p =
       h_ty_lam (subst (λ us. HasType s (j ∷ kinds') us (sub_types e (up σ)) (sub t (up σ))) (sym (under_put vars σ)) (type_put d h (typed_under s kinds j vars g) (up σ) (j ∷ kinds') (puts_under s σ kinds kinds' j p)))
-  type_put {s} {kinds} {vars} (h_ty_app {k = k} {t = t} {a = a} {f = f} d l m) h g σ kinds' p =
-      subst (HasType s kinds' (map (λ u. sub u σ) vars) (ty_app (sub_types f σ) (sub a σ))) (sym (put_into t a σ))
-      (h_ty_app (type_put d h g σ kinds' p) (kind_put l σ kinds' p) (subst (λ u. HasKind s kinds' u k) (put_into t a σ) (kind_put m σ kinds' p)))
+  type_put {s} {kinds} {vars} (h_ty_app {j = j} {k = k} {t = t} {a = a} {u = u} d l x m) h g σ kinds' p =
+      let of = type_kinded d h g in
+      let sums = sums_put (bound_part of.has).0 (put_at 0 a) kinds (put_at_kinds s.datas s.domains [] kinds a j l) in
+      h_ty_app (type_put d h g σ kinds' p) (kind_put l σ kinds' p)
+      (subst (λ w. SameTypes w (sub u σ)) (put_into t a σ) (same_if_nat s σ kinds kinds' (put t 0 a) u h p sums (sums_kind m) x))
+      (kind_put m σ kinds' p)
   type_put {s} {kinds} {vars} (h_letrec {g = b} {e = e} {t = t} {k = k} d l bs) h g σ kinds' p =
       let more = typed_more s kinds (declared b) vars (bound_typed bs) g in
       let same = more_put (declared b) vars σ ∙ ap (λ ts. with_more ts (map (λ u. sub u σ) vars)) (declared_put b σ) in
@@ -160,9 +171,9 @@ mutual
   type_put {s} {kinds} {vars} (h_vec {t = t} {es = es} k d) h g σ kinds' p =
       subst (λ n. HasType s kinds' (map (λ u. sub u σ) vars) (vec_lit (sub t σ) (sub_types_all es σ)) (vector (nat_lit n) (sub t σ))) (count_put es σ)
       (h_vec (put_typed s σ kinds kinds' t p k) (all_have_put d h g k σ kinds' p))
-  type_put {s} {kinds} {vars} (h_case {bound = bound} {q = q} {more = more} {u = u} {t = t} {f = f} {j = j} {k = k} d i l c b e m a o n) h g σ kinds' p =
-      h_case (type_put d h g σ kinds' p) (looked_at_put u σ i) (kind_put l σ kinds' p) (pattern_put c kinds kinds' j σ h p l) (all_put_typed s σ kinds kinds' bound p b)
-      (subst (λ us. HasType s kinds' us (sub_types f σ) (sub t σ)) (more_put bound vars σ) (type_put e h (typed_more s kinds bound vars b g) σ kinds' p))
+  type_put {s} {kinds} {vars} (h_case {bound = bound} {q = q} {more = more} {u = u} {t = t} {f = f} {j = j} {k = k} d i l b e m a o n) h g σ kinds' p =
+      h_case (type_put d h g σ kinds' p) (looked_at_put u σ i) (kind_put l σ kinds' p) (binds_put b kinds' j σ h p l)
+      (subst (λ us. HasType s kinds' us (sub_types f σ) (sub t σ)) (more_put bound vars σ) (type_put e h (typed_more s kinds bound vars b.typed g) σ kinds' p))
       (kind_put m σ kinds' p) a (all_give_put o h g l m σ kinds' p) (none_hidden_put (alt q f more) σ n)
 
   pub bound_put : {s : Setting} {kinds : List Kind} {vars : List TypeTree} {k : Kind} {b : Group} → AreBound s kinds vars k b → IsSound s → AreTermTypes s kinds vars → (σ : Substitution) (kinds' : List Kind) → PutsTypes s σ kinds kinds' → AreBound s kinds' (map (λ u. sub u σ) vars) k (sub_types_group b σ)
@@ -179,9 +190,9 @@ mutual
 
   pub all_give_put : {s : Setting} {kinds : List Kind} {vars : List TypeTree} {u t : TypeTree} {alts : Alts} {j k : Kind} → AllGive s kinds vars u t alts → IsSound s → AreTermTypes s kinds vars → HasKind s kinds u j → HasKind s kinds t k → (σ : Substitution) (kinds' : List Kind) → PutsTypes s σ kinds kinds' → AllGive s kinds' (map (λ v. sub v σ) vars) (sub u σ) (sub t σ) (sub_types_alts alts σ)
   all_give_put none_give h g l m σ kinds' p = none_give
-  all_give_put {s} {kinds} {vars} {j = j} {k = k} (give_and {bound = bound} {t = t} {v = v} {e = e} c b d x ds) h g l m σ kinds' p =
-      let scope = typed_more s kinds bound vars b g in
+  all_give_put {s} {kinds} {vars} {j = j} {k = k} (give_and {bound = bound} {t = t} {v = v} {e = e} b d x ds) h g l m σ kinds' p =
+      let scope = typed_more s kinds bound vars b.typed g in
       let of = type_kinded d h scope in
-      give_and (pattern_put c kinds kinds' j σ h p l) (all_put_typed s σ kinds kinds' bound p b)
+      give_and (binds_put b kinds' j σ h p l)
       (subst (λ us. HasType s kinds' us (sub_types e σ) (sub v σ)) (more_put bound vars σ) (type_put d h scope σ kinds' p))
       (same_typed s σ kinds kinds' t v k of.kind h p m of.has x) (all_give_put ds h g l m σ kinds' p)

@@ -13,7 +13,7 @@ use Rattle.chw_typing.specs.Scopes.{Setting, HasKind, AreTermTypes}
 use Rattle.chw_typing.specs.Programs.{IsSound}
 use Rattle.chw_typing.specs.Typing.{HasType}
 use Rattle.chw_typing.specs.Laws.{RenamesKinds, PutsTypes}
-use Rattle.chw_typing.proofs.TypesPut.{type_put}
+use Rattle.chw_typing.proofs.TypesPut.{type_put, all_put_typed}
 
 all_renamed_is : (ts : List TypeTree) (ρ : Renaming) → map (λ t. rename t ρ) ts ≡ map (λ t. sub t (λ x. ty_var (ρ x))) ts
 all_renamed_is [] ρ = refl
@@ -32,3 +32,7 @@ types_renamed {s} {kinds} {vars} {e} {t} d h g ρ kinds' p =
 pub closed_type_put : {s : Setting} (inner outer : List Kind) {vars : List TypeTree} {e : TermTree} {t : TypeTree} (a : TypeTree) (j : Kind) → HasType s (inner ++ j ∷ outer) vars e t → IsSound s → AreTermTypes s (inner ++ j ∷ outer) vars → HasKind s [] a j → HasType s (inner ++ outer) (map (λ u. put u (length inner) a) vars) (put_types e (length inner) a) (put t (length inner) a)
 closed_type_put {s} inner outer a j d h g k =
     type_put d h g (put_at (length inner) a) (inner ++ outer) (puts_put s.datas s.domains inner outer a j (closed_anywhere k outer) (closed_small k))
+
+pub closed_put_typed : (s : Setting) (inner outer : List Kind) (vars : List TypeTree) (a : TypeTree) (j : Kind) → AreTermTypes s (inner ++ j ∷ outer) vars → HasKind s [] a j → AreTermTypes s (inner ++ outer) (map (λ u. put u (length inner) a) vars)
+closed_put_typed s inner outer vars a j g k =
+    all_put_typed s (put_at (length inner) a) (inner ++ j ∷ outer) (inner ++ outer) vars (puts_put s.datas s.domains inner outer a j (closed_anywhere k outer) (closed_small k)) g

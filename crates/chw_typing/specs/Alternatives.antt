@@ -4,7 +4,7 @@ use Rattle.chw_types.specs.declared.declarations.Data.{Data}
 use Rattle.chw_terms.specs.declared.term.Pattern.{Pattern}
 use Rattle.chw_terms.specs.declared.term.Pattern.TheVariants.{OfCon, OfLit, Default}
 use Rattle.chw_terms.specs.TermTree.{Alts, no_alts, alt}
-use Rattle.chw_typing.specs.Constructors.{Constructor, con_at}
+use Rattle.chw_terms.specs.Constructors.{Constructor, con_at}
 
 -- an alternative with the first pattern leaves nothing for a later one with the second: both are for one constructor or for one literal,
 -- or the first is the default

@@ -5,6 +5,8 @@ use Rattle.chw_types.specs.declared.kind.Kind.TheVariants.{Nat, Val, Cir}
 use Rattle.chw_types.specs.declared.kind.Scalar.TheVariants.{U}
 use Rattle.chw_types.specs.declared.declarations.Data.{Data}
 use Rattle.chw_types.specs.TypeTree.{TypeTree, ty_var, nat_lit, nat_sum, nat_product, domain, scalar, vector, data_of, fun, signal, for_all, no_types}
+use Rattle.chw_types.specs.TypeMoves.{put as put_type}
+use Rattle.chw_types.specs.Kinds.{HasNoKind}
 use Rattle.chw_types.specs.BuiltIn.{built_in, constructor_of}
 use Rattle.chw_types.specs.SameTypes.{SameTypes}
 use Rattle.chw_prims.specs.declared.prim.Primitive.TheVariants.{Pure}
@@ -116,21 +118,26 @@ identities = ty_lam Val (lam (ty_var 0) (var 0))
 abbrev pub ArgumentOfTheKind : Type 0
 ArgumentOfTheKind = HasType small [] [] (ty_app identities bool) (fun bool bool) × HasNoType [] [] (ty_app identities (nat_lit 8))
 
--- `/\(n : Nat) . \(x : Unsigned (n * n * n)) . x` has a type, and at `m * m` it has none, for a natural m in scope: the degree would be 6
+-- `/\(n : Nat) . \(x : Unsigned (n * n * n)) . x` has a type, and at `m * m` it has none, for a natural m in scope: no natural of a degree up
+-- to 4 is the same as m to the power 6
 abbrev pub cube : TypeTree
 cube = nat_product (nat_product (ty_var 0) (ty_var 0)) (ty_var 0)
 
 abbrev pub cubes : TermTree
 cubes = ty_lam Nat (lam (scalar U cube) (var 0))
 
+abbrev pub square : TypeTree
+square = nat_product (ty_var 0) (ty_var 0)
+
 abbrev pub DegreeTooGreat : Type 0
 DegreeTooGreat =
     HasType small (Nat ∷ []) [] cubes (for_all Nat (fun (scalar U cube) (scalar U cube)))
-    × HasNoType (Nat ∷ []) [] (ty_app cubes (nat_product (ty_var 0) (ty_var 0)))
+    × HasNoType (Nat ∷ []) [] (ty_app cubes square)
 
--- Types that are the same up to naturals may differ in degree. So where the term that is put for a variable has the variable's type only
--- up to naturals, the type may be lost: with f of the type `forall (n : Nat) . Unsigned n -> Unsigned n`, `f @(m * m * m)` has a type;
--- with `/\(n : Nat) . \(x : Unsigned (n + 0 * (n * n))) . x` for f it has none.
+-- Types that are the same up to naturals may differ in degree, so that one has a kind and the other none. A term keeps a type all the same
+-- where what is put for a variable has the variable's type only up to naturals: with f of the type `forall (n : Nat) . Unsigned n -> Unsigned n`,
+-- `f @(m * m * m)` has a type; with `/\(n : Nat) . \(x : Unsigned (n + 0 * (n * n))) . x` for f it has it too, though `m * m * m` put into the
+-- type of that leaves no kind.
 abbrev pub plain : TypeTree
 plain = for_all Nat (fun (scalar U (ty_var 0)) (scalar U (ty_var 0)))
 
@@ -147,4 +154,5 @@ pub record OnlyUpToNaturals : Type 0 where
   pub same : SameTypes plain padded
   pub used : HasType small (Nat ∷ []) (plain ∷ []) (ty_app (var 0) cube) (fun (scalar U cube) (scalar U cube))
   pub has : HasType small (Nat ∷ []) [] padded_identity padded
-  pub lost : HasNoType (Nat ∷ []) [] (put (ty_app (var 0) cube) 0 padded_identity)
+  pub too_great : HasNoKind small.datas small.domains (Nat ∷ []) (put_type (fun (scalar U padded_width) (scalar U padded_width)) 0 cube)
+  pub kept : HasType small (Nat ∷ []) [] (put (ty_app (var 0) cube) 0 padded_identity) (fun (scalar U cube) (scalar U cube))

@@ -10,7 +10,7 @@ use Rattle.chw_types.specs.Arguments.{arguments}
 use Rattle.chw_types.specs.SameTypes.{SameTypes}
 use Rattle.chw_terms.specs.declared.term.Pattern.{Pattern}
 use Rattle.chw_terms.specs.declared.term.Pattern.TheVariants.{OfCon, OfLit, Default}
-use Rattle.chw_typing.specs.Constructors.{Constructor, con_at}
+use Rattle.chw_terms.specs.Constructors.{Constructor, con_at}
 
 -- for all types of these kinds, the first one outermost
 abbrev pub for_each : List Kind → TypeTree → TypeTree

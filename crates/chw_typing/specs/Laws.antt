@@ -5,20 +5,22 @@ use Rattle.chw_types.specs.declared.kind.Kind.{Kind}
 use Rattle.chw_types.specs.TypeTree.{TypeTree}
 use Rattle.chw_types.specs.TypeMoves.{Renaming, rename as rename_type, Substitution as TypeSubstitution, sub as sub_type, put as put_type}
 use Rattle.chw_types.specs.Kinds.{degree}
+use Rattle.chw_types.specs.SameTypes.{SameTypes}
 use Rattle.chw_terms.specs.declared.program.Program.{Program}
+use Rattle.chw_terms.specs.declared.term.Pattern.{Pattern}
 use Rattle.chw_terms.specs.Tidy.{IsTidy}
 use Rattle.chw_terms.specs.TermTree.{TermTree}
 use Rattle.chw_terms.specs.TermMoves.{rename, shift, Substitution, sub, put}
 use Rattle.chw_terms.specs.TypesMoved.{rename_types, sub_types, put_types}
-use Rattle.chw_terms.specs.Evaluated.{evaluated, evaluated_in, put_type_in}
-use Rattle.chw_typing.specs.Scopes.{Setting, HasKind, IsTermType, AreTermTypes}
-use Rattle.chw_typing.specs.Typing.{HasType}
+use Rattle.chw_terms.specs.Evaluated.{evaluated_in, put_type_in}
+use Rattle.chw_typing.specs.Scopes.{Setting, HasKind, IsTermType, AreTermTypes, AreSame}
+use Rattle.chw_typing.specs.Typing.{Binds, HasType, HasTypeUpTo}
 use Rattle.chw_typing.specs.Programs.{IsSound, IsTyped, setting_of}
 
--- a term has at most one type
+-- a term has at most one type, up to naturals
 abbrev pub OneType : Type 0
 OneType =
-    (s : Setting) (kinds : List Kind) (vars : List TypeTree) (e : TermTree) (t u : TypeTree) → HasType s kinds vars e t → HasType s kinds vars e u → t ≡ u
+    (s : Setting) (kinds : List Kind) (vars : List TypeTree) (e : TermTree) (t u : TypeTree) → IsSound s → AreTermTypes s kinds vars → HasType s kinds vars e t → HasType s kinds vars e u → SameTypes t u
 
 -- what the laws below ask of the setting holds of every program that is tidy and typed
 abbrev pub TypedIsSound : Type 0
@@ -28,6 +30,22 @@ TypedIsSound = (p : Program) → IsTidy p → IsTyped p → IsSound (setting_of 
 abbrev pub TypesAreTermTypes : Type 0
 TypesAreTermTypes =
     (s : Setting) (kinds : List Kind) (vars : List TypeTree) (e : TermTree) (t : TypeTree) → IsSound s → AreTermTypes s kinds vars → HasType s kinds vars e t → IsTermType s kinds t
+
+-- the type is kept, up to naturals, where the types of the variables are the same up to naturals
+abbrev pub SameVariablesKeepType : Type 0
+SameVariablesKeepType =
+    (s : Setting) (kinds : List Kind) (vars vars' : List TypeTree) (e : TermTree) (t : TypeTree) → IsSound s → AreTermTypes s kinds vars → AreTermTypes s kinds vars' → AreSame vars vars' → HasType s kinds vars e t
+    → HasTypeUpTo s kinds vars' e t
+
+-- a pattern for values of a type is one for values of each type that is the same up to naturals, and may bind the same types
+abbrev pub SameTypesKeepPattern : Type 0
+SameTypesKeepPattern =
+    (s : Setting) (kinds : List Kind) (u v : TypeTree) (q : Pattern) (bound : List TypeTree) (j : Kind) → IsSound s → HasKind s kinds u j → SameTypes u v → Binds s kinds u q bound → Binds s kinds v q bound
+
+-- what a pattern binds is determined up to naturals
+abbrev pub OneBinding : Type 0
+OneBinding =
+    (s : Setting) (kinds : List Kind) (u : TypeTree) (q : Pattern) (bound bound' : List TypeTree) (j : Kind) → IsSound s → HasKind s kinds u j → Binds s kinds u q bound → Binds s kinds u q bound' → AreSame bound bound'
 
 -- each variable goes to one of its type
 abbrev pub Renames : Renaming → List TypeTree → List TypeTree → Type 0
@@ -69,41 +87,32 @@ PutClosedTypeKeepsType =
     (s : Setting) (inner outer : List Kind) (vars : List TypeTree) (e : TermTree) (t a : TypeTree) (j : Kind) → IsSound s → AreTermTypes s (inner ++ j ∷ outer) vars → HasType s (inner ++ j ∷ outer) vars e t → HasKind s [] a j
     → HasType s (inner ++ outer) (map (λ u. put_type u (length inner) a) vars) (put_types e (length inner) a) (put_type t (length inner) a)
 
--- for each variable a term of its type
+-- for each variable a term that has its type up to naturals
 abbrev pub PutsTerms : Setting → List Kind → Substitution → List TypeTree → List TypeTree → Type 0
-PutsTerms s kinds σ vars vars' = (x : ℕ) (t : TypeTree) → slice_get vars x ≡ Some t → HasType s kinds vars' (σ x) t
+PutsTerms s kinds σ vars vars' = (x : ℕ) (t : TypeTree) → slice_get vars x ≡ Some t → HasTypeUpTo s kinds vars' (σ x) t
 
--- the type is kept where terms of the variables' types are put for them
+-- the type is kept, up to naturals, where such terms are put for the variables
 abbrev pub PuttingAllKeepsType : Type 0
 PuttingAllKeepsType =
-    (s : Setting) (kinds : List Kind) (vars vars' : List TypeTree) (e : TermTree) (t : TypeTree) (σ : Substitution) → IsSound s → AreTermTypes s kinds vars' → HasType s kinds vars e t → PutsTerms s kinds σ vars vars'
-    → HasType s kinds vars' (sub e σ) t
+    (s : Setting) (kinds : List Kind) (vars vars' : List TypeTree) (e : TermTree) (t : TypeTree) (σ : Substitution) → IsSound s → AreTermTypes s kinds vars → AreTermTypes s kinds vars' → HasType s kinds vars e t → PutsTerms s kinds σ vars vars'
+    → HasTypeUpTo s kinds vars' (sub e σ) t
 
--- so where a term of its type is put for one variable
+-- so where such a term is put for one variable
 abbrev pub PutKeepsType : Type 0
 PutKeepsType =
-    (s : Setting) (kinds : List Kind) (inner outer : List TypeTree) (e a : TermTree) (t u : TypeTree) → IsSound s → AreTermTypes s kinds (inner ++ outer) → HasType s kinds (inner ++ u ∷ outer) e t → HasType s kinds outer a u
-    → HasType s kinds (inner ++ outer) (put e (length inner) a) t
+    (s : Setting) (kinds : List Kind) (inner outer : List TypeTree) (e a : TermTree) (t u : TypeTree) → IsSound s → AreTermTypes s kinds (inner ++ u ∷ outer) → HasType s kinds (inner ++ u ∷ outer) e t → HasTypeUpTo s kinds outer a u
+    → HasTypeUpTo s kinds (inner ++ outer) (put e (length inner) a) t
 
--- types that are equal where their closed naturals are evaluated, place by place
-abbrev pub IsAlike : List TypeTree → List TypeTree → Type 0
-IsAlike ts us = map evaluated ts ≡ map evaluated us
-
--- the term has a type that is equal to this one where closed naturals are evaluated
-pub record HasTypeAlike (s : Setting) (kinds : List Kind) (vars : List TypeTree) (e : TermTree) (t : TypeTree) : Type 0 where
-  pub type : TypeTree
-  pub has : HasType s kinds vars e type
-  pub alike : evaluated t ≡ evaluated type
-
--- what is typed stays so where its closed naturals are evaluated, in the variables' types too
+-- the type is kept, up to naturals, where the closed naturals of the term are evaluated; and the variables' types may be others that are the
+-- same
 abbrev pub EvaluatingKeepsType : Type 0
 EvaluatingKeepsType =
-    (s : Setting) (kinds : List Kind) (vars vars' : List TypeTree) (e : TermTree) (t : TypeTree) → IsSound s → AreTermTypes s kinds vars → HasType s kinds vars e t → AreTermTypes s kinds vars' → IsAlike vars vars'
-    → HasTypeAlike s kinds vars' (evaluated_in e) t
+    (s : Setting) (kinds : List Kind) (vars vars' : List TypeTree) (e : TermTree) (t : TypeTree) → IsSound s → AreTermTypes s kinds vars → AreTermTypes s kinds vars' → AreSame vars vars' → HasType s kinds vars e t
+    → HasTypeUpTo s kinds vars' (evaluated_in e) t
 
 -- so where a closed type is put for the outermost type variable, and all closed naturals are evaluated
 abbrev pub PutTypeInKeepsType : Type 0
 PutTypeInKeepsType =
     (s : Setting) (kinds : List Kind) (vars vars' : List TypeTree) (e : TermTree) (t a : TypeTree) (j : Kind) → IsSound s → AreTermTypes s (j ∷ kinds) vars → HasType s (j ∷ kinds) vars e t → HasKind s [] a j
-    → AreTermTypes s kinds (map (λ u. put_type u 0 a) vars) → AreTermTypes s kinds vars' → IsAlike (map (λ u. put_type u 0 a) vars) vars'
-    → HasTypeAlike s kinds vars' (put_type_in e a) (put_type t 0 a)
+    → AreTermTypes s kinds vars' → AreSame (map (λ u. put_type u 0 a) vars) vars'
+    → HasTypeUpTo s kinds vars' (put_type_in e a) (put_type t 0 a)

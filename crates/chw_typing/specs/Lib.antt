@@ -1,5 +1,4 @@
 pub mod Alternatives
-pub mod Constructors
 pub mod Examples
 pub mod HeadTypes
 pub mod Laws

@@ -6,7 +6,6 @@ use Rattle.chw_types.specs.declared.ports.Leaf.{Leaf}
 use Rattle.chw_types.specs.TypeTree.{TypeTree, fun}
 use Rattle.chw_types.specs.BuiltIn.{built_in}
 use Rattle.chw_types.specs.Ports.{Leaves}
-use Rattle.chw_types.specs.SameTypes.{SameTypes}
 use Rattle.chw_terms.specs.declared.program.Def.{Def}
 use Rattle.chw_terms.specs.declared.program.Program.{Program}
 use Rattle.chw_terms.specs.TermTree.{TermTree, lam, app, ty_lam, ty_app, letrec, vec_lit, case_of, Terms, no_terms, term_and, Group, no_bindings, bind, Alts, no_alts, alt}
@@ -14,7 +13,7 @@ use Rattle.chw_terms.specs.References.{IsField, DataRefers, DefRefers, HasNoCycl
 use Rattle.chw_terms.specs.Tidy.{HasItsKind}
 use Rattle.chw_typing.specs.Scopes.{Setting, IsTermType}
 use Rattle.chw_typing.specs.Alternatives.{IsCovered}
-use Rattle.chw_typing.specs.Typing.{HasType}
+use Rattle.chw_typing.specs.Typing.{HasTypeUpTo}
 
 abbrev mutual
   -- each case in the term has an alternative for whatever it looks at
@@ -58,9 +57,9 @@ AreClosed s ts = (x : ℕ) (t : TypeTree) → slice_get ts x ≡ Some t → IsTe
 abbrev pub setting_of : Program → Setting
 setting_of p = record { datas = p.datas; domains = length p.domains; defs = map (λ d. d.ty) p.defs; made = [] }
 
--- the body has the declared type
+-- the body has the declared type, up to naturals
 abbrev pub HasItsType : Program → Def → Type 0
-HasItsType p it = (t : TypeTree) × HasType (setting_of p) [] [] it.body t × SameTypes it.ty t
+HasItsType p it = HasTypeUpTo (setting_of p) [] [] it.body it.ty
 
 pub record IsTyped (p : Program) : Type 0 where
   -- every declared type is one that terms have, and each body has its declared type

@@ -5,6 +5,7 @@ use Rattle.chw_types.specs.declared.declarations.Data.{Data}
 use Rattle.chw_types.specs.TypeTree.{TypeTree}
 use Rattle.chw_types.specs.TypeMoves.{shift}
 use Rattle.chw_types.specs.Kinds.{KindOf, IsOfTerms}
+use Rattle.chw_types.specs.SameTypes.{SameTypes}
 use Rattle.chw_terms.specs.TermTree.{Group, no_bindings, bind}
 
 -- the data types, the number of domains, the declared types of the definitions, and the types of the made definitions
@@ -28,6 +29,12 @@ pub record IsTermType (s : Setting) (kinds : List Kind) (t : TypeTree) : Type 0 
 abbrev pub AreTermTypes : Setting → List Kind → List TypeTree → Type 0
 AreTermTypes s kinds [] = Unit {0}
 AreTermTypes s kinds (t ∷ ts) = IsTermType s kinds t × AreTermTypes s kinds ts
+
+-- as many types of one list as of the other, each the same up to naturals as the one at its place
+abbrev pub AreSame : List TypeTree → List TypeTree → Type 0
+AreSame [] [] = Unit {0}
+AreSame (t ∷ ts) (u ∷ us) = SameTypes t u × AreSame ts us
+AreSame _ _ = ⊥
 
 -- the variables' types, the innermost first, seen from under one more type binder
 abbrev pub under_binder : List TypeTree → List TypeTree

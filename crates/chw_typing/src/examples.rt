@@ -30,13 +30,13 @@ pub fn of_vectors()
     ensures { VectorOfTwo }
 {}
 
-/// Type arguments: of the kind that is asked for, and of no degree that leaves the type without a kind.
+/// Type arguments: of the kind that is asked for, and of no degree that leaves no type with a kind.
 pub fn of_type_arguments()
     ensures kind { ArgumentOfTheKind }
     ensures degree { DegreeTooGreat }
 {}
 
-/// A term whose type is a variable's only up to naturals can't always be put for it.
+/// A term whose type is a variable's only up to naturals is put for it, and the type is kept.
 pub fn of_putting()
     ensures { OnlyUpToNaturals }
 {}

@@ -1,7 +1,7 @@
 //! Laws of the types of terms, each as the contract of a call that does nothing.
-ghost use Rattle.chw_typing.specs.Laws.{OneType, TypedIsSound, TypesAreTermTypes, RenameKeepsType, ShiftKeepsType, RenameTypesKeepsType, PutTypesKeepsType, PutClosedTypeKeepsType, PuttingAllKeepsType, PutKeepsType, EvaluatingKeepsType, PutTypeInKeepsType};
+ghost use Rattle.chw_typing.specs.Laws.{OneType, TypedIsSound, TypesAreTermTypes, SameVariablesKeepType, SameTypesKeepPattern, OneBinding, RenameKeepsType, ShiftKeepsType, RenameTypesKeepsType, PutTypesKeepsType, PutClosedTypeKeepsType, PuttingAllKeepsType, PutKeepsType, EvaluatingKeepsType, PutTypeInKeepsType};
 
-/// A term has at most one type.
+/// A term has at most one type, up to naturals.
 pub fn one_type()
     ensures { OneType }
 {}
@@ -14,6 +14,17 @@ pub fn typed_is_sound()
 /// The type of a term has a kind, and one that terms' types have.
 pub fn types_are_term_types()
     ensures { TypesAreTermTypes }
+{}
+
+/// Where the variables' types are the same up to naturals, so is the term's.
+pub fn same_variables_keep_types()
+    ensures { SameVariablesKeepType }
+{}
+
+/// A pattern for a type is one for each type that is the same, and what it binds is determined up to naturals.
+pub fn patterns_of_same_types()
+    ensures kept { SameTypesKeepPattern }
+    ensures one { OneBinding }
 {}
 
 /// Renaming variables keeps the type; so does a shift, which makes room for more variables.
@@ -30,14 +41,14 @@ pub fn putting_types_keeps_types()
     ensures closed { PutClosedTypeKeepsType }
 {}
 
-/// Putting terms of exactly the variables' types for them keeps the type.
+/// Putting terms that have the variables' types up to naturals keeps the type, up to naturals.
 pub fn putting_terms_keeps_types()
     ensures putting_all { PuttingAllKeepsType }
     ensures putting { PutKeepsType }
 {}
 
-/// Evaluating the closed naturals of a term keeps what is typed, up to that; so does putting a closed type for a type lambda's variable as
-/// its application does.
+/// Evaluating the closed naturals of a term keeps the type, up to naturals; so does putting a closed type for a type lambda's variable as its
+/// application does.
 pub fn evaluating_keeps_types()
     ensures evaluating { EvaluatingKeepsType }
     ensures putting { PutTypeInKeepsType }
