@@ -9,9 +9,10 @@ use Rattle.chw_types.specs.Arguments.{all_fields}
 use Rattle.chw_types.specs.Representable.{Representable, representable_data, AllRepresentable, represent_and}
 use Rattle.chw_terms.specs.declared.program.Program.{Program}
 use Rattle.chw_terms.specs.TermTree.{TermTree}
-use Rattle.chw_meaning.specs.Datum.{Datum, word, built, elements, Datums, datum_and}
-use Rattle.chw_meaning.specs.Constructors.{Constructor, con_at}
-use Rattle.chw_meaning.specs.Layout.{HasWidth, IsWide}
+use Rattle.chw_layout.specs.Datum.{Datum, word, built, elements, Datums, datum_and}
+use Rattle.chw_terms.specs.Constructors.{Constructor, con_at}
+use Rattle.chw_layout.specs.Measured.{HasWidth}
+use Rattle.chw_meaning.specs.Zeros.{IsWide}
 use Rattle.chw_meaning.specs.Values.{History, bits, con_of, vec_of, Thunk, applied, Thunks}
 use Rattle.chw_meaning.specs.Gives.{Yields, y_empty, y_word, y_elements, y_built, YieldEach, yield_none, yield_each, YieldFields, yield_no_field, yield_field, Input, stream_in, PortGiven, given_stream, given_product, FieldsGiven, given_no_field, given_field, Given, given_value, given_port, OnInputs, on_all, on_next, LeafOf, PortLeaves, leaf_signal, leaves_product, FieldLeaves, no_field_leaves, field_leaves, HasLeaves, leaf_value, leaves_port, Gives}
 use Rattle.chw_meaning.proofs.Once.{same_some, zero_once, forces_once}

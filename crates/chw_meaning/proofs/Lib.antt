@@ -8,4 +8,4 @@ pub mod Sound
 pub mod Still
 pub mod WholeShown
 pub mod Widths
-pub mod ZeroBits
+pub mod ZerosEncoded

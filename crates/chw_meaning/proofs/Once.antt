@@ -10,9 +10,9 @@ use Rattle.chw_prims.specs.declared.prim.Primitive.{Primitive as Prim}
 use Rattle.prim_bits.specs.Values.{value_of as word_value}
 use Rattle.chw_terms.specs.declared.program.Program.{Program}
 use Rattle.chw_terms.specs.TermTree.{TermTree, Alts}
-use Rattle.chw_meaning.specs.Datum.{Datum, built, elements, Datums, datum_and}
-use Rattle.chw_meaning.specs.Constructors.{first_con}
-use Rattle.chw_meaning.specs.Layout.{IsZero, zero_scalar, zero_vector, zero_data, AreZeros, no_zeros, zeros_and, AreZeroFields, no_zero_field, zero_field_and}
+use Rattle.chw_layout.specs.Datum.{Datum, built, elements, Datums, datum_and}
+use Rattle.chw_layout.specs.Encodes.{first_constructor}
+use Rattle.chw_meaning.specs.Zeros.{IsZero, zero_scalar, zero_vector, zero_data, AreZeros, no_zeros, zeros_and, AreZeroFields, no_zero_field, zero_field_and}
 use Rattle.chw_meaning.specs.Values.{History, Value, bits, con_of, vec_of, Thunk, closed, field, element, Thunks, none, thunk_and, thunk_at, joined, fields_from, value_of}
 use Rattle.chw_meaning.specs.Steps.{Ram, Step}
 use Rattle.chw_meaning.specs.Eval.{plus, Arm, arm_of, result, Evals, e_var, e_global, e_lam, e_app, e_ty_lam, e_ty_app, e_letrec, e_con, e_prim, e_lit, e_vec, e_goes_on, e_takes, e_looks, Forces, f_closed, f_applied, f_member, f_field, f_element, f_sample, f_stream, f_known, Applies, a_closure, a_runs, TyApplies, t_closure, t_runs, Runs, r_gives, r_goes_to, r_computes, r_samples, r_first, r_later, r_zero_first, r_zero_outside, r_word, r_looks_up, Looks, l_empty, l_bits, Words, no_words, word_and, Word, w_content, w_kept, w_elsewhere, w_written}
@@ -74,7 +74,7 @@ mutual
   pub zero_once : {datas : List Data} {t : TypeTree} {a b : Datum} → IsZero datas t a → IsZero datas t b → a ≡ b
   zero_once zero_scalar zero_scalar = refl
   zero_once (zero_vector a) (zero_vector b) = ap elements (zeros_once a b)
-  zero_once {datas} (zero_data {d = d} i j a) (zero_data k l b) = ap (built (first_con datas d)) (zero_fields_once a (zeros_along (first_same (λ it. slice_get it.cons zero) k i l j) b))
+  zero_once {datas} (zero_data {d = d} i j a) (zero_data k l b) = ap (built (first_constructor datas d)) (zero_fields_once a (zeros_along (first_same (λ it. slice_get it.cons zero) k i l j) b))
 
   pub zeros_once : {datas : List Data} {n : ℕ} {t : TypeTree} {a b : Datums} → AreZeros datas n t a → AreZeros datas n t b → a ≡ b
   zeros_once no_zeros no_zeros = refl

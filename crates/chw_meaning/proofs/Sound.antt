@@ -13,9 +13,10 @@ use Rattle.chw_prims.specs.declared.prim.Primitive.{Primitive as Prim}
 use Rattle.prim_bits.specs.Values.{value_of as word_value}
 use Rattle.chw_terms.specs.declared.program.Program.{Program}
 use Rattle.chw_terms.specs.TermTree.{TermTree, var, global, made, lam, app, ty_lam, ty_app, letrec, con, prim, lit, vec_lit, case_of, Alts}
-use Rattle.chw_meaning.specs.Datum.{Datum, built, elements, Datums, datum_and}
-use Rattle.chw_meaning.specs.Constructors.{first_con}
-use Rattle.chw_meaning.specs.Layout.{natural, IsZero, zero_scalar, zero_vector, zero_data, AreZeros, no_zeros, zeros_and, AreZeroFields, no_zero_field, zero_field_and}
+use Rattle.chw_layout.specs.Datum.{Datum, built, elements, Datums, datum_and}
+use Rattle.chw_layout.specs.Encodes.{first_constructor}
+use Rattle.chw_layout.specs.Measured.{closed_value}
+use Rattle.chw_meaning.specs.Zeros.{IsZero, zero_scalar, zero_vector, zero_data, AreZeros, no_zeros, zeros_and, AreZeroFields, no_zero_field, zero_field_and}
 use Rattle.chw_meaning.specs.Values.{History, con_head, prim_head, Value, bits, con_of, vec_of, closure, ty_closure, partial, Thunk, closed, applied, member, field, element, sample, stream, known, Thunks, none, thunk_and, thunk_at, closed_type, joined, in_group, body_at, fields_from, value_of, item_at}
 use Rattle.chw_meaning.specs.Steps.{Ram, Step, gives, goes_to, computes, samples, delays, remembers, looks_up, stuck, step}
 use Rattle.chw_meaning.specs.Eval.{plus, Choice, goes_on, takes, looks, choice, arm_of, result, dom, Evals, e_var, e_global, e_lam, e_app, e_ty_lam, e_ty_app, e_letrec, e_con, e_prim, e_lit, e_vec, e_goes_on, e_takes, e_looks, Forces, f_closed, f_applied, f_member, f_field, f_element, f_sample, f_stream, f_known, Applies, a_closure, a_runs, TyApplies, t_closure, t_runs, Runs, r_gives, r_goes_to, r_computes, r_samples, r_first, r_later, r_zero_first, r_zero_outside, r_word, r_looks_up, Looks, l_empty, l_bits, Words, no_words, word_and, Word, w_content, w_kept, w_elsewhere, w_written}
@@ -82,8 +83,8 @@ mutual
   pub zero_sound : (d : ℕ) (datas : List Data) (t : TypeTree) → If Datum (λ z. IsZero datas t z) (zero_by d datas t)
   zero_sound zero datas t = if_none
   zero_sound (suc d) datas (scalar s n) = if_some zero_scalar
-  zero_sound (suc d) datas (vector n t) = if_changed elements (zeros_sound d datas (natural n) t) (λ ds z. zero_vector z)
-  zero_sound (suc d) datas (data_of i ts) = if_changed (built (first_con datas i)) (zero_data_sound d datas i ts (slice_get datas i) refl) (λ ds z. z)
+  zero_sound (suc d) datas (vector n t) = if_changed elements (zeros_sound d datas (closed_value n) t) (λ ds z. zero_vector z)
+  zero_sound (suc d) datas (data_of i ts) = if_changed (built (first_constructor datas i)) (zero_data_sound d datas i ts (slice_get datas i) refl) (λ ds z. z)
   zero_sound (suc d) datas (ty_var x) = if_none
   zero_sound (suc d) datas (nat_lit x) = if_none
   zero_sound (suc d) datas (nat_sum a b) = if_none
@@ -98,12 +99,12 @@ mutual
   zeros_sound (suc d) datas zero t = if_some no_zeros
   zeros_sound (suc d) datas (suc n) t = if_both datum_and (zero_sound d datas t) (zeros_sound d datas n t) (λ x xs z zs. zeros_and z zs)
 
-  zero_data_sound : (d : ℕ) (datas : List Data) (i : ℕ) (ts : TypeTrees) (o : Option Data) → slice_get datas i ≡ o → If Datums (λ ds. IsZero datas (data_of i ts) (built (first_con datas i) ds)) (zero_data_by d datas o (arguments ts))
+  zero_data_sound : (d : ℕ) (datas : List Data) (i : ℕ) (ts : TypeTrees) (o : Option Data) → slice_get datas i ≡ o → If Datums (λ ds. IsZero datas (data_of i ts) (built (first_constructor datas i) ds)) (zero_data_by d datas o (arguments ts))
   zero_data_sound zero datas i ts o e = if_none
   zero_data_sound (suc d) datas i ts None e = if_none
   zero_data_sound (suc d) datas i ts (Some it) e = zero_con_sound d datas i ts it e (slice_get it.cons zero) refl
 
-  zero_con_sound : (d : ℕ) (datas : List Data) (i : ℕ) (ts : TypeTrees) (it : Data) → slice_get datas i ≡ Some it → (o : Option ConDecl) → slice_get it.cons zero ≡ o → If Datums (λ ds. IsZero datas (data_of i ts) (built (first_con datas i) ds)) (zero_con_by d datas o (arguments ts))
+  zero_con_sound : (d : ℕ) (datas : List Data) (i : ℕ) (ts : TypeTrees) (it : Data) → slice_get datas i ≡ Some it → (o : Option ConDecl) → slice_get it.cons zero ≡ o → If Datums (λ ds. IsZero datas (data_of i ts) (built (first_constructor datas i) ds)) (zero_con_by d datas o (arguments ts))
   zero_con_sound zero datas i ts it e o f = if_none
   zero_con_sound (suc d) datas i ts it e None f = if_none
   zero_con_sound (suc d) datas i ts it e (Some k) f = if_so (zero_fields_sound d datas k.fields (arguments ts)) (λ ds z. zero_data e f z)

@@ -1,7 +1,7 @@
 -- What has one value at every history.
 use Rattle.std.proofs.Common.{ℕ}
 use Rattle.chw_terms.specs.declared.program.Program.{Program}
-use Rattle.chw_meaning.specs.Datum.{Datum}
+use Rattle.chw_layout.specs.Datum.{Datum}
 use Rattle.chw_meaning.specs.Values.{History, Value, Thunk, sample, known}
 use Rattle.chw_meaning.specs.Eval.{Forces, f_sample, f_known}
 

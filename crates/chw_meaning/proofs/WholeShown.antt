@@ -13,8 +13,9 @@ use Rattle.chw_types.specs.Representable.{representable_scalar}
 use Rattle.chw_types.specs.Ports.{one_leaf, leaf_of as port_leaf}
 use Rattle.chw_terms.specs.declared.program.Def.{Def}
 use Rattle.chw_terms.specs.TermTree.{global}
-use Rattle.chw_meaning.specs.Datum.{Datum, word}
-use Rattle.chw_meaning.specs.Layout.{HasWidth, width_scalar, encode_scalar, IsValueOf}
+use Rattle.chw_layout.specs.Datum.{Datum, word}
+use Rattle.chw_layout.specs.Measured.{HasWidth, measured_scalar}
+use Rattle.chw_layout.specs.Encodes.{scalar_bits, IsValueOf, scalar_value}
 use Rattle.chw_meaning.specs.Values.{History, bits, applied, stream}
 use Rattle.chw_meaning.specs.Eval.{dom}
 use Rattle.chw_meaning.specs.Run.{zero_by, eval}
@@ -36,19 +37,19 @@ is_top = record { held = refl; leads = leads_from (one_leaf representable_scalar
 
 eight_bits : HasWidth accumulating.datas byte 8
 unfolding natural_value
-eight_bits = width_scalar
+eight_bits = measured_scalar
 
 decoded : (n : ℕ) → Decoded accumulating.datas byte 0 (with_input n ∷ []) (word (bits_of 8 n) ∷ [])
 unfolding natural_value
-decoded n = decoded_and refl (encode_scalar refl) decoded_none
+decoded n = decoded_and refl (scalar_bits refl) decoded_none
 
 decoded_three : Decoded accumulating.datas byte 0 three_inputs (word (bits_of 8 5) ∷ word (bits_of 8 7) ∷ word (bits_of 8 0) ∷ [])
 unfolding natural_value
-decoded_three = decoded_and refl (encode_scalar refl) (decoded_and refl (encode_scalar refl) (decoded 5))
+decoded_three = decoded_and refl (scalar_bits refl) (decoded_and refl (scalar_bits refl) (decoded 5))
 
 is_byte : (n : ℕ) → IsValueOf accumulating.datas byte (word (bits_of 8 n))
 unfolding natural_value
-is_byte n = (bits_of 8 n, encode_scalar refl)
+is_byte n = scalar_value refl
 
 streams_of : (h : History) (ds : List Datum) → Decoded accumulating.datas byte 0 h ds → Streams accumulating.datas (input_leaf ∷ []) 0 h (stream_in ds ∷ [])
 streams_of h ds d = stream_and eight_bits d no_streams

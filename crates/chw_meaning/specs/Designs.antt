@@ -10,7 +10,7 @@ use Rattle.chw_prims.specs.Schemas.{pair}
 use Rattle.chw_prims.specs.declared.prim.Primitive.TheVariants.{AddU, AddS, MulU, ShrS, BlockRam, VGenerate, VFoldlC, VZipWithC}
 use Rattle.chw_terms.specs.declared.program.Program.{Program}
 use Rattle.chw_terms.specs.TermTree.{TermTree, var, global, lam, ty_lam, letrec, lit, vec_lit, bind, no_bindings, no_terms, term_and}
-use Rattle.chw_meaning.specs.Datum.{Datum, word, built, no_data, datum_and}
+use Rattle.chw_layout.specs.Datum.{Datum, word, built, no_data, datum_and}
 use Rattle.chw_meaning.specs.Gives.{at_types}
 use Rattle.chw_meaning.specs.Values.{Thunk, applied, field, stream}
 use Rattle.chw_meaning.specs.Writing.{types, call, prim_on, con_on, nat, unsigned, number, fmap, ap_on, pure, register, synchronised, let_one, case_one, def_of, program, here, words, pair_of}

@@ -17,9 +17,9 @@ use Rattle.chw_terms.specs.declared.program.Program.{Program}
 use Rattle.chw_terms.specs.declared.term.Pattern.{Pattern}
 use Rattle.chw_terms.specs.declared.term.Pattern.TheVariants.{OfCon, OfLit, Default}
 use Rattle.chw_terms.specs.TermTree.{TermTree, var, global, lam, app, ty_lam, ty_app, letrec, con, prim, lit, vec_lit, case_of, Terms, Group, Alts, no_alts, alt}
-use Rattle.chw_meaning.specs.Datum.{Datum}
-use Rattle.chw_meaning.specs.Constructors.{Constructor, con_at}
-use Rattle.chw_meaning.specs.Layout.{IsZero}
+use Rattle.chw_layout.specs.Datum.{Datum}
+use Rattle.chw_terms.specs.Constructors.{Constructor, con_at}
+use Rattle.chw_meaning.specs.Zeros.{IsZero}
 use Rattle.chw_meaning.specs.Values.{History, con_head, prim_head, Head, Value, bits, con_of, vec_of, closure, ty_closure, partial, Thunk, closed, applied, member, field, element, sample, stream, known, Thunks, none, thunk_and, thunk_at, closed_type, joined, in_group, body_at, fields_from, closed_all, value_of, item_at}
 use Rattle.chw_meaning.specs.Steps.{Ram, Step, gives, goes_to, computes, samples, delays, remembers, looks_up, step}
 

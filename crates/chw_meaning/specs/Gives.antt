@@ -10,9 +10,11 @@ use Rattle.chw_types.specs.Arguments.{arguments}
 use Rattle.chw_types.specs.Representable.{Representable}
 use Rattle.chw_terms.specs.declared.program.Program.{Program}
 use Rattle.chw_terms.specs.TermTree.{TermTree, ty_app, con}
-use Rattle.chw_meaning.specs.Datum.{Datum, word, built, elements, Datums, no_data, datum_and}
-use Rattle.chw_meaning.specs.Constructors.{Constructor, con_at, first_con}
-use Rattle.chw_meaning.specs.Layout.{HasWidth, IsWide, IsZero, IsValueOf}
+use Rattle.chw_layout.specs.Datum.{Datum, word, built, elements, Datums, no_data, datum_and}
+use Rattle.chw_terms.specs.Constructors.{Constructor, con_at}
+use Rattle.chw_layout.specs.Encodes.{first_constructor, IsValueOf}
+use Rattle.chw_layout.specs.Measured.{HasWidth}
+use Rattle.chw_meaning.specs.Zeros.{IsWide, IsZero}
 use Rattle.chw_meaning.specs.Values.{History, bits, con_of, vec_of, Thunk, closed, applied, field, stream, known, Thunks, none, thunk_and, thunk_at}
 use Rattle.chw_meaning.specs.Eval.{plus, Forces}
 
@@ -50,7 +52,7 @@ mutual
   -- a parameter whose closed type is a port is this thunk, made of the first of the inputs, a stream for each leaf; these are left
   pub data PortGiven (datas : List Data) : TypeTree → List Input → Thunk → List Input → Type 0 where
     given_stream : {d : ℕ} {t : TypeTree} {ds : List Datum} {more : List Input} → Representable datas t → AllByRecursion (IsValueOf datas t) ds → PortGiven datas (signal (domain d) t) (stream_in ds ∷ more) (stream ds) more
-    given_product : {d : ℕ} {it : Data} {ts : TypeTrees} {k : ConDecl} {f : TypeTree} {fs : List TypeTree} {ins more : List Input} {th : Thunk} → slice_get datas d ≡ Some it → it.cons ≡ k ∷ [] → k.fields ≡ f ∷ fs → FieldsGiven datas (f ∷ fs) (arguments ts) (closed (at_types (con (first_con datas d)) ts) none no_types) ins th more → PortGiven datas (data_of d ts) ins th more
+    given_product : {d : ℕ} {it : Data} {ts : TypeTrees} {k : ConDecl} {f : TypeTree} {fs : List TypeTree} {ins more : List Input} {th : Thunk} → slice_get datas d ≡ Some it → it.cons ≡ k ∷ [] → k.fields ≡ f ∷ fs → FieldsGiven datas (f ∷ fs) (arguments ts) (closed (at_types (con (first_constructor datas d)) ts) none no_types) ins th more → PortGiven datas (data_of d ts) ins th more
 
   -- the thunk is another on fields of these types, with this put in
   pub data FieldsGiven (datas : List Data) : List TypeTree → Substitution → Thunk → List Input → Thunk → List Input → Type 0 where

@@ -4,8 +4,10 @@ use Rattle.chw_types.specs.declared.declarations.Data.{Data}
 use Rattle.chw_types.specs.TypeTree.{TypeTree, TypeTrees}
 use Rattle.chw_terms.specs.declared.program.Program.{Program}
 use Rattle.chw_terms.specs.TermTree.{TermTree}
-use Rattle.chw_meaning.specs.Datum.{Datum}
-use Rattle.chw_meaning.specs.Layout.{HasWidth, Encodes, IsZero, IsValueOf}
+use Rattle.chw_layout.specs.Datum.{Datum}
+use Rattle.chw_layout.specs.Measured.{HasWidth}
+use Rattle.chw_layout.specs.Encodes.{Encodes, IsValueOf}
+use Rattle.chw_meaning.specs.Zeros.{IsZero}
 use Rattle.chw_meaning.specs.Values.{History, Value, Thunk, sample, known, Thunks}
 use Rattle.chw_meaning.specs.Eval.{Evals, Forces}
 use Rattle.chw_meaning.specs.Gives.{Input, Gives, Better}

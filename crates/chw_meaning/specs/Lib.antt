@@ -1,11 +1,8 @@
-pub mod Constructors
 pub mod Corners
-pub mod Datum
 pub mod Designs
 pub mod Eval
 pub mod Gives
 pub mod Laws
-pub mod Layout
 pub mod Means
 pub mod Run
 pub mod Shown
@@ -13,3 +10,4 @@ pub mod Steps
 pub mod Values
 pub mod Whole
 pub mod Writing
+pub mod Zeros

@@ -11,8 +11,10 @@ use Rattle.chw_types.specs.TypeTree.{TypeTree, fun}
 use Rattle.chw_terms.specs.declared.program.Def.{Def}
 use Rattle.chw_terms.specs.declared.program.Program.{Program}
 use Rattle.chw_terms.specs.TermTree.{global}
-use Rattle.chw_meaning.specs.Datum.{Datum}
-use Rattle.chw_meaning.specs.Layout.{HasWidth, IsZero, Encodes}
+use Rattle.chw_layout.specs.Datum.{Datum}
+use Rattle.chw_layout.specs.Measured.{HasWidth}
+use Rattle.chw_layout.specs.Encodes.{Encodes}
+use Rattle.chw_meaning.specs.Zeros.{IsZero}
 use Rattle.chw_meaning.specs.Values.{History}
 use Rattle.chw_meaning.specs.Gives.{Input, stream_in, Gives}
 

@@ -10,9 +10,9 @@ use Rattle.chw_types.specs.Arguments.{arguments}
 use Rattle.prim_bits.specs.Values.{value_of as word_value}
 use Rattle.chw_terms.specs.declared.program.Program.{Program}
 use Rattle.chw_terms.specs.TermTree.{TermTree, var, global, made, lam, app, ty_lam, ty_app, letrec, con, prim, lit, vec_lit, case_of, Alts}
-use Rattle.chw_meaning.specs.Datum.{Datum, word, built, elements, Datums, no_data, datum_and}
-use Rattle.chw_meaning.specs.Constructors.{first_con}
-use Rattle.chw_meaning.specs.Layout.{natural}
+use Rattle.chw_layout.specs.Datum.{Datum, word, built, elements, Datums, no_data, datum_and}
+use Rattle.chw_layout.specs.Encodes.{first_constructor}
+use Rattle.chw_layout.specs.Measured.{closed_value}
 use Rattle.chw_meaning.specs.Values.{History, con_head, prim_head, Value, bits, con_of, vec_of, closure, ty_closure, partial, Thunk, closed, applied, member, field, element, sample, stream, known, Thunks, none, thunk_and, thunk_at, closed_type, joined, in_group, body_at, fields_from, closed_all, value_of, item_at}
 use Rattle.chw_meaning.specs.Steps.{Ram, Step, gives, goes_to, computes, samples, delays, remembers, looks_up, stuck, step}
 use Rattle.chw_meaning.specs.Eval.{plus, Choice, goes_on, takes, looks, choice, arm_of, result, dom}
@@ -73,9 +73,9 @@ with_both _ _ f = None
 unfoldable mutual
   pub zero_by : ℕ → List Data → TypeTree → Option Datum
   zero_by zero datas t = None
-  zero_by (suc d) datas (scalar s n) = Some (word (replicate (natural n) false))
-  zero_by (suc d) datas (vector n t) = changed elements (zeros_by d datas (natural n) t)
-  zero_by (suc d) datas (data_of i ts) = changed (built (first_con datas i)) (zero_data_by d datas (slice_get datas i) (arguments ts))
+  zero_by (suc d) datas (scalar s n) = Some (word (replicate (closed_value n) false))
+  zero_by (suc d) datas (vector n t) = changed elements (zeros_by d datas (closed_value n) t)
+  zero_by (suc d) datas (data_of i ts) = changed (built (first_constructor datas i)) (zero_data_by d datas (slice_get datas i) (arguments ts))
   zero_by (suc d) datas _ = None
 
   pub zeros_by : ℕ → List Data → ℕ → TypeTree → Option Datums

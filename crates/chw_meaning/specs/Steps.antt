@@ -13,9 +13,9 @@ use Rattle.chw_prims.specs.declared.row.Row.TheVariants.{Mapping, Applying, Cons
 use Rattle.prim_bits.specs.Widths.{argument_widths}
 use Rattle.chw_terms.specs.TermTree.{TermTree, var, app, ty_app, prim, lit, case_of, no_alts, alt}
 use Rattle.chw_terms.specs.declared.term.Pattern.TheVariants.{OfCon}
-use Rattle.chw_meaning.specs.Datum.{word}
-use Rattle.chw_meaning.specs.Constructors.{Constructor, con_at}
-use Rattle.chw_meaning.specs.Layout.{natural}
+use Rattle.chw_layout.specs.Datum.{word}
+use Rattle.chw_terms.specs.Constructors.{Constructor, con_at}
+use Rattle.chw_layout.specs.Measured.{closed_value}
 use Rattle.chw_meaning.specs.Values.{Head, con_head, prim_head, Value, con_of, vec_of, partial, Thunk, closed, applied, element, known, Thunks, none, thunk_and, count_of, joined}
 
 -- a block RAM: its domain, the count of its words, the width of its addresses, the type of its words, and its three arguments
@@ -120,7 +120,7 @@ at_index (suc n) k v i = looks_up (suc n) k v i
 
 -- the natural arguments of a primitive on words
 abbrev pub naturals : TypeTrees → List ℕ
-naturals ts = map natural (reverse (list_of ts))
+naturals ts = map closed_value (reverse (list_of ts))
 
 abbrev pub on_words : Prim → List ℕ → Option (List ℕ) → Thunks → Step
 on_words q nats None ths = stuck
@@ -163,23 +163,23 @@ by_row Mapping q ts ths = types_3 ts (λ d a b. thunks_2 ths (λ f s. samples f 
 by_row Applying q ts ths = types_3 ts (λ d a b. thunks_2 ths (λ u s. samples u s))
 by_row Constant q ts ths = types_2 ts (λ d a. thunks_1 ths (λ v. goes_to v))
 by_row Delay q ts ths = types_2 ts (λ t a. in_domain t (λ d. thunks_2 ths (λ i s. delays d i s)))
-by_row Memory q ts ths = types_4 ts (λ t n k a. in_domain t (λ d. thunks_3 ths (λ c r w. remembers (record { dom = d; size = natural (nat_sum n (nat_lit 1)); address = natural k; payload = a; content = c; read = r; write = w }))))
+by_row Memory q ts ths = types_4 ts (λ t n k a. in_domain t (λ d. thunks_3 ths (λ c r w. remembers (record { dom = d; size = closed_value (nat_sum n (nat_lit 1)); address = closed_value k; payload = a; content = c; read = r; write = w }))))
 by_row Crossing q ts ths = types_3 ts (λ d e a. thunks_1 ths (λ s. goes_to s))
-by_row (Element kind) q ts ths = types_3 ts (λ i n a. thunks_1 ths (λ v. goes_to (element (natural i) v)))
-by_row ElementAt q ts ths = types_3 ts (λ n k a. thunks_2 ths (λ v i. at_index (natural n) (natural k) v i))
-by_row Replaced q ts ths = types_3 ts (λ n k a. thunks_3 ths (λ v i x. gives (each (natural n) (replaced (natural k) v i x))))
-by_row (Mapped kind) q ts ths = types_3 ts (λ n a b. thunks_2 ths (λ f v. gives (each (natural n) (λ j. applied f (element j v)))))
-by_row (Zipped kind) q ts ths = types_4 ts (λ n a b c. thunks_3 ths (λ f v w. gives (each (natural n) (λ j. applied (applied f (element j v)) (element j w)))))
-by_row (FoldedLeft kind) q ts ths = types_3 ts (λ n a b. thunks_3 ths (λ f z v. goes_to (folded_left zero (natural n) f z v)))
-by_row (FoldedRight kind) q ts ths = types_3 ts (λ n a b. thunks_3 ths (λ f z v. goes_to (folded_right zero (natural n) f z v)))
-by_row (Generated kind) q ts ths = types_3 ts (λ n k a. thunks_1 ths (λ f. gives (each (natural n) (λ j. applied f (known (word (bits_of (natural k) j)))))))
-by_row (Replicated kind) q ts ths = types_2 ts (λ n a. thunks_1 ths (λ x. gives (each (natural n) (λ j. x))))
-by_row (Appended kind) q ts ths = types_3 ts (λ n m a. thunks_2 ths (λ v w. gives (vec_of (joined (each_from zero (natural n) (λ j. element j v)) (each_from zero (natural m) (λ j. element j w))))))
-by_row (Concatenated kind) q ts ths = types_3 ts (λ n m a. thunks_1 ths (λ v. gives (vec_of (concatenated zero (natural n) (natural m) v))))
-by_row (Taken kind) q ts ths = types_3 ts (λ n m a. thunks_1 ths (λ v. gives (each (natural n) (λ j. element j v))))
-by_row (Dropped kind) q ts ths = types_3 ts (λ n m a. thunks_1 ths (λ v. gives (each (natural m) (λ j. element (natural n + j) v))))
-by_row (Reversed kind) q ts ths = types_2 ts (λ n a. thunks_1 ths (λ v. gives (each (natural n) (λ j. element (natural n - 1 - j) v))))
-by_row (Rotated kind) q ts ths = types_3 ts (λ n k a. thunks_1 ths (λ v. gives (each (natural n) (λ j. element ((j + natural k) % natural n) v))))
+by_row (Element kind) q ts ths = types_3 ts (λ i n a. thunks_1 ths (λ v. goes_to (element (closed_value i) v)))
+by_row ElementAt q ts ths = types_3 ts (λ n k a. thunks_2 ths (λ v i. at_index (closed_value n) (closed_value k) v i))
+by_row Replaced q ts ths = types_3 ts (λ n k a. thunks_3 ths (λ v i x. gives (each (closed_value n) (replaced (closed_value k) v i x))))
+by_row (Mapped kind) q ts ths = types_3 ts (λ n a b. thunks_2 ths (λ f v. gives (each (closed_value n) (λ j. applied f (element j v)))))
+by_row (Zipped kind) q ts ths = types_4 ts (λ n a b c. thunks_3 ths (λ f v w. gives (each (closed_value n) (λ j. applied (applied f (element j v)) (element j w)))))
+by_row (FoldedLeft kind) q ts ths = types_3 ts (λ n a b. thunks_3 ths (λ f z v. goes_to (folded_left zero (closed_value n) f z v)))
+by_row (FoldedRight kind) q ts ths = types_3 ts (λ n a b. thunks_3 ths (λ f z v. goes_to (folded_right zero (closed_value n) f z v)))
+by_row (Generated kind) q ts ths = types_3 ts (λ n k a. thunks_1 ths (λ f. gives (each (closed_value n) (λ j. applied f (known (word (bits_of (closed_value k) j)))))))
+by_row (Replicated kind) q ts ths = types_2 ts (λ n a. thunks_1 ths (λ x. gives (each (closed_value n) (λ j. x))))
+by_row (Appended kind) q ts ths = types_3 ts (λ n m a. thunks_2 ths (λ v w. gives (vec_of (joined (each_from zero (closed_value n) (λ j. element j v)) (each_from zero (closed_value m) (λ j. element j w))))))
+by_row (Concatenated kind) q ts ths = types_3 ts (λ n m a. thunks_1 ths (λ v. gives (vec_of (concatenated zero (closed_value n) (closed_value m) v))))
+by_row (Taken kind) q ts ths = types_3 ts (λ n m a. thunks_1 ths (λ v. gives (each (closed_value n) (λ j. element j v))))
+by_row (Dropped kind) q ts ths = types_3 ts (λ n m a. thunks_1 ths (λ v. gives (each (closed_value m) (λ j. element (closed_value n + j) v))))
+by_row (Reversed kind) q ts ths = types_2 ts (λ n a. thunks_1 ths (λ v. gives (each (closed_value n) (λ j. element (closed_value n - 1 - j) v))))
+by_row (Rotated kind) q ts ths = types_3 ts (λ n k a. thunks_1 ths (λ v. gives (each (closed_value n) (λ j. element ((j + closed_value k) % closed_value n) v))))
 by_row row q ts ths = on_words q (naturals ts) (argument_widths row (naturals ts)) ths
 
 -- a constructor or primitive on all its arguments

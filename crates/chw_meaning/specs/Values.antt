@@ -5,7 +5,7 @@ use Rattle.chw_types.specs.TypeTree.{TypeTree, nat_lit, TypeTrees, no_types, typ
 use Rattle.chw_types.specs.TypeMoves.{sub}
 use Rattle.chw_prims.specs.declared.prim.Primitive.{Primitive as Prim}
 use Rattle.chw_terms.specs.TermTree.{TermTree, Terms, no_terms, term_and, Group, no_bindings, bind}
-use Rattle.chw_meaning.specs.Datum.{Datum, word, built, elements, Datums, no_data, datum_and}
+use Rattle.chw_layout.specs.Datum.{Datum, word, built, elements, Datums, no_data, datum_and}
 
 -- the events so far, the present one first
 abbrev pub History : Type 0

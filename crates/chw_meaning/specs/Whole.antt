@@ -5,7 +5,7 @@ use Rattle.chw_bits.specs.Bits.{bits_of}
 use Rattle.chw_types.specs.TypeTree.{signal, fun}
 use Rattle.chw_types.specs.BuiltIn.{built_in}
 use Rattle.chw_terms.specs.declared.program.Program.{Program}
-use Rattle.chw_meaning.specs.Datum.{word}
+use Rattle.chw_layout.specs.Datum.{word}
 use Rattle.chw_meaning.specs.Values.{History}
 use Rattle.chw_meaning.specs.Eval.{dom}
 use Rattle.chw_meaning.specs.Means.{Fit, Means}

@@ -12,7 +12,7 @@ use Rattle.chw_terms.specs.declared.program.Program.{Program}
 use Rattle.chw_terms.specs.declared.program.Def.{Def}
 use Rattle.chw_terms.specs.declared.term.Pattern.TheVariants.{OfCon}
 use Rattle.chw_terms.specs.TermTree.{TermTree, var, app, prim, con, lit, letrec, bind, no_bindings, case_of, no_alts, alt}
-use Rattle.chw_meaning.specs.Datum.{Datum, word, built, no_data, datum_and}
+use Rattle.chw_layout.specs.Datum.{Datum, word, built, no_data, datum_and}
 use Rattle.chw_meaning.specs.Gives.{at_types}
 use Rattle.chw_meaning.specs.Values.{History, Value, bits, Thunk, closed, stream, none}
 use Rattle.chw_meaning.specs.Eval.{dom}

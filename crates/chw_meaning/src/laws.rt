@@ -1,6 +1,8 @@
 //! Laws of the meaning, each as the contract of a call that does nothing.
 ghost use Rattle.chw_meaning.specs.Laws.{MoreTurnsKeep, OneValue, OneForced, OneGiven, SamplesStay, DataStay, ComputedIsSo, ForcedIsSo, ShownIsSo, BetterReflexive, BetterTransitive, OneWidth, OneZero, ZeroBits, OneValueAtWidthZero};
 
+use chw_layout::laws::{encoding_injective, encoding_width, encodings};
+
 /// In one environment and at one history a term has at most one value, and has it in one number of turns; so has a thunk; and on the
 /// same inputs a term gives at most one data value at a leaf of its result.
 pub fn at_most_one_value()
@@ -39,4 +41,8 @@ pub fn widths()
     ensures zero { OneZero }
     ensures zeros { ZeroBits }
     ensures empty { OneValueAtWidthZero }
-{}
+{
+    encodings();
+    encoding_width();
+    encoding_injective();
+}
