@@ -1,0 +1,9 @@
+pub mod Declaring
+pub mod Earliest
+pub mod Spaces
+pub mod Steps
+pub mod TwiceTerms
+pub mod UnknownTerms
+pub mod UnknownTypes
+pub mod Walking
+pub mod Whole

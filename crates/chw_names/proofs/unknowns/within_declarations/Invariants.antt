@@ -1,0 +1,8 @@
+use Rattle.std.proofs.Common.{take}
+use Rattle.std.specs.List.{flat_map}
+use Rattle.chw_names.specs.Unknowns.{declaration_unknowns}
+use Rattle.chw_names.specs.Words.{Meets}
+use Rattle.chw_names.proofs.unknowns.within_declarations.Given as goal
+
+abbrev pub invariant-loop-declaration : goal.invariant-loop-declaration
+invariant-loop-declaration l = Meets l.initial.least l.least (flat_map (declaration_unknowns l.globals) (take l.declaration-index l.declarations))
