@@ -1,0 +1,5 @@
+pub mod Circuits
+pub mod Cycles
+pub mod Kinds
+pub mod Named
+pub mod Promises
