@@ -1,0 +1,10 @@
+pub mod Arguments
+pub mod Chains
+pub mod DeclarationMade
+pub mod Definitions
+pub mod Lists
+pub mod ProgramMade
+pub mod Ranges
+pub mod ScopesClosed
+pub mod TermMade
+pub mod TypeMade

@@ -1,0 +1,5 @@
+pub mod Literals
+pub mod Programs
+pub mod Terms
+pub mod Types
+pub mod Walks
