@@ -1,0 +1,12 @@
+pub mod Begins
+pub mod Carried
+pub mod Counts
+pub mod Distinct
+pub mod Empty
+pub mod Found
+pub mod Inhabited
+pub mod NoFault
+pub mod Places
+pub mod Shaped
+pub mod Tidied
+pub mod Told
