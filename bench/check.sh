@@ -1,7 +1,7 @@
 #!/usr/bin/env bash
 # Times `chw check` on descriptions of 64 KiB to just under 1 MiB, beside Python's parser on a text of as many bytes and the same shape.
 # Usage: bench/check.sh [definitions|arguments|brackets]
-#   definitions: many short definitions    arguments: applications of 150 arguments    brackets: 150 brackets, one in the other
+#   definitions: up to 4,000 definitions    arguments: applications of 150 arguments    brackets: 150 brackets, one in the other
 set -eu
 top=$(cd "$(dirname "$0")/.." && pwd)
 form=${1:-definitions}
@@ -17,13 +17,17 @@ import sys
 size, form, work = int(sys.argv[1]), sys.argv[2], sys.argv[3]
 def row(k):
     if form == "definitions":
-        return (f"def f{k} : forall (n : Nat) . Unsigned (n + 1) -> Bool = /\\(n : Nat) . \\(x : Unsigned (n + 1)) . case x of {{ 0u8 -> True; _ -> g @(n * 2) x y; }};\n",
-                f"f{k} = lambda n: lambda x: g(x, y, n * 2) if x == 0 else True if x == {k} else [n + 1, n + 2, n + 3, (n, x, y)]\n")
+        g = f"f{k - 1}" if k else "g"
+        return (f"def f{k} : forall (n : Nat) . Unsigned 8 -> Unsigned (n + 1) -> Bool = /\\(n : Nat) . \\(x : Unsigned 8) . \\(v : Unsigned (n + 1)) . case x of {{ 0u8 -> True; _ -> letrec {{ y : Bool = {g} @n x v; z : Bool = y; }} in case y of {{ False -> z; True -> {g} @n (addU @8 x 1u8) v; }}; }};\n",
+                f"f{k} = lambda n: lambda x: lambda v: {g}(n, x, v) if x == 0 else True if x == {k} else [n + 1, n + 2, n + 3, (n, x, v), {g}(n, x + 1, v), (n, x, v, n + 1), [n * 2, n * 3, x * 2, x * 3], {g}(n, x, v, 0), (v, x), lambda y, z: z if y else {g}(n, x, y)]\n")
     if form == "arguments":
-        return (f"def f{k} : Bool = f " + "x " * 150 + ";\n", f"f{k} = f(" + "x," * 150 + ")\n")
-    return (f"def f{k} : Bool = " + "(" * 150 + "x" + ")" * 150 + ";\n", f"f{k} = " + "(" * 150 + "x" + ")" * 150 + "\n")
-for name, which, end in (("a.chw", 0, "top main () (o);\n"), ("a.py", 1, "")):
-    out, n, k = [], len(end), 0
+        return (f"def f{k} : Bool = h " + "0u8 " * 150 + ";\n", f"f{k} = f(" + "100," * 150 + ")\n")
+    return (f"def f{k} : Bool = " + "(" * 150 + "True" + ")" * 150 + ";\n", f"f{k} = " + "(" * 150 + "x" + ")" * 150 + "\n")
+begin = ("domain Sys;\ndef g : forall (n : Nat) . Unsigned 8 -> Unsigned (n + 1) -> Bool = /\\(n : Nat) . \\(x : Unsigned 8) . \\(v : Unsigned (n + 1)) . True;\n"
+         "def h : " + "Unsigned 8 -> " * 150 + "Bool = " + "".join(f"\\(x{k} : Unsigned 8) . " for k in range(150)) + "True;\n"
+         "def main : Signal Sys (Unsigned 8) -> Signal Sys (Unsigned 8) = \\(x : Signal Sys (Unsigned 8)) . x;\n")
+for name, which, begin, end in (("a.chw", 0, begin, "top main (x) (o);\n"), ("a.py", 1, "", "")):
+    out, n, k = [begin], len(begin) + len(end), 0
     while True:
         line = row(k)[which]
         if n + len(line) > size: break

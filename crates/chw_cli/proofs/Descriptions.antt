@@ -24,6 +24,12 @@ NoLexFault = (text : List ℕ) (tokens : List Token) (at : ℕ) → Tokens text 
 abbrev pub OneTree : Type 0
 OneTree = (lexemes : List Lexeme) (a b : Tree) → Reads lexemes a → Reads lexemes b → a ≡ b
 
+-- a text is one description
+pub same_description : OneSplitting → OneTree → (text : List ℕ) (a b : Tree) → IsDescription text a → IsDescription text b → a ≡ b
+same_description once one text a b d e =
+    let same = once text d.tokens e.tokens d.split e.split in
+    one (lexemes_of text e.tokens) a b (subst (λ ts. Reads (lexemes_of text ts) a) same d.reads) e.reads
+
 -- tokens that are read have no wrong one
 not_wrong : (front rest : List Lexeme) (tree : Tree) → Reads (front ++ rest) tree → IsWrong front rest → ⊥
 not_wrong front [] tree r w = w tree (subst (λ ls. Reads ls tree) (append-nil front) r)

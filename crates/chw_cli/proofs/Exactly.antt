@@ -13,10 +13,10 @@ use Rattle.chw_base.specs.declared.sink.SinkFault.{SinkFault}
 use Rattle.chw_cli.specs.Answer.{Answer, CommandAnswer, EmitAnswer, HasFewWires, HasNoLoop, IsUnread, Source, TextAnswer, file_read}
 use Rattle.chw_cli.specs.Answer.Answer.{no_command, unread as not_read, long_text, text as of_text}
 use Rattle.chw_cli.specs.Answer.EmitAnswer.{form, too_large, loops, emitted}
-use Rattle.chw_cli.specs.Answer.TextAnswer.{no_description, description}
+use Rattle.chw_cli.specs.Answer.TextAnswer.{no_description, wrong_names, description}
 use Rattle.chw_cli.specs.Descriptions.{IsDescription, NoDescription}
 use Rattle.chw_cli.specs.Descriptions.NoDescription.{lex, syntax, depth}
-use Rattle.chw_cli.specs.Exact.{BreaksNothing, Ends, IsExact, IsUsed}
+use Rattle.chw_cli.specs.Exact.{BreaksNothing, SuitsCommand, Ends, IsExact, IsUsed}
 use Rattle.chw_cli.specs.Lines.{status_of}
 use Rattle.chw_cli.specs.Outcome.{AnswersBy, Outcome, Refuses, Told, stopped}
 use Rattle.chw_cli.specs.Outcome.Outcome.{answered, refused, unwritten}
@@ -28,6 +28,8 @@ use Rattle.chw_cli.specs.declared.status.Status.{Status}
 use Rattle.chw_cli.specs.declared.status.Status.TheVariants as status
 use Rattle.chw_cli.proofs.Asking.{AskSays, FetchSays}
 use Rattle.chw_grammar.specs.declared.program.Tree.{Tree}
+use Rattle.chw_resolve.specs.Faults.{IsNameFault, IsWellNamed}
+use Rattle.chw_resolve.specs.declared.fault.NameFault.{NameFault}
 use Rattle.chw_words.specs.Commands.{IsCommand, AreNoCommand}
 use Rattle.chw_words.specs.declared.command.Command.{Command}
 use Rattle.chw_words.specs.declared.command.Command.TheVariants.{Emit, Check}
@@ -46,8 +48,15 @@ OneFlatText = (text : List ℕ) (f g : FlatText) → IsFlatText text f → IsFla
 abbrev pub HasNoFault : Type 0
 HasNoFault = (text : List ℕ) (tree : Tree) (r : Refusal) → IsDescription text tree → NoDescription text r → ⊥
 
+-- a text has at most one description, and one whose names are as they should be has no fault of names
+abbrev pub OneDescription : Type 0
+OneDescription = (text : List ℕ) (a b : Tree) → IsDescription text a → IsDescription text b → a ≡ b
+
+abbrev pub HasNoNameFault : Type 0
+HasNoNameFault = (tree : Tree) (fault : NameFault) → IsWellNamed tree → IsNameFault tree fault → ⊥
+
 -- a description that breaks no restriction isn't refused
-flat_is_emitted : OneFlatText → (text : List ℕ) (r : Refusal) → BreaksNothing (Emit text 0) text → EmitAnswer text (Err r) → ⊥
+flat_is_emitted : OneFlatText → (text : List ℕ) (r : Refusal) → SuitsCommand (Emit text 0) text → EmitAnswer text (Err r) → ⊥
 flat_is_emitted one text r (f, is, few, no_loop) a = only refl a
   where
     only : {answer : Result (List ℕ) Refusal} → answer ≡ Err r → EmitAnswer text answer → ⊥
@@ -56,18 +65,20 @@ flat_is_emitted one text r (f, is, few, no_loop) a = only refl a
     only e (loops g cycle is' few' l) = no_loop cycle (subst (λ d. IsLoop (flat_of d) cycle) (one text g f is' is) l)
     only e (emitted g is' can) = absurd (cc)
 
-command_answers : OneFlatText → (command : Command) (text : List ℕ) (tree : Tree) (r : Refusal) → BreaksNothing command text
+command_answers : OneFlatText → (command : Command) (text : List ℕ) (tree : Tree) (r : Refusal) → SuitsCommand command text
     → CommandAnswer command text tree (Err r) → ⊥
 command_answers one (Emit file budget) text tree r b a = flat_is_emitted one text r b a
 command_answers one (Check file) text tree r b a = absurd (cc)
 
-text_answers : OneFlatText → HasNoFault → (command : Command) (text : List ℕ) (tree : Tree) (r : Refusal) → IsDescription text tree → BreaksNothing command text
+text_answers : OneFlatText → HasNoFault → OneDescription → HasNoNameFault → (command : Command) (text : List ℕ) (tree : Tree) (r : Refusal)
+    → IsDescription text tree → BreaksNothing command text tree
     → TextAnswer command text (Err r) → ⊥
-text_answers one sound command text tree r d b a = only refl a
+text_answers one sound same named command text tree r d b a = only refl a
   where
     only : {answer : Result (List ℕ) Refusal} → answer ≡ Err r → TextAnswer command text answer → ⊥
     only e (no_description q n) = sound text tree q d n
-    only e (description t answer d' c) = command_answers one command text t r b (subst (CommandAnswer command text t) e c)
+    only e (wrong_names t fault d' is) = named tree fault b.names (subst (λ (x : Tree). IsNameFault x fault) (same text t tree d' d) is)
+    only e (description t answer d' w c) = command_answers one command text t r b.suits (subst (CommandAnswer command text t) e c)
 
 -- the refusal of a text has one status
 fault_status : (text : List ℕ) (r : Refusal) → NoDescription text r → status_of r ≡ status.Refused
@@ -93,7 +104,8 @@ text_status command text r a = only refl a
   where
     only : {answer : Result (List ℕ) Refusal} → answer ≡ Err r → TextAnswer command text answer → status_of r ≡ status.Refused
     only e (no_description q n) = let is : q ≡ r = cc in subst (λ q. status_of q ≡ status.Refused) is (fault_status text q n)
-    only e (description t answer d c) = command_status command text t r (subst (CommandAnswer command text t) e c)
+    only e (wrong_names t fault d n) = let is : refusal.Names fault ≡ r = cc in sym (ap status_of is)
+    only e (description t answer d w c) = command_status command text t r (subst (CommandAnswer command text t) e c)
 
 module _ (told : Option Files) (words : List (List ℕ)) (ShelfRose : Type 0) where
   -- the file of the command is held, by what was read of it
@@ -158,7 +170,7 @@ module _ (told : Option Files) (words : List (List ℕ)) (ShelfRose OutRose OutS
       ended (Fault f) rose (inl e) = write bytes (cause_of (Ok bytes) a) rose e
       ended (Fault f) rose (inr e) = memory e
 
-module _ (told : Option Files) (words : List (List ℕ)) (ShelfRose OutRose : Type 0) (once : OneCommand) (one : OneFlatText) (sound : HasNoFault) (s : Status) where
+module _ (told : Option Files) (words : List (List ℕ)) (ShelfRose OutRose : Type 0) (once : OneCommand) (one : OneFlatText) (sound : HasNoFault) (same_trees : OneDescription) (named : HasNoNameFault) (s : Status) where
   -- an answer to words that are a command has a cause in its file
   words_wrong : Reason told words ShelfRose OutRose s → s ≡ status.Words → AreNoCommand words
   words_wrong (ok bytes c e) is = absurd (cc)
@@ -232,6 +244,7 @@ module _ (told : Option Files) (words : List (List ℕ)) (ShelfRose OutRose : Ty
   used_by (refusal.Lex at) = tt
   used_by (refusal.Syntax at) = tt
   used_by refusal.Depth = tt
+  used_by (refusal.Names fault) = tt
   used_by refusal.Form = tt
   used_by refusal.TooLarge = tt
   used_by (refusal.Loop cycle) = tt
@@ -246,7 +259,7 @@ module _ (told : Option Files) (words : List (List ℕ)) (ShelfRose OutRose : Ty
 
   complete : Reason told words ShelfRose OutRose s → (files : Files) (command : Command) (text : List ℕ) (tree : Tree) → told ≡ Some files
       → IsCommand words command → file_of files (file_read command) ≡ Some text → length text ≤ DESCRIPTION_BYTES → IsDescription text tree
-      → BreaksNothing command text → (ShelfRose → ⊥) → (OutRose → ⊥) → Ends status.Ok s
+      → BreaksNothing command text tree → (ShelfRose → ⊥) → (OutRose → ⊥) → Ends status.Ok s
   complete (ok bytes c e) files command text tree t is held le d b shelf out = inl e
   complete (refusal_ r (for_words h r_is) e) files command text tree t is held le d b shelf out = absurd (h command is)
   complete (refusal_ r (for_file other h (inl none) r_is) e) files command text tree t is held le d b shelf out =
@@ -260,7 +273,7 @@ module _ (told : Option Files) (words : List (List ℕ)) (ShelfRose OutRose : Ty
       let commands = once words command other is h in
       let same = ap (λ c. file_of files (file_read c)) commands in let some = held' files t in
       let texts : text' ≡ text = cc in
-      absurd (text_answers one sound command text tree r d b (subst (λ x. TextAnswer command x (Err r)) texts (subst (λ c. TextAnswer c text' (Err r)) (sym commands) a)))
+      absurd (text_answers one sound same_trees named command text tree r d b (subst (λ x. TextAnswer command x (Err r)) texts (subst (λ c. TextAnswer c text' (Err r)) (sym commands) a)))
   complete (write bytes c rose e) files command text tree t is held le d b shelf out = absurd (out rose)
   complete (memory e) files command text tree t is held le d b shelf out = inr e
 

@@ -6,12 +6,12 @@ use Rattle.chw_base.specs.declared.outcome.Or.TheVariants.{Memory, Fault}
 use Rattle.chw_cli.specs.Answer.{IsUnread, Source, TextAnswer, CommandAnswer, file_read}
 use Rattle.chw_cli.specs.Answer.Answer.{no_command, unread as not_read, text as of_text}
 use Rattle.chw_cli.specs.Answer.Source.{nothing, fetched}
-use Rattle.chw_cli.specs.Answer.TextAnswer.{no_description, description}
+use Rattle.chw_cli.specs.Answer.TextAnswer.{no_description, wrong_names, description}
 use Rattle.chw_cli.specs.Descriptions.{IsDescription, NoDescription}
 use Rattle.chw_cli.specs.Descriptions.NoDescription.{lex, syntax, depth}
 use Rattle.chw_cli.specs.Outcome.{AnswersBy, Refuses}
 use Rattle.chw_cli.specs.Outcome.Refuses.{for_memory, by_answer}
-use Rattle.chw_cli.specs.Refusals.{RefusesCommand, RefusesReading, RefusesText, of_lex_fault, of_parse_fault, of_words_fault}
+use Rattle.chw_cli.specs.Refusals.{RefusesCommand, RefusesReading, RefusesText, of_lex_fault, of_name_fault, of_parse_fault, of_words_fault}
 use Rattle.chw_cli.specs.declared.refusal.Refusal.{Refusal}
 use Rattle.chw_cli.specs.declared.refusal.Refusal.TheVariants as refusal
 use Rattle.chw_cli.specs.Unread.{IsTold}
@@ -26,6 +26,9 @@ use Rattle.chw_lexer.specs.declared.token.Token.{Token}
 use Rattle.chw_parser.specs.Faults.{IsFault}
 use Rattle.chw_parser.specs.declared.parsing.ParseFault.{ParseFault}
 use Rattle.chw_parser.specs.declared.parsing.ParseFault.TheVariants.{Syntax, Depth}
+use Rattle.chw_resolve.specs.Faults.{IsNameFault, IsWellNamed}
+use Rattle.chw_resolve.specs.Written.{WasRead}
+use Rattle.chw_resolve.specs.declared.fault.NameFault.{NameFault}
 use Rattle.chw_words.specs.Commands.{IsCommand, AreNoCommand}
 use Rattle.chw_words.specs.declared.command.Command.{Command}
 use Rattle.chw_words.specs.declared.command.WordsFault.{WordsFault}
@@ -45,20 +48,29 @@ pub reading_refuses : (command : Command) (text : List ℕ) (r : Refusal) → Re
 reading_refuses command text r (inl is) = inl is
 reading_refuses command text r (inr n) = inr (no_description r n)
 
-pub command_refuses : (command : Command) (text : List ℕ) (tree : Tree) (r : Refusal) → IsDescription text tree → RefusesCommand command text tree r
-    → RefusesText command text r
-command_refuses command text tree r d (inl is) = inl is
-command_refuses command text tree r d (inr a) = inr (description tree (Err r) d a)
+-- a description was read from its text
+pub was_read : (text : List ℕ) (tree : Tree) → IsDescription text tree → WasRead tree
+was_read text tree d = record { text = text; tokens = d.tokens; split = d.split; reads = d.reads }
 
-pub command_ok : (command : Command) (text : List ℕ) (tree : Tree) (r : Result (Vec ℕ Global) Refusal) → IsDescription text tree
+pub names_refuse : (command : Command) (text : List ℕ) (tree : Tree) (e : Or NameFault) → IsDescription text tree → OfFault e (IsNameFault tree)
+    → RefusesText command text (of_name_fault e)
+names_refuse command text tree Memory d h = inl refl
+names_refuse command text tree (Fault f) d h = inr (wrong_names tree f d h)
+
+pub command_refuses : (command : Command) (text : List ℕ) (tree : Tree) (r : Refusal) → IsDescription text tree → IsWellNamed tree
+    → RefusesCommand command text tree r → RefusesText command text r
+command_refuses command text tree r d w (inl is) = inl is
+command_refuses command text tree r d w (inr a) = inr (description tree (Err r) d w a)
+
+pub command_ok : (command : Command) (text : List ℕ) (tree : Tree) (r : Result (Vec ℕ Global) Refusal) → IsDescription text tree → IsWellNamed tree
     → IfOk r (λ v. CommandAnswer command text tree (Ok v.items)) → IfOk r (λ v. TextAnswer command text (Ok v.items))
-command_ok command text tree (Ok v) d a = description tree (Ok v.items) d a
-command_ok command text tree (Err e) d a = tt
+command_ok command text tree (Ok v) d w a = description tree (Ok v.items) d w a
+command_ok command text tree (Err e) d w a = tt
 
-pub command_err : (command : Command) (text : List ℕ) (tree : Tree) (r : Result (Vec ℕ Global) Refusal) → IsDescription text tree
+pub command_err : (command : Command) (text : List ℕ) (tree : Tree) (r : Result (Vec ℕ Global) Refusal) → IsDescription text tree → IsWellNamed tree
     → IfErr r (RefusesCommand command text tree) → IfErr r (RefusesText command text)
-command_err command text tree (Ok v) d a = tt
-command_err command text tree (Err e) d a = command_refuses command text tree e d a
+command_err command text tree (Ok v) d w a = tt
+command_err command text tree (Err e) d w a = command_refuses command text tree e d w a
 
 module _ (Asked : Source → Type 0) (words : List (List ℕ)) where
   -- memory, where this was asked

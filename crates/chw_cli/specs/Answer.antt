@@ -13,9 +13,11 @@ use Rattle.chw_clock.specs.Histories.{FitsPorts}
 use Rattle.chw_clock.specs.declared.event.Event.{Event}
 use Rattle.chw_cli.specs.Descriptions.{IsDescription, NoDescription}
 use Rattle.chw_cli.specs.declared.refusal.Refusal.{Refusal}
-use Rattle.chw_cli.specs.declared.refusal.Refusal.TheVariants.{Words, Read, LongText, Form, TooLarge, Loop}
+use Rattle.chw_cli.specs.declared.refusal.Refusal.TheVariants.{Words, Read, LongText, Names, Form, TooLarge, Loop}
 use Rattle.chw_grammar.specs.declared.program.Tree.{Tree}
 use Rattle.chw_grammar.specs.Text.{Text}
+use Rattle.chw_resolve.specs.Faults.{IsNameFault, IsWellNamed}
+use Rattle.chw_resolve.specs.declared.fault.NameFault.{NameFault}
 use Rattle.chw_words.specs.Commands.{IsCommand, AreNoCommand}
 use Rattle.chw_words.specs.declared.command.Command.{Command}
 use Rattle.chw_words.specs.declared.command.Command.TheVariants.{Emit, Check}
@@ -51,7 +53,7 @@ pub data EmitAnswer (text : List ℕ) : Result (List ℕ) Refusal → Type 0 whe
   loops : (f : FlatText) (cycle : List WireId) → IsFlatText text f → HasFewWires f → IsLoop (flat_of f) cycle → EmitAnswer text (Err (Loop cycle))
   emitted : (f : FlatText) → IsFlatText text f → CanBeEmitted f → EmitAnswer text (Ok (net_text (net_of f)))
 
--- the answer of a command to a description
+-- the answer of a command to a description whose names are as they should be
 abbrev pub CommandAnswer : Command → List ℕ → Tree → Result (List ℕ) Refusal → Type 0
 CommandAnswer (Emit file budget) text tree answer = EmitAnswer text answer
 CommandAnswer (Check file) text tree answer = answer ≡ Ok (Text tree)
@@ -59,7 +61,8 @@ CommandAnswer (Check file) text tree answer = answer ≡ Ok (Text tree)
 -- the answer of a command to a text within the limit
 pub data TextAnswer (command : Command) (text : List ℕ) : Result (List ℕ) Refusal → Type 0 where
   no_description : (r : Refusal) → NoDescription text r → TextAnswer command text (Err r)
-  description : (tree : Tree) (answer : Result (List ℕ) Refusal) → IsDescription text tree → CommandAnswer command text tree answer
+  wrong_names : (tree : Tree) (fault : NameFault) → IsDescription text tree → IsNameFault tree fault → TextAnswer command text (Err (Names fault))
+  description : (tree : Tree) (answer : Result (List ℕ) Refusal) → IsDescription text tree → IsWellNamed tree → CommandAnswer command text tree answer
       → TextAnswer command text answer
 
 -- the file that a command reads

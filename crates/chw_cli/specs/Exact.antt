@@ -7,6 +7,7 @@ use Rattle.chw_cli.specs.Descriptions.{IsDescription}
 use Rattle.chw_cli.specs.declared.status.Status.{Status}
 use Rattle.chw_cli.specs.declared.status.Status.TheVariants as status
 use Rattle.chw_grammar.specs.declared.program.Tree.{Tree}
+use Rattle.chw_resolve.specs.Faults.{IsWellNamed}
 use Rattle.chw_words.specs.Commands.{IsCommand, AreNoCommand}
 use Rattle.chw_words.specs.declared.command.Command.{Command}
 use Rattle.chw_words.specs.declared.command.Command.TheVariants.{Emit, Check}
@@ -24,10 +25,16 @@ IsUsed status.Stimulus = ⊥
 IsUsed status.Verilog = ⊥
 IsUsed _ = Unit {0}
 
--- the description breaks no restriction of the command: for `emit` it is flat, and its net has no more wires than the limit and no loop
-abbrev pub BreaksNothing : Command → List ℕ → Type 0
-BreaksNothing (Emit file budget) text = (f : FlatText) × IsFlatText text f × HasFewWires f × HasNoLoop f
-BreaksNothing (Check file) text = Unit {0}
+-- the description breaks no restriction of the command alone: for `emit` it is flat, and its net has no more wires than the limit and
+-- no loop
+abbrev pub SuitsCommand : Command → List ℕ → Type 0
+SuitsCommand (Emit file budget) text = (f : FlatText) × IsFlatText text f × HasFewWires f × HasNoLoop f
+SuitsCommand (Check file) text = Unit {0}
+
+-- the description breaks no restriction: its names are as they should be, and it breaks none of the command
+pub record BreaksNothing (command : Command) (text : List ℕ) (tree : Tree) : Type 0 where
+  pub names : IsWellNamed tree
+  pub suits : SuitsCommand command text
 
 -- by the files where they are told, the words, and whether the faults of the shelf and of `out` rose
 pub record IsExact (told : Option Files) (words : List (List ℕ)) (ShelfRose OutRose : Type 0) (s : Status) : Type 0 where
@@ -44,5 +51,5 @@ pub record IsExact (told : Option Files) (words : List (List ℕ)) (ShelfRose Ou
   pub used : IsUsed s
   -- a description that breaks no restriction is answered where no fault rose
   pub complete : (files : Files) (command : Command) (text : List ℕ) (tree : Tree) → told ≡ Some files → IsCommand words command
-      → file_of files (file_read command) ≡ Some text → length text ≤ DESCRIPTION_BYTES → IsDescription text tree → BreaksNothing command text
+      → file_of files (file_read command) ≡ Some text → length text ≤ DESCRIPTION_BYTES → IsDescription text tree → BreaksNothing command text tree
       → (ShelfRose → ⊥) → (OutRose → ⊥) → Ends status.Ok s

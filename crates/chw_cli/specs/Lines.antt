@@ -3,8 +3,11 @@ use Rattle.std.specs.Prelude.{ℕ, List, ◌++◌, codes, decimal}
 use Rattle.std.specs.List.{flat_map}
 use Rattle.chw_base.specs.declared.index.WireId.{WireId}
 use Rattle.chw_cli.specs.declared.refusal.Refusal.{Refusal}
-use Rattle.chw_cli.specs.declared.refusal.Refusal.TheVariants.{Words, Read, LongText, Lex, Syntax, Depth, Form, TooLarge, Loop, Write, Memory}
+use Rattle.chw_cli.specs.declared.refusal.Refusal.TheVariants.{Words, Read, LongText, Lex, Syntax, Depth, Names, Form, TooLarge, Loop, Write, Memory}
 use Rattle.chw_cli.specs.declared.status.Status.{Status}
+use Rattle.chw_limits.specs.Limits.{word_of}
+use Rattle.chw_resolve.specs.declared.fault.NameFault.{NameFault}
+use Rattle.chw_resolve.specs.declared.fault.NameFault.TheVariants.{Limit, Twice, Unknown, DataCycle, DefCycle}
 use Rattle.chw_cli.specs.declared.status.Status.TheVariants as status
 
 abbrev pub code_of : Status → ℕ
@@ -25,6 +28,7 @@ status_of LongText = status.Refused
 status_of (Lex at) = status.Refused
 status_of (Syntax at) = status.Refused
 status_of Depth = status.Refused
+status_of (Names fault) = status.Refused
 status_of Form = status.Refused
 status_of TooLarge = status.Refused
 status_of (Loop cycle) = status.Refused
@@ -35,6 +39,26 @@ status_of Memory = status.Memory
 abbrev pub wire_texts : List WireId → List ℕ
 wire_texts wires = flat_map (λ (w : WireId). codes " " ++ decimal w.number) wires
 
+-- names, each after a space
+abbrev pub name_texts : List (List ℕ) → List ℕ
+name_texts names = flat_map (λ (name : List ℕ). codes " " ++ name) names
+
+-- words, a name, the place of its word, and a line feed
+abbrev pub name_line : List ℕ → List ℕ → ℕ → List ℕ
+name_line words name at = words ++ name ++ codes " at " ++ decimal at ++ codes "\n"
+
+-- words, and all names of a circle
+abbrev pub circle_line : List ℕ → List (List ℕ) → List ℕ
+circle_line words names = words ++ name_texts names ++ codes "\n"
+
+-- the line of a fault of names
+abbrev pub fault_line : NameFault → List ℕ
+fault_line (Limit l) = codes "chw: E03 limit " ++ word_of l.which ++ codes " " ++ decimal l.number ++ codes "\n"
+fault_line (Twice name at) = name_line (codes "chw: E04 duplicate ") name at
+fault_line (Unknown name at) = name_line (codes "chw: E05 unknown ") name at
+fault_line (DataCycle names) = circle_line (codes "chw: E07 data cycle") names
+fault_line (DefCycle names) = circle_line (codes "chw: E10 cycle") names
+
 -- the one line that a refusal is told by
 abbrev pub line_of : Refusal → List ℕ
 line_of Words = codes "chw: words\n"
@@ -43,6 +67,7 @@ line_of LongText = codes "chw: E03 limit text 1048576\n"
 line_of (Lex at) = codes "chw: E01 lex at " ++ decimal at ++ codes "\n"
 line_of (Syntax at) = codes "chw: E02 syntax at " ++ decimal at ++ codes "\n"
 line_of Depth = codes "chw: E03 limit depth 200\n"
+line_of (Names fault) = fault_line fault
 line_of Form = codes "chw: E20 form at 0\n"
 line_of TooLarge = codes "chw: E17 size wires 200000\n"
 line_of (Loop cycle) = codes "chw: E16 loop" ++ wire_texts cycle ++ codes "\n"

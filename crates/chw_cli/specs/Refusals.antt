@@ -12,6 +12,7 @@ use Rattle.chw_grammar.specs.declared.program.Tree.{Tree}
 use Rattle.chw_lexer.specs.declared.token.LexFault.{LexFault}
 use Rattle.chw_parser.specs.declared.parsing.ParseFault.{ParseFault}
 use Rattle.chw_parser.specs.declared.parsing.ParseFault.TheVariants.{Syntax, Depth}
+use Rattle.chw_resolve.specs.declared.fault.NameFault.{NameFault}
 use Rattle.chw_words.specs.declared.command.Command.{Command}
 use Rattle.chw_words.specs.declared.command.WordsFault.{WordsFault}
 use Rattle.flat_form.specs.declared.flat.FlatText.{FlatText}
@@ -33,6 +34,10 @@ abbrev pub of_parse_fault : Or ParseFault → Refusal
 of_parse_fault Memory = refusal.Memory
 of_parse_fault (Fault (Syntax at)) = refusal.Syntax at
 of_parse_fault (Fault (Depth at)) = refusal.Depth
+
+abbrev pub of_name_fault : Or NameFault → Refusal
+of_name_fault Memory = refusal.Memory
+of_name_fault (Fault f) = refusal.Names f
 
 abbrev pub of_not_flat : Or NotFlat → Refusal
 of_not_flat Memory = refusal.Memory

@@ -12,6 +12,7 @@ use crate::fetch::description;
 use crate::refusal::Refusal;
 use chw_base::{Name, Shelf};
 use chw_grammar::Tree;
+use chw_resolve::resolve;
 use chw_text::print;
 use chw_words::{Command, read_words};
 use std::alloc::Global;
@@ -37,6 +38,7 @@ fn text_answer(alloc: Global, command: &Command, text: &[u8]) -> Result<Vec<u8>,
     ensures refuses { IfErr result (RefusesText command.now text.now) }
 {
     let tree = described(alloc, text)?;
+    resolve(alloc, &tree)?;
     command_answer(alloc, command, text, &tree)
 }
 

@@ -6,6 +6,7 @@ mod deliver;
 mod describe;
 mod emit;
 mod fetch;
+mod lines;
 pub mod refusal;
 pub mod status;
 mod tell;

@@ -1,11 +1,12 @@
 //! Why the program gave no answer.
 ghost use Rattle.std.specs.Prelude.{◌≡◌};
-ghost use Rattle.chw_cli.specs.Refusals.{of_lex_fault, of_loop, of_not_flat, of_parse_fault, of_too_large, of_words_fault};
+ghost use Rattle.chw_cli.specs.Refusals.{of_lex_fault, of_loop, of_name_fault, of_not_flat, of_parse_fault, of_too_large, of_words_fault};
 ghost use Rattle.chw_cli.specs.declared.refusal.Refusal.TheVariants.{Memory};
 
 use chw_base::{Name, NoMemory, Or, Seq, WireId};
 use chw_lexer::LexFault;
 use chw_parser::ParseFault;
+use chw_resolve::NameFault;
 use chw_words::WordsFault;
 use flat_form::NotFlat;
 use netlist::{Loop, TooLarge};
@@ -25,6 +26,8 @@ pub enum Refusal {
     Syntax(u32),
     /// More than 200 brackets are open, or the description is nested more deeply than that.
     Depth,
+    /// A limit on the description is passed, or a name or a reference in it is at fault.
+    Names(NameFault),
     /// The text isn't of the flat form.
     Form,
     /// The net has more flat wires than the limit.
@@ -75,6 +78,17 @@ impl From<Or<ParseFault>> for Refusal {
             Or::Memory => Refusal::Memory,
             Or::Fault(ParseFault::Syntax { at }) => Refusal::Syntax(at),
             Or::Fault(ParseFault::Depth { .. }) => Refusal::Depth,
+        }
+    }
+}
+
+impl From<Or<NameFault>> for Refusal {
+    ghost from_gives = { λ e r. r ≡ of_name_fault e };
+
+    fn from(error: Or<NameFault>) -> Refusal {
+        match error {
+            Or::Memory => Refusal::Memory,
+            Or::Fault(fault) => Refusal::Names(fault),
         }
     }
 }

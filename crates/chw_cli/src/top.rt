@@ -14,6 +14,7 @@ use crate::tell::tell;
 use chw_base::{Name, Or, Shelf, Sink};
 use chw_lexer::laws::{no_fault, one_splitting};
 use chw_parser::laws::one_tree;
+use chw_resolve::laws::well_named_has_no_fault;
 use chw_words::laws::words_are_one_command;
 use flat_form::one_description;
 use std::alloc::Global;
@@ -42,6 +43,7 @@ pub fn top<F: Shelf, K: Sink, E: Sink>(
     no_fault();
     one_splitting();
     one_tree();
+    well_named_has_no_fault();
     match answer(alloc, words, shelf) {
         Ok(bytes) => match deliver(alloc, bytes.as_slice(), out) {
             Ok(()) => Status::Ok,

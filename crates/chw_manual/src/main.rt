@@ -6,13 +6,23 @@ use chw_cli::top::top;
 use std::io;
 
 /// The commands of the manual, with their files.
-const ROWS: [[&str; 2]; 10] = [
+const ROWS: [[&str; 2]; 20] = [
     ["check", "bad/lex.chw"],
     ["check", "good/lex.chw"],
     ["check", "bad/syntax.chw"],
     ["check", "good/syntax.chw"],
     ["check", "bad/depth.chw"],
     ["check", "good/depth.chw"],
+    ["check", "bad/number.chw"],
+    ["check", "good/number.chw"],
+    ["check", "bad/duplicate.chw"],
+    ["check", "good/duplicate.chw"],
+    ["check", "bad/unknown.chw"],
+    ["check", "good/unknown.chw"],
+    ["check", "bad/data_cycle.chw"],
+    ["check", "good/data_cycle.chw"],
+    ["check", "bad/cycle.chw"],
+    ["check", "good/cycle.chw"],
     ["emit", "bad/form.chw"],
     ["emit", "good/form.chw"],
     ["emit", "bad/loop.chw"],

@@ -15,16 +15,16 @@ fn canonical_texts(rt: HostRuntime) -> Result<(), Fail> {
             "domain Sys ;\ndef main : Signal Sys ( Unsigned 8 ) -> Signal Sys ( Unsigned 8 ) = \\ ( x : Signal Sys ( Unsigned 8 ) ) . x ;\ntop main ( x ) ( o ) ;\n",
         ),
         (
-            "data T(a:Val)(n:Nat)=A(Vec n a)|B;def f:(forall(a:Val).a->a)->((Bool))=/\\(a:Val).letrec{x:a=(g(h y)@(Vec 2 a)z);}in case(x)of{A p q->((x));-1s4->vec@a[x,(y z)];_->k (\\(v:a).v);};top f(a,b)(c);",
-            "data T ( a : Val ) ( n : Nat ) = A ( Vec n a ) | B ;\ndef f : ( forall ( a : Val ) . a -> a ) -> Bool = /\\ ( a : Val ) . letrec { x : a = g ( h y ) @ ( Vec 2 a ) z ; } in case x of { A p q -> x ; -1s4 -> vec @ a [ x , y z ] ; _ -> k ( \\ ( v : a ) . v ) ; } ;\ntop f ( a , b ) ( c ) ;\n",
+            "data T(a:Val)(n:Nat)=A(Vec n a)|B;def g:Bool=True;def f:(forall(a:Val).a->a)->((Bool))=/\\(a:Val).letrec{x:a=(g(g x)@(Vec 2 a)x);}in case(x)of{A p q->((x));-1s4->vec@a[x,(g x)];_->g (\\(v:a).v);};top f(a,b)(c);",
+            "data T ( a : Val ) ( n : Nat ) = A ( Vec n a ) | B ;\ndef g : Bool = True ;\ndef f : ( forall ( a : Val ) . a -> a ) -> Bool = /\\ ( a : Val ) . letrec { x : a = g ( g x ) @ ( Vec 2 a ) x ; } in case x of { A p q -> x ; -1s4 -> vec @ a [ x , g x ] ; _ -> g ( \\ ( v : a ) . v ) ; } ;\ntop f ( a , b ) ( c ) ;\n",
         ),
         (
-            "def f : (a -> b) -> c -> (d -> e) = x; -- to the right\ntop f () (o);",
-            "def f : ( a -> b ) -> c -> d -> e = x ;\ntop f ( ) ( o ) ;\n",
+            "def f : forall (a : Val) . (a -> a) -> a -> (a -> a) = True; -- to the right\ntop f () (o);",
+            "def f : forall ( a : Val ) . ( a -> a ) -> a -> a -> a = True ;\ntop f ( ) ( o ) ;\n",
         ),
         (
-            "def f : Unsigned ((a + b) * c + d * (e * g) + (h + 1)) = x; top f () (o);",
-            "def f : Unsigned ( ( a + b ) * c + d * ( e * g ) + ( h + 1 ) ) = x ;\ntop f ( ) ( o ) ;\n",
+            "def f : forall (a : Nat) . Unsigned ((a + a) * a + a * (a * a) + (a + 1)) = True; top f () (o);",
+            "def f : forall ( a : Nat ) . Unsigned ( ( a + a ) * a + a * ( a * a ) + ( a + 1 ) ) = True ;\ntop f ( ) ( o ) ;\n",
         ),
     ];
     for (text, canonical) in rows {
@@ -59,14 +59,14 @@ fn texts_that_are_no_description(rt: HostRuntime) -> Result<(), Fail> {
     Ok(())
 }
 
-/// A definition whose body is a name between so many opening brackets and, if it is closed, as many closing ones.
+/// A definition whose body is a constructor between so many opening brackets and, if it is closed, as many closing ones.
 fn brackets(rt: &HostRuntime, count: usize, closed: bool) -> Result<Vec<u8>, Fail> {
     let mut text = b"def main : Bool = ".to_vec(rt.alloc())?;
     for _ in 0..count {
         text.push(b'(')?;
     }
     if closed {
-        text.push(b'x')?;
+        text.extend_from_slice(b"True")?;
         for _ in 0..count {
             text.push(b')')?;
         }
@@ -83,7 +83,7 @@ fn nesting_is_limited(rt: HostRuntime) -> Result<(), Fail> {
         &rt,
         &ran,
         Status::Ok,
-        "def main : Bool = x ;\ntop main ( ) ( o ) ;\n",
+        "def main : Bool = True ;\ntop main ( ) ( o ) ;\n",
         "",
     );
     for text in [brackets(&rt, 201, true)?, brackets(&rt, 250, false)?] {
@@ -97,7 +97,7 @@ fn nesting_is_limited(rt: HostRuntime) -> Result<(), Fail> {
 fn lambdas(rt: &HostRuntime, count: usize) -> Result<Vec<u8>, Fail> {
     let mut text = b"def main : Bool = ".to_vec(rt.alloc())?;
     for _ in 0..count {
-        text.extend_from_slice(b"\\(x:A).")?;
+        text.extend_from_slice(b"\\(x:Bool).")?;
     }
     text.extend_from_slice(b"x; top main () (o);")?;
     Ok(text)

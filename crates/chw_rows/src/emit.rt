@@ -37,6 +37,8 @@ fn texts_that_are_refused(rt: HostRuntime) -> Result<(), Fail> {
         // no description, which comes before the flat form
         ("", "chw: E02 syntax at 0\n"),
         ("domain Sys; #", "chw: E01 lex at 12\n"),
+        // a fault of names, which comes before the flat form
+        ("domain Sys; top f () (o);", "chw: E05 unknown f at 16\n"),
         // a description that isn't flat
         (
             "domain Sys; def main : Bool = True; top main () (o);",

@@ -6,4 +6,6 @@ mod check;
 #[cfg(test)]
 mod emit;
 #[cfg(test)]
+mod names;
+#[cfg(test)]
 mod row;

@@ -1,0 +1,62 @@
+//! The lines of faults of names and references.
+ghost use Rattle.std.specs.Prelude.{◌≡◌, ◌++◌, IfOk};
+ghost use Rattle.chw_cli.specs.Lines.{circle_line, fault_line, name_line};
+ghost use Rattle.chw_resolve.specs.declared.fault.NameFault.TheVariants as fault;
+
+use chw_base::{Name, NoMemory, Seq};
+use chw_limits::Limit;
+use chw_resolve::NameFault;
+use itoa::Buffer;
+use std::alloc::Global;
+
+/// The line of a fault of names or references.
+pub(crate) fn fault_line(alloc: Global, fault: &NameFault) -> Result<Vec<u8>, NoMemory>
+    ensures { IfOk result (λ line. line.items ≡ fault_line fault.now) }
+{
+    match fault {
+        NameFault::Limit(limit) => limit_line(alloc, limit),
+        NameFault::Twice { name, at } => name_line(alloc, "chw: E04 duplicate ", name, *at),
+        NameFault::Unknown { name, at } => name_line(alloc, "chw: E05 unknown ", name, *at),
+        NameFault::DataCycle(names) => circle_line(alloc, "chw: E07 data cycle", names),
+        NameFault::DefCycle(names) => circle_line(alloc, "chw: E10 cycle", names),
+    }
+}
+
+/// The line of a limit that is passed.
+fn limit_line(alloc: Global, limit: &Limit) -> Result<Vec<u8>, NoMemory>
+    ensures { IfOk result (λ line. line.items ≡ fault_line (fault.Limit limit.now)) }
+{
+    let mut buffer = Buffer::new();
+    let mut line = Vec::from_slice(alloc, "chw: E03 limit ".as_bytes())?;
+    line.extend_from_slice(limit.which.word().as_bytes())?;
+    line.push(b' ')?;
+    line.extend_from_slice(buffer.format(limit.number).as_bytes())?;
+    line.push(b'\n')?;
+    Ok(line)
+}
+
+/// The line of a name and the place of its word: these words, the name, the place, and a line feed.
+fn name_line(alloc: Global, text: &str, name: &Name, at: u32) -> Result<Vec<u8>, NoMemory>
+    ensures { IfOk result (λ line. line.items ≡ name_line text.now name.now at) }
+{
+    let mut buffer = Buffer::new();
+    let mut line = Vec::from_slice(alloc, text.as_bytes())?;
+    line.extend_from_slice(name.as_slice())?;
+    line.extend_from_slice(" at ".as_bytes())?;
+    line.extend_from_slice(buffer.format(at).as_bytes())?;
+    line.push(b'\n')?;
+    Ok(line)
+}
+
+/// The line of a circle: these words, all of its names, and a line feed.
+fn circle_line(alloc: Global, text: &str, names: &Seq<Name>) -> Result<Vec<u8>, NoMemory>
+    ensures { IfOk result (λ line. line.items ≡ circle_line text.now names.now) }
+{
+    let mut line = Vec::from_slice(alloc, text.as_bytes())?;
+    for name in names.as_slice() {
+        line.push(b' ')?;
+        line.extend_from_slice(name.as_slice())?;
+    }
+    line.push(b'\n')?;
+    Ok(line)
+}
