@@ -1,0 +1,163 @@
+-- What applications have a type.
+use Rattle.std.proofs.Common.{◌≡◌, true, false, Option, refl, sym, ap, ◌∙◌, subst, List, [], ◌∷◌}
+use Rattle.std.specs.Prelude.{Some, None, MatchOption}
+use Rattle.std.proofs.lemmas.Bool.{false≢true}
+use Rattle.std.proofs.lemmas.Option.{none-some, same_Some}
+use Rattle.chw_types.specs.declared.kind.Kind.{Kind}
+use Rattle.chw_types.specs.declared.kind.Kind.TheVariants.{Nat, Dom, Val, Cir}
+use Rattle.chw_types.specs.TypeTree.{TypeTree, ty_var, nat_lit, nat_sum, nat_product, domain, scalar, vector, data_of, fun, signal, for_all}
+use Rattle.chw_types.specs.TypeMoves.{put}
+use Rattle.chw_types.specs.SameFound.{same_kind}
+use Rattle.chw_types.specs.SameTypes.{SameTypes}
+use Rattle.chw_types.proofs.KindsFound.{one_kind}
+use Rattle.chw_types.proofs.SameLaws.{same_self, same_turned, same_through}
+use Rattle.type_laws.proofs.SameForms.{as_function, as_bound}
+use Rattle.chw_terms.specs.TermTree.{TermTree, app, ty_app}
+use Rattle.chw_terms.specs.TermView.{applied}
+use Rattle.chw_terms.specs.declared.term.Arg.{Arg}
+use Rattle.chw_terms.specs.declared.term.Arg.TheVariants.{OfTerm, OfType}
+use Rattle.chw_typing.specs.Scopes.{Setting, HasKind}
+use Rattle.chw_typing.specs.Typing.{HasType, h_app, h_ty_app}
+use Rattle.chw_typing.proofs.Kinded.{function_parts, bound_part}
+use Rattle.chw_typing.proofs.OneType.{put_same_of_kinds}
+use Rattle.chw_typing.proofs.Patterns.{are_of_terms}
+use Rattle.term_types.specs.Answers.{HasNoType, IsTyped, IsReady}
+use Rattle.term_types.specs.Kinding.{LacksKind, LacksKindUpTo}
+use Rattle.term_types.specs.Forms.{Takes, TakesNot, TakesType, TakesTypeNot, function_parts as parts_of_function, bound_parts as parts_of_bound}
+use Rattle.term_types.specs.declared.found.Found.{Found}
+use Rattle.term_types.proofs.Ready.{one, kinded}
+
+pub function_is : (t a b : TypeTree) → Some (a, b) ≡ parts_of_function t → t ≡ fun a b
+function_is (fun c d) a b e = let p = same_Some (a, b) (c, d) e in λ i. fun (sym p i).0 (sym p i).1
+function_is (ty_var x) a b e = absurd (cc)
+function_is (nat_lit n) a b e = absurd (cc)
+function_is (nat_sum c d) a b e = absurd (cc)
+function_is (nat_product c d) a b e = absurd (cc)
+function_is (domain d) a b e = absurd (cc)
+function_is (scalar s w) a b e = absurd (cc)
+function_is (vector n t) a b e = absurd (cc)
+function_is (data_of d ts) a b e = absurd (cc)
+function_is (signal d t) a b e = absurd (cc)
+function_is (for_all k t) a b e = absurd (cc)
+
+pub no_function : (t a b : TypeTree) → None ≡ parts_of_function t → t ≡ fun a b → ⊥
+no_function t a b n e = none-some (a, b) (n ∙ ap parts_of_function e)
+
+pub bound_is : (t of : TypeTree) (k : Kind) → Some (k, of) ≡ parts_of_bound t → t ≡ for_all k of
+bound_is (for_all j t) of k e = let p = same_Some (k, of) (j, t) e in λ i. for_all (sym p i).0 (sym p i).1
+bound_is (ty_var x) of k e = absurd (cc)
+bound_is (nat_lit n) of k e = absurd (cc)
+bound_is (nat_sum c d) of k e = absurd (cc)
+bound_is (nat_product c d) of k e = absurd (cc)
+bound_is (domain d) of k e = absurd (cc)
+bound_is (scalar s w) of k e = absurd (cc)
+bound_is (vector n t) of k e = absurd (cc)
+bound_is (data_of d ts) of k e = absurd (cc)
+bound_is (fun c d) of k e = absurd (cc)
+bound_is (signal d t) of k e = absurd (cc)
+
+pub no_bound : (t of : TypeTree) (k : Kind) → None ≡ parts_of_bound t → t ≡ for_all k of → ⊥
+no_bound t of k n e = none-some (k, of) (n ∙ ap parts_of_bound e)
+
+pub record AppParts (s : Setting) (kinds : List Kind) (vars : List TypeTree) (f e : TermTree) (b : TypeTree) : Type 0 where
+  pub from : TypeTree
+  pub arg : TypeTree
+  pub head : HasType s kinds vars f (fun from b)
+  pub typed : HasType s kinds vars e arg
+  pub same : SameTypes from arg
+
+app_parts : {s : Setting} {kinds : List Kind} {vars : List TypeTree} {f e : TermTree} {b : TypeTree} → HasType s kinds vars (app f e) b → AppParts s kinds vars f e b
+app_parts (h_app {a = a} {c = c} d e x) = record { from = a; arg = c; head = d; typed = e; same = x }
+
+pub record TyAppParts (s : Setting) (kinds : List Kind) (vars : List TypeTree) (f : TermTree) (a u : TypeTree) : Type 0 where
+  pub j : Kind
+  pub k : Kind
+  pub of : TypeTree
+  pub head : HasType s kinds vars f (for_all j of)
+  pub kind : HasKind s kinds a j
+  pub same : SameTypes (put of 0 a) u
+  pub kinded : HasKind s kinds u k
+
+ty_app_parts : {s : Setting} {kinds : List Kind} {vars : List TypeTree} {f : TermTree} {a u : TypeTree} → HasType s kinds vars (ty_app f a) u → TyAppParts s kinds vars f a u
+ty_app_parts (h_ty_app {j = j} {k = k} {t = t} d l x m) = record { j = j; k = k; of = t; head = d; kind = l; same = x; kinded = m }
+
+-- where a head has no type, neither has it with arguments
+pub applied_none : {s : Setting} {kinds : List Kind} {vars : List TypeTree} (e : TermTree) (args : List Arg) → HasNoType s kinds vars e → HasNoType s kinds vars (applied e args)
+applied_none e [] h = h
+applied_none e (OfTerm a ∷ args) h = applied_none (app e a) args (λ t d. h _ (app_parts d).head)
+applied_none e (OfType a ∷ args) h = applied_none (ty_app e a) args (λ t d. h _ (ty_app_parts d).head)
+
+pub app_typed : {s : Setting} {kinds : List Kind} {vars : List TypeTree} {f e : TermTree} (fun_found : Found) (c : TypeTree) (r : Found) → IsTyped s kinds vars f fun_found → HasType s kinds vars e c → Takes fun_found c r → IsTyped s kinds vars (app f e) r
+app_typed {s} {kinds} {vars} {f} g c r d a t = (
+  h_app (subst (HasType s kinds vars f) t.is d.0) a t.same,
+  let parts = function_parts (subst (λ w. HasKind s kinds w g.kind) t.is d.1) in subst (HasKind s kinds r.ty) (sym t.kind) parts.2,
+)
+
+pub app_untyped : {s : Setting} {kinds : List Kind} {vars : List TypeTree} {f e : TermTree} (g : Found) (c : TypeTree) → IsReady s kinds vars → IsTyped s kinds vars f g → HasType s kinds vars e c → TakesNot g.ty c → HasNoType s kinds vars (app f e)
+app_untyped g c h d a never t other =
+    let parts = app_parts other in
+    let at = as_function (one h parts.head d.0) in
+    never at.0 at.1 at.2 (same_through (same_turned at.3) (same_through parts.same (one h parts.typed a)))
+
+pub app_argument_untyped : {s : Setting} {kinds : List Kind} {vars : List TypeTree} {f e : TermTree} → HasNoType s kinds vars e → HasNoType s kinds vars (app f e)
+app_argument_untyped never t d = let parts = app_parts d in never parts.arg parts.typed
+
+pub ty_app_typed : {s : Setting} {kinds : List Kind} {vars : List TypeTree} {f : TermTree} (g : Found) (a : TypeTree) (r : Found) → IsTyped s kinds vars f g → TakesType s kinds g.ty a r → IsTyped s kinds vars (ty_app f a) r
+ty_app_typed {s} {kinds} {vars} {f} g a r d t = (h_ty_app (subst (HasType s kinds vars f) t.is d.0) t.kind t.same t.kinded, t.kinded)
+
+pub ty_app_untyped : {s : Setting} {kinds : List Kind} {vars : List TypeTree} {f : TermTree} (g : Found) (a : TypeTree) → IsReady s kinds vars → IsTyped s kinds vars f g → TakesTypeNot s kinds g.ty a → HasNoType s kinds vars (ty_app f a)
+ty_app_untyped {s} {kinds} g a h d never u other =
+    let parts = ty_app_parts other in
+    let at = as_bound (one h parts.head d.0) in
+    let left = bound_part (subst (λ w. HasKind s kinds w g.kind) at.1 d.1) in
+    let right = bound_part (kinded h parts.head).has in
+    let of = are_of_terms s h.0 in
+    never parts.j parts.k at.0 u of at.1 parts.kind (same_through (put_same_of_kinds parts.j of left.0 right.0 parts.kind (same_turned at.2) (same_self a)) parts.same) parts.kinded
+
+-- an argument of another type than the parameter's
+pub takes_not : (t arg from to : TypeTree) → t ≡ fun from to → (SameTypes from arg → ⊥) → TakesNot t arg
+takes_not t arg from to is never a b e h =
+    let both : fun a b ≡ fun from to = sym e ∙ is in
+    let same : a ≡ from = cc in
+    never (subst (λ x. SameTypes x arg) same h)
+
+kinds_are : (j k : Kind) → same_kind j k ≡ true → j ≡ k
+kinds_are Nat Nat e = refl
+kinds_are Dom Dom e = refl
+kinds_are Val Val e = refl
+kinds_are Cir Cir e = refl
+kinds_are _ _ e = absurd (cc)
+
+kind_itself : (k : Kind) → same_kind k k ≡ true
+kind_itself Nat = refl
+kind_itself Dom = refl
+kind_itself Val = refl
+kind_itself Cir = refl
+
+kinds_differ : (j k : Kind) → same_kind j k ≡ false → j ≡ k → ⊥
+kinds_differ j k e is = false≢true (sym e ∙ ap (same_kind j) (sym is) ∙ kind_itself j)
+
+-- a type argument without a kind
+pub type_unkinded : (s : Setting) (kinds : List Kind) (t arg : TypeTree) → LacksKind s kinds arg → TakesTypeNot s kinds t arg
+type_unkinded s kinds t arg never j k of u h is d same e = never j d
+
+-- a type argument of another kind
+pub type_of_other : (s : Setting) (kinds : List Kind) (t arg of : TypeTree) (j k : Kind) → t ≡ for_all k of → HasKind s kinds arg j → same_kind j k ≡ false → TakesTypeNot s kinds t arg
+type_of_other s kinds t arg of j k is d differ i m of' u h is' d' same e =
+    let both : for_all i of' ≡ for_all k of = sym is' ∙ is in
+    let asked : i ≡ k = cc in
+    kinds_differ j k differ (one_kind d d' ∙ asked)
+
+pub type_told : (s : Setting) (kinds : List Kind) (t arg of put_in : TypeTree) (j k : Kind) (r : Option Found) → t ≡ for_all k of → HasKind s kinds arg j → same_kind j k ≡ true → put_in ≡ put of 0 arg → MatchOption r (LacksKindUpTo s kinds put_in) (λ f. SameTypes put_in f.ty × HasKind s kinds f.ty f.kind) → MatchOption r (TakesTypeNot s kinds t arg) (λ f. TakesType s kinds t arg f)
+type_told s kinds t arg of put_in j k (Some f) is d same e h = record {
+  j = k;
+  of = of;
+  is = is;
+  kind = subst (HasKind s kinds arg) (kinds_are j k same) d;
+  same = subst (λ x. SameTypes x f.ty) e h.0;
+  kinded = h.1;
+}
+type_told s kinds t arg of put_in j k None is d same e never = λ i m of' u h is' d' same' l.
+    let both : for_all i of' ≡ for_all k of = sym is' ∙ is in
+    let bodies : of' ≡ of = cc in
+    never u m h (subst (λ x. SameTypes x u) (ap (λ x. put x 0 arg) bodies ∙ sym e) same') l

@@ -1,0 +1,39 @@
+-- What patterns bind.
+use Rattle.std.specs.Prelude.{◌≡◌, ℕ, ◌≤◌, Bool, true, false, List, [], ◌∷◌, length, Some}
+use Rattle.std.specs.List.{slice_get}
+use Rattle.chw_types.specs.declared.kind.Kind.{Kind}
+use Rattle.chw_types.specs.declared.kind.Scalar.{Scalar}
+use Rattle.chw_types.specs.TypeTree.{TypeTree, scalar, data_of}
+use Rattle.chw_types.specs.TypeView.{trees_of}
+use Rattle.chw_types.specs.TypeMoves.{sub}
+use Rattle.chw_types.specs.Arguments.{arguments}
+use Rattle.chw_types.specs.SameTypes.{SameTypes}
+use Rattle.chw_terms.specs.declared.term.Pattern.{Pattern}
+use Rattle.chw_typing.specs.Scopes.{Setting, HasKind}
+use Rattle.chw_typing.specs.HeadTypes.{widest, literal_type}
+use Rattle.chw_typing.specs.Typing.{Binds}
+use Rattle.term_types.specs.Kinding.{LacksKindUpTo}
+
+-- the pattern is none for values of the type, or a field has no kind
+abbrev pub BindsNothing : Setting → List Kind → TypeTree → Pattern → Type 0
+BindsNothing s kinds u q = (bound : List TypeTree) → Binds s kinds u q bound → ⊥
+
+-- the literal isn't too wide, and its type is the same as this one
+abbrev pub IsLiteralOf : TypeTree → Scalar → List Bool → Type 0
+IsLiteralOf u r bits = (length bits ≤ widest) × SameTypes u (literal_type r bits)
+
+-- for each field a type with a kind that is the same as the field at these arguments
+abbrev pub AreSettled : Setting → List Kind → List TypeTree → List TypeTree → List TypeTree → Type 0
+AreSettled s kinds [] args [] = Unit {0}
+AreSettled s kinds (f ∷ fs) args (t ∷ ts) = (SameTypes (sub f (arguments (trees_of args))) t × ((k : Kind) × HasKind s kinds t k)) × AreSettled s kinds fs args ts
+AreSettled s kinds _ args _ = ⊥
+
+-- there is none for some field
+abbrev pub NoneSettled : Setting → List Kind → List TypeTree → List TypeTree → Type 0
+NoneSettled s kinds fs args = (i : ℕ) × (f : TypeTree) × (slice_get fs i ≡ Some f) × LacksKindUpTo s kinds (sub f (arguments (trees_of args)))
+
+-- a case may look at values of the type
+abbrev pub is_looked_at : TypeTree → Bool
+is_looked_at (scalar s w) = true
+is_looked_at (data_of d ts) = true
+is_looked_at _ = false

@@ -1,0 +1,12 @@
+pub mod Answers
+pub mod Binding
+pub mod Cases
+pub mod Constructing
+pub mod Each
+pub mod Forms
+pub mod Groups
+pub mod InScope
+pub mod Keying
+pub mod Kinding
+pub mod Settings
+pub mod VarsView

@@ -1,0 +1,91 @@
+//! The constructors of a program, and their types.
+ghost use Rattle.std.specs.Prelude.{◌≡◌, IfOk, MatchOption, None, Some};
+ghost use Rattle.chw_types.specs.TypeView.{trees_of};
+ghost use Rattle.chw_terms.specs.Constructors.{con_at};
+ghost use Rattle.chw_typing.specs.HeadTypes.{con_type, for_each, from_each, variables};
+ghost use Rattle.term_types.specs.Constructing.{constructor_of};
+
+use chw_base::{ConId, DataId, NoMemory, TyIx};
+use chw_types::{ConDecl, Data, Kind, Ty};
+use std::alloc::Global;
+
+/// A constructor of a program.
+#[derive(Clone, Copy)]
+pub(crate) struct Constructor<'a> {
+    /// The number of its data type.
+    pub(crate) of: DataId,
+    pub(crate) it: &'a Data,
+    pub(crate) decl: &'a ConDecl,
+}
+
+/// The constructor of this number, counted over all data types, where there is one.
+///
+/// Where its data type's number would pass 32 bits, the answer is want of memory.
+pub(crate) fn constructor_at(datas: &[Data], at: ConId) -> Result<Option<Constructor<'_>>, NoMemory>
+    ensures { IfOk result (λ r. MatchOption r (con_at datas.now at.number ≡ None) (λ c. con_at datas.now at.number ≡ Some (constructor_of c))) }
+{
+    let mut place = at.number as usize;
+    for (number, it) in datas.iter().enumerate() {
+        let cons = it.cons.as_slice();
+        if place < cons.len() {
+            if number > u32::MAX as usize {
+                return Err(NoMemory);
+            }
+            let of = DataId {
+                number: number as u32,
+            };
+            let decl = &cons[place];
+            return Ok(Some(Constructor { of, it, decl }));
+        }
+        place -= cons.len();
+    }
+    Ok(None)
+}
+
+// The type variables of so many binders, the outermost first.
+fn variables(alloc: Global, count: usize) -> Result<Vec<Ty>, NoMemory>
+    ensures { IfOk result (λ ts. trees_of ts.items ≡ variables count) }
+{
+    if count > u32::MAX as usize {
+        return Err(NoMemory);
+    }
+    let mut done = Vec::new(alloc);
+    for i in 0..count {
+        let number = (count - 1 - i) as u32;
+        done.push(Ty::var(TyIx { number }))?;
+    }
+    Ok(done)
+}
+
+// Functions from these, the first one outermost.
+fn from_each(alloc: Global, fields: &[Ty], to: Ty) -> Result<Ty, NoMemory>
+    ensures { IfOk result (λ t. t ≡ from_each fields.now to) }
+{
+    let mut done = to;
+    for i in 0..fields.len() {
+        let from = fields[fields.len() - 1 - i].copy(alloc)?;
+        done = Ty::fun(alloc, from, done)?;
+    }
+    Ok(done)
+}
+
+// Binders of these kinds, the first one outermost.
+fn for_each(alloc: Global, kinds: &[Kind], of: Ty) -> Result<Ty, NoMemory>
+    ensures { IfOk result (λ t. t ≡ for_each kinds.now of) }
+{
+    let mut done = of;
+    for i in 0..kinds.len() {
+        done = Ty::forall(alloc, kinds[kinds.len() - 1 - i], done)?;
+    }
+    Ok(done)
+}
+
+/// The type of a constructor: its data type's parameters as type parameters, then its fields as parameters, then the data type.
+pub(crate) fn con_type(alloc: Global, con: &Constructor<'_>) -> Result<Ty, NoMemory>
+    ensures { IfOk result (λ t. t ≡ con_type (constructor_of con.now)) }
+{
+    let params = con.it.params.as_slice();
+    let to = Ty::data_of(con.of, variables(alloc, params.len())?);
+    let from = from_each(alloc, con.decl.fields.as_slice(), to)?;
+    for_each(alloc, params, from)
+}

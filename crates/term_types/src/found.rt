@@ -1,0 +1,93 @@
+//! Types with their kinds.
+ghost use Rattle.std.specs.Prelude.{◌≡◌, reverse, IfOk, MatchOption};
+ghost use Rattle.chw_types.specs.SameTypes.{SameTypes};
+ghost use Rattle.chw_types.specs.Kinds.{IsOfTerms};
+ghost use Rattle.chw_typing.specs.Scopes.{HasKind, IsTermType};
+ghost use Rattle.term_types.specs.Settings.{setting_in};
+ghost use Rattle.term_types.specs.Kinding.{has_functions, is_of_terms, LacksKind, LacksKindUpTo, IsWithKind};
+
+use chw_base::NoMemory;
+use chw_terms::Scene;
+use chw_types::{Kind, Ty, kind_of};
+use std::alloc::Global;
+use zero_parts::without_zeros;
+
+/// A type with its kind.
+#[derive(Drop)]
+pub(crate) struct Found {
+    pub(crate) ty: Ty,
+    pub(crate) kind: Kind,
+}
+
+/// The kind of a type, where it has one.
+pub(crate) fn kind_in(scene: &Scene, kinds: &[Kind], ty: &Ty) -> Option<Kind>
+    ensures { MatchOption result (LacksKind (setting_in scene.now) (reverse kinds.now) ty.now) (λ k. HasKind (setting_in scene.now) (reverse kinds.now) ty.now k) }
+{
+    let datas = scene.program.datas.as_slice();
+    let domains = scene.program.domains.as_slice();
+    match kind_of(ty, kinds, datas, domains) {
+        Ok(kind) => Some(kind),
+        Err(_) => None,
+    }
+}
+
+/// A type with its kind, where it has one.
+pub(crate) fn with_kind(scene: &Scene, kinds: &[Kind], ty: Ty) -> Option<Found>
+    ensures { MatchOption result (LacksKind (setting_in scene.now) (reverse kinds.now) ty) (λ f. IsWithKind (setting_in scene.now) (reverse kinds.now) ty f) }
+{
+    match kind_in(scene, kinds, &ty) {
+        Some(kind) => Some(Found { ty, kind }),
+        None => None,
+    }
+}
+
+/// A type that arose by putting types, with its kind. Where naturals came to have too great a degree, it is another one that is the same up
+/// to naturals, if one has a kind.
+pub(crate) fn settled(
+    alloc: Global,
+    scene: &Scene,
+    kinds: &[Kind],
+    ty: Ty,
+) -> Result<Option<Found>, NoMemory>
+    ensures { IfOk result (λ r. MatchOption r (LacksKindUpTo (setting_in scene.now) (reverse kinds.now) ty)
+        (λ f. SameTypes ty f.ty × HasKind (setting_in scene.now) (reverse kinds.now) f.ty f.kind)) }
+{
+    if let Some(kind) = kind_in(scene, kinds, &ty) {
+        return Ok(Some(Found { ty, kind }));
+    }
+    let less = without_zeros(alloc, &ty)?;
+    Ok(with_kind(scene, kinds, less))
+}
+
+/// Whether there are functions from types of the first kind to types of the second.
+pub(crate) fn has_functions(from: Kind, to: Kind) -> bool
+    ensures { result ≡ has_functions from to }
+{
+    match (from, to) {
+        (Kind::Val, Kind::Val) => true,
+        (Kind::Val, Kind::Cir) => true,
+        (Kind::Cir, Kind::Cir) => true,
+        _ => false,
+    }
+}
+
+/// The kind of a type, where it is one of types that terms have.
+pub(crate) fn kind_of_terms(scene: &Scene, kinds: &[Kind], ty: &Ty) -> Option<Kind>
+    ensures { MatchOption result (IsTermType (setting_in scene.now) (reverse kinds.now) ty.now → ⊥) (λ k. HasKind (setting_in scene.now) (reverse kinds.now) ty.now k × IsOfTerms k) }
+{
+    let Some(kind) = kind_in(scene, kinds, ty) else {
+        return None;
+    };
+    if is_of_terms(kind) { Some(kind) } else { None }
+}
+
+// Whether terms have types of this kind.
+fn is_of_terms(kind: Kind) -> bool
+    ensures { result ≡ is_of_terms kind }
+{
+    match kind {
+        Kind::Val => true,
+        Kind::Cir => true,
+        _ => false,
+    }
+}

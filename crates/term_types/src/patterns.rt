@@ -1,0 +1,128 @@
+//! What the pattern of an alternative binds.
+ghost use Rattle.std.specs.Prelude.{◌≡◌, reverse, IfOk, IsTrue, ◌↔◌, MatchOption};
+ghost use Rattle.chw_types.specs.TypeTree.{data_of};
+ghost use Rattle.chw_types.specs.TypeView.{trees_of};
+ghost use Rattle.chw_typing.specs.Scopes.{HasKind};
+ghost use Rattle.chw_typing.specs.Programs.{IsSound};
+ghost use Rattle.chw_typing.specs.Typing.{Binds};
+ghost use Rattle.term_types.specs.Settings.{setting_in};
+ghost use Rattle.term_types.specs.Binding.{BindsNothing, IsLiteralOf, AreSettled, NoneSettled, is_looked_at};
+ghost use Rattle.chw_terms.specs.declared.term.Pattern.TheVariants.{OfCon};
+
+use crate::constructors::constructor_at;
+use crate::found::settled;
+use crate::heads::literal_type;
+use chw_base::{ConId, DataId, NoMemory};
+use chw_bits::Bits;
+use chw_terms::{Pattern, Scene};
+use chw_types::{Kind, Scalar, Ty, TyNode, put_arguments, same};
+use std::alloc::Global;
+
+/// The types of the variables that a pattern binds, the first one first, where it is one for values of this type.
+pub(crate) fn bound_types(
+    alloc: Global,
+    scene: &Scene,
+    kinds: &[Kind],
+    of: &Ty,
+    pattern: &Pattern,
+) -> Result<Option<Vec<Ty>>, NoMemory>
+    requires sound { IsSound (setting_in scene.now) }
+    requires kinded { (k : _) × HasKind (setting_in scene.now) (reverse kinds.now) of.now k }
+    ensures { IfOk result (λ r. MatchOption r (BindsNothing (setting_in scene.now) (reverse kinds.now) of.now pattern.now) (λ bound. Binds (setting_in scene.now) (reverse kinds.now) of.now pattern.now bound.items)) }
+{
+    match pattern {
+        Pattern::OfCon(at, names) => Ok(fields(alloc, scene, kinds, of, *at, *names)?),
+        Pattern::OfLit(sort, bits) => {
+            if is_literal_of(alloc, of, *sort, bits)? {
+                return Ok(Some(Vec::new(alloc)));
+            }
+            Ok(None)
+        }
+        Pattern::Default => Ok(Some(Vec::new(alloc))),
+    }
+}
+
+// Whether a literal is one of this type.
+fn is_literal_of(alloc: Global, of: &Ty, sort: Scalar, bits: &Bits) -> Result<bool, NoMemory>
+    ensures { IfOk result (λ r. IsTrue r ↔ IsLiteralOf of.now sort bits.now) }
+{
+    match literal_type(alloc, sort, bits)? {
+        Some(ty) => Ok(same(alloc, of, &ty)?),
+        None => Ok(false),
+    }
+}
+
+// The arguments of a data type, where a type is of it.
+fn arguments_of(ty: &Ty, of: DataId) -> Option<&[Ty]>
+    ensures { MatchOption result ((ts : _) → ty.now ≡ data_of of.number ts → ⊥) (λ args. ty.now ≡ data_of of.number (trees_of args.now)) }
+{
+    match &ty.node {
+        TyNode::DataOf(at, args) => {
+            if at.number == of.number {
+                return Some(args.as_slice());
+            }
+            None
+        }
+        _ => None,
+    }
+}
+
+// The types of a constructor's fields at the arguments of a type, where it is one of that type and has as many fields.
+fn fields(
+    alloc: Global,
+    scene: &Scene,
+    kinds: &[Kind],
+    of: &Ty,
+    at: ConId,
+    names: u32,
+) -> Result<Option<Vec<Ty>>, NoMemory>
+    requires sound { IsSound (setting_in scene.now) }
+    requires kinded { (k : _) × HasKind (setting_in scene.now) (reverse kinds.now) of.now k }
+    ensures { IfOk result (λ r. MatchOption r (BindsNothing (setting_in scene.now) (reverse kinds.now) of.now (OfCon at names)) (λ bound. Binds (setting_in scene.now) (reverse kinds.now) of.now (OfCon at names) bound.items)) }
+{
+    let Some(con) = constructor_at(scene.program.datas.as_slice(), at)? else {
+        return Ok(None);
+    };
+    let Some(args) = arguments_of(of, con.of) else {
+        return Ok(None);
+    };
+    let fields = con.decl.fields.as_slice();
+    if fields.len() != names as usize {
+        return Ok(None);
+    }
+    Ok(all_settled(alloc, scene, kinds, fields, args)?)
+}
+
+// The types of fields at these arguments, each with a kind, where there are such up to naturals.
+fn all_settled(
+    alloc: Global,
+    scene: &Scene,
+    kinds: &[Kind],
+    fields: &[Ty],
+    args: &[Ty],
+) -> Result<Option<Vec<Ty>>, NoMemory>
+    ensures { IfOk result (λ r. MatchOption r (NoneSettled (setting_in scene.now) (reverse kinds.now) fields.now args.now) (λ bound. AreSettled (setting_in scene.now) (reverse kinds.now) fields.now args.now bound.items)) }
+{
+    let mut bound = Vec::new(alloc);
+    for field in fields {
+        let ty = put_arguments(alloc, field, args)?;
+        match settled(alloc, scene, kinds, ty)? {
+            Some(found) => bound.push(found.ty)?,
+            None => return Ok(None),
+        }
+    }
+    Ok(Some(bound))
+}
+
+/// Whether a case may look at values of this type.
+pub(crate) fn is_looked_at(ty: &Ty) -> bool
+    ensures { result ≡ is_looked_at ty.now }
+{
+    match &ty.node {
+        TyNode::Unsigned(_) => true,
+        TyNode::Signed(_) => true,
+        TyNode::BitVector(_) => true,
+        TyNode::DataOf(_, _) => true,
+        _ => false,
+    }
+}

@@ -1,0 +1,38 @@
+//! The type of a term.
+ghost use Rattle.std.specs.Prelude.{reverse, IfOk, IfSome, IfNone};
+ghost use Rattle.chw_typing.specs.Typing.{HasType};
+ghost use Rattle.term_types.specs.Settings.{setting_in};
+ghost use Rattle.term_types.specs.Answers.{HasNoType, IsReady};
+
+use crate::vars::Vars;
+use crate::walk::infer;
+use chw_base::NoMemory;
+use chw_terms::{Scene, Term};
+use chw_types::{Kind, Ty};
+use std::alloc::Global;
+
+/// The type of a term, with type variables of these kinds and variables of these types in scope, the outermost first, each type seen from
+/// the place of the term. Nothing comes exactly where the term has no type.
+///
+/// It is the type that the rule of the term gives: a case has that of its first alternative, and where types are put into another, the
+/// result stays as it is if it has a kind.
+///
+/// The scene is sound, as that of every typed program is, and terms have the types of the variables. Where a number would pass 32 bits, the
+/// answer is want of memory.
+pub fn type_of(
+    alloc: Global,
+    scene: &Scene,
+    kinds: &[Kind],
+    vars: &[Ty],
+    term: &Term,
+) -> Result<Option<Ty>, NoMemory>
+    requires { IsReady (setting_in scene.now) (reverse kinds.now) (reverse vars.now) }
+    ensures some { IfOk result (λ r. IfSome r (λ t. HasType (setting_in scene.now) (reverse kinds.now) (reverse vars.now) term.now t)) }
+    ensures none { IfOk result (λ r. IfNone r (HasNoType (setting_in scene.now) (reverse kinds.now) (reverse vars.now) term.now)) }
+{
+    let vars = Vars::outside(vars);
+    match infer(alloc, scene, kinds, &vars, term)? {
+        Some(found) => Ok(Some(found.ty)),
+        None => Ok(None),
+    }
+}
