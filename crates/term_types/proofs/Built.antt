@@ -1,43 +1,11 @@
--- Constructors by their numbers, and their types.
-use Rattle.std.proofs.Common.{◌≡◌, ℕ, suc, zero, ◌+◌, ◌-◌, ◌<◌, ◌≤◌, refl, sym, ap, ◌∙◌, List, [], ◌∷◌, ◌++◌, length, drop, take, get_or, arith}
-use Rattle.std.specs.Prelude.{Some, None}
-use Rattle.std.specs.List.{slice_get}
-use Rattle.std.proofs.lemmas.List.{drop_all, take_all}
+-- The types of constructors.
+use Rattle.std.proofs.Common.{◌≡◌, ℕ, suc, zero, ◌+◌, ◌-◌, ◌<◌, ◌≤◌, refl, sym, ap, ◌∙◌, List, [], ◌∷◌, ◌++◌, length, take, get_or, arith}
+use Rattle.std.proofs.lemmas.List.{take_all}
 use Rattle.chw_types.specs.declared.kind.Kind.{Kind}
-use Rattle.chw_types.specs.declared.declarations.ConDecl.{ConDecl}
-use Rattle.chw_types.specs.declared.declarations.Data.{Data}
 use Rattle.chw_types.specs.TypeTree.{TypeTree, ty_var, fun, for_all, TypeTrees, no_types, type_and}
 use Rattle.chw_types.specs.TypeView.{trees_of}
-use Rattle.chw_types.proofs.SumsFound.{next_dropped}
-use Rattle.chw_terms.specs.Constructors.{Constructor, cons_of, constructors_from, con_at}
 use Rattle.chw_typing.specs.HeadTypes.{for_each, from_each, variables}
 use Rattle.term_types.proofs.EachItem.{next_taken}
-
-cons_here : (d : ℕ) (it : Data) (ks : List ConDecl) (others : List Constructor) (n : ℕ) (k e : ConDecl) → n < length ks → k ≡ get_or ks n e → slice_get (cons_of d it ks others) n ≡ Some (record { of = d; it = it; decl = k })
-cons_here d it [] others n k e l is = absurd (omega arith)
-cons_here d it (c ∷ ks) others zero k e l is = λ i. Some (record { of = d; it = it; decl = sym is i })
-cons_here d it (c ∷ ks) others (suc n) k e l is = cons_here d it ks others n k e (omega arith) is
-
-cons_later : (d : ℕ) (it : Data) (ks : List ConDecl) (others : List Constructor) (n : ℕ) → length ks ≤ n → slice_get (cons_of d it ks others) n ≡ slice_get others (n - length ks)
-cons_later d it [] others n l = let e : n ≡ n - 0 = omega arith in ap (slice_get others) e
-cons_later d it (c ∷ ks) others zero l = absurd (omega arith)
-cons_later d it (c ∷ ks) others (suc n) l = let e : n - length ks ≡ suc n - suc (length ks) = omega arith in cons_later d it ks others n (omega arith) ∙ ap (slice_get others) e
-
-next_from : (datas : List Data) (i : ℕ) (it d : Data) → i < length datas → it ≡ get_or datas i d → constructors_from i (drop i datas) ≡ cons_of i it it.cons (constructors_from (i + 1) (drop (i + 1) datas))
-next_from datas i it d l is =
-    let next : suc i ≡ i + 1 = omega arith in
-    ap (constructors_from i) (next_dropped datas i it d l is) ∙ ap (λ n. cons_of i it it.cons (constructors_from n (drop (i + 1) datas))) next
-
-pub con_here : (datas : List Data) (i place c : ℕ) (it d : Data) (k e : ConDecl) → i < length datas → it ≡ get_or datas i d → place < length it.cons → k ≡ get_or it.cons place e → slice_get (constructors_from i (drop i datas)) place ≡ con_at datas c → con_at datas c ≡ Some (record { of = i; it = it; decl = k })
-con_here datas i place c it d k e l is m at h =
-    sym h ∙ ap (λ cs. slice_get cs place) (next_from datas i it d l is) ∙ cons_here i it it.cons (constructors_from (i + 1) (drop (i + 1) datas)) place k e m at
-
-pub con_later : (datas : List Data) (i place c : ℕ) (it d : Data) → i < length datas → it ≡ get_or datas i d → length it.cons ≤ place → slice_get (constructors_from i (drop i datas)) place ≡ con_at datas c → slice_get (constructors_from (i + 1) (drop (i + 1) datas)) (place - length it.cons) ≡ con_at datas c
-con_later datas i place c it d l is m h =
-    sym (cons_later i it it.cons (constructors_from (i + 1) (drop (i + 1) datas)) place m) ∙ ap (λ cs. slice_get cs place) (sym (next_from datas i it d l is)) ∙ h
-
-pub con_none : (datas : List Data) (i place c : ℕ) → length datas ≤ i → slice_get (constructors_from i (drop i datas)) place ≡ con_at datas c → con_at datas c ≡ None
-con_none datas i place c l h = sym h ∙ ap (λ ds. slice_get (constructors_from i ds) place) (drop_all i datas l)
 
 -- the variables that are there, before others
 abbrev pub before : List TypeTree → TypeTrees → TypeTrees

@@ -1,7 +1,6 @@
 pub mod Answers
 pub mod Binding
 pub mod Cases
-pub mod Constructing
 pub mod Each
 pub mod Forms
 pub mod Groups

@@ -1,46 +1,13 @@
-//! The constructors of a program, and their types.
-ghost use Rattle.std.specs.Prelude.{◌≡◌, IfOk, MatchOption, None, Some};
+//! The types of constructors.
+ghost use Rattle.std.specs.Prelude.{◌≡◌, IfOk};
 ghost use Rattle.chw_types.specs.TypeView.{trees_of};
-ghost use Rattle.chw_terms.specs.Constructors.{con_at};
 ghost use Rattle.chw_typing.specs.HeadTypes.{con_type, for_each, from_each, variables};
-ghost use Rattle.term_types.specs.Constructing.{constructor_of};
+ghost use Rattle.con_table.specs.Constructing.{constructor_of};
 
-use chw_base::{ConId, DataId, NoMemory, TyIx};
-use chw_types::{ConDecl, Data, Kind, Ty};
+use chw_base::{NoMemory, TyIx};
+use chw_types::{Kind, Ty};
+use con_table::Constructor;
 use std::alloc::Global;
-
-/// A constructor of a program.
-#[derive(Clone, Copy)]
-pub(crate) struct Constructor<'a> {
-    /// The number of its data type.
-    pub(crate) of: DataId,
-    pub(crate) it: &'a Data,
-    pub(crate) decl: &'a ConDecl,
-}
-
-/// The constructor of this number, counted over all data types, where there is one.
-///
-/// Where its data type's number would pass 32 bits, the answer is want of memory.
-pub(crate) fn constructor_at(datas: &[Data], at: ConId) -> Result<Option<Constructor<'_>>, NoMemory>
-    ensures { IfOk result (λ r. MatchOption r (con_at datas.now at.number ≡ None) (λ c. con_at datas.now at.number ≡ Some (constructor_of c))) }
-{
-    let mut place = at.number as usize;
-    for (number, it) in datas.iter().enumerate() {
-        let cons = it.cons.as_slice();
-        if place < cons.len() {
-            if number > u32::MAX as usize {
-                return Err(NoMemory);
-            }
-            let of = DataId {
-                number: number as u32,
-            };
-            let decl = &cons[place];
-            return Ok(Some(Constructor { of, it, decl }));
-        }
-        place -= cons.len();
-    }
-    Ok(None)
-}
 
 // The type variables of so many binders, the outermost first.
 fn variables(alloc: Global, count: usize) -> Result<Vec<Ty>, NoMemory>

@@ -5,7 +5,7 @@ ghost use Rattle.chw_terms.specs.TermTree.{var, global, made, con, prim, lit};
 ghost use Rattle.term_types.specs.Settings.{setting_in};
 ghost use Rattle.term_types.specs.Answers.{IsAnswer, IsReady};
 
-use crate::constructors::{con_type, constructor_at};
+use crate::constructors::con_type;
 use crate::found::{Found, with_kind};
 use crate::vars::Vars;
 use chw_base::{ConId, DefId, MadeId, NoMemory, VarIx};
@@ -13,6 +13,7 @@ use chw_bits::Bits;
 use chw_prims::{Prim, schema};
 use chw_terms::Scene;
 use chw_types::{Kind, Scalar, Ty};
+use con_table::Constructors;
 use std::alloc::Global;
 
 /// The greatest width of a literal.
@@ -79,14 +80,16 @@ pub(crate) fn made_definition(
 pub(crate) fn of_constructor(
     alloc: Global,
     scene: &Scene,
+    constructors: &Constructors,
     kinds: &[Kind],
     vars: &Vars,
     at: ConId,
 ) -> Result<Option<Found>, NoMemory>
-    requires { IsReady (setting_in scene.now) (reverse kinds.now) vars.now.vars }
+    requires ready { IsReady (setting_in scene.now) (reverse kinds.now) vars.now.vars }
+    requires table { constructors.now ≡ scene.now.program.now.datas }
     ensures { IfOk result (IsAnswer (setting_in scene.now) (reverse kinds.now) vars.now.vars (con at.number)) }
 {
-    match constructor_at(scene.program.datas.as_slice(), at)? {
+    match constructors.at(at) {
         Some(it) => {
             let ty = con_type(alloc, &it)?;
             Ok(with_kind(scene, kinds, ty))

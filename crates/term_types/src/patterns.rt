@@ -9,29 +9,31 @@ ghost use Rattle.term_types.specs.Settings.{setting_in};
 ghost use Rattle.term_types.specs.Binding.{BindsNothing, IsLiteralOf, AreSettled, NoneSettled, is_looked_at};
 ghost use Rattle.chw_terms.specs.declared.term.Pattern.TheVariants.{OfCon};
 
-use crate::constructors::constructor_at;
 use crate::found::settled;
 use crate::heads::literal_type;
 use chw_base::{ConId, DataId, NoMemory};
 use chw_bits::Bits;
 use chw_terms::{Pattern, Scene};
 use chw_types::{Kind, Scalar, Ty, TyNode, put_arguments, same};
+use con_table::Constructors;
 use std::alloc::Global;
 
 /// The types of the variables that a pattern binds, the first one first, where it is one for values of this type.
 pub(crate) fn bound_types(
     alloc: Global,
     scene: &Scene,
+    constructors: &Constructors,
     kinds: &[Kind],
     of: &Ty,
     pattern: &Pattern,
 ) -> Result<Option<Vec<Ty>>, NoMemory>
     requires sound { IsSound (setting_in scene.now) }
+    requires table { constructors.now ≡ scene.now.program.now.datas }
     requires kinded { (k : _) × HasKind (setting_in scene.now) (reverse kinds.now) of.now k }
     ensures { IfOk result (λ r. MatchOption r (BindsNothing (setting_in scene.now) (reverse kinds.now) of.now pattern.now) (λ bound. Binds (setting_in scene.now) (reverse kinds.now) of.now pattern.now bound.items)) }
 {
     match pattern {
-        Pattern::OfCon(at, names) => Ok(fields(alloc, scene, kinds, of, *at, *names)?),
+        Pattern::OfCon(at, names) => { fields(alloc, scene, constructors, kinds, of, *at, *names) }
         Pattern::OfLit(sort, bits) => {
             if is_literal_of(alloc, of, *sort, bits)? {
                 return Ok(Some(Vec::new(alloc)));
@@ -71,16 +73,18 @@ fn arguments_of(ty: &Ty, of: DataId) -> Option<&[Ty]>
 fn fields(
     alloc: Global,
     scene: &Scene,
+    constructors: &Constructors,
     kinds: &[Kind],
     of: &Ty,
     at: ConId,
     names: u32,
 ) -> Result<Option<Vec<Ty>>, NoMemory>
     requires sound { IsSound (setting_in scene.now) }
+    requires table { constructors.now ≡ scene.now.program.now.datas }
     requires kinded { (k : _) × HasKind (setting_in scene.now) (reverse kinds.now) of.now k }
     ensures { IfOk result (λ r. MatchOption r (BindsNothing (setting_in scene.now) (reverse kinds.now) of.now (OfCon at names)) (λ bound. Binds (setting_in scene.now) (reverse kinds.now) of.now (OfCon at names) bound.items)) }
 {
-    let Some(con) = constructor_at(scene.program.datas.as_slice(), at)? else {
+    let Some(con) = constructors.at(at) else {
         return Ok(None);
     };
     let Some(args) = arguments_of(of, con.of) else {

@@ -30,6 +30,7 @@ fn bound_parts(ty: Ty) -> Option<(Kind, Ty)>
     }
 }
 
+// Whether two kinds are the same.
 fn same_kind(a: Kind, b: Kind) -> bool
     ensures { result ≡ same_kind a b }
 {

@@ -1,5 +1,5 @@
 //! The type of a term.
-ghost use Rattle.std.specs.Prelude.{reverse, IfOk, IfSome, IfNone};
+ghost use Rattle.std.specs.Prelude.{◌≡◌, reverse, IfOk, IfSome, IfNone};
 ghost use Rattle.chw_typing.specs.Typing.{HasType};
 ghost use Rattle.term_types.specs.Settings.{setting_in};
 ghost use Rattle.term_types.specs.Answers.{HasNoType, IsReady};
@@ -9,6 +9,7 @@ use crate::walk::infer;
 use chw_base::NoMemory;
 use chw_terms::{Scene, Term};
 use chw_types::{Kind, Ty};
+use con_table::Constructors;
 use std::alloc::Global;
 
 /// The type of a term, with type variables of these kinds and variables of these types in scope, the outermost first, each type seen from
@@ -17,21 +18,23 @@ use std::alloc::Global;
 /// It is the type that the rule of the term gives: a case has that of its first alternative, and where types are put into another, the
 /// result stays as it is if it has a kind.
 ///
-/// The scene is sound, as that of every typed program is, and terms have the types of the variables. Where a number would pass 32 bits, the
-/// answer is want of memory.
+/// The scene is sound, as that of every typed program is, the table has the constructors of its program, and terms have the types of the
+/// variables. Where a number would pass 32 bits, the answer is want of memory.
 pub fn type_of(
     alloc: Global,
     scene: &Scene,
+    constructors: &Constructors,
     kinds: &[Kind],
     vars: &[Ty],
     term: &Term,
 ) -> Result<Option<Ty>, NoMemory>
-    requires { IsReady (setting_in scene.now) (reverse kinds.now) (reverse vars.now) }
+    requires ready { IsReady (setting_in scene.now) (reverse kinds.now) (reverse vars.now) }
+    requires table { constructors.now ≡ scene.now.program.now.datas }
     ensures some { IfOk result (λ r. IfSome r (λ t. HasType (setting_in scene.now) (reverse kinds.now) (reverse vars.now) term.now t)) }
     ensures none { IfOk result (λ r. IfNone r (HasNoType (setting_in scene.now) (reverse kinds.now) (reverse vars.now) term.now)) }
 {
     let vars = Vars::outside(vars);
-    match infer(alloc, scene, kinds, &vars, term)? {
+    match infer(alloc, scene, constructors, kinds, &vars, term)? {
         Some(found) => Ok(Some(found.ty)),
         None => Ok(None),
     }

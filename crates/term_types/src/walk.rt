@@ -21,6 +21,7 @@ use crate::vars::Vars;
 use chw_base::NoMemory;
 use chw_terms::{Alt, Arg, Binding, Head, Scene, Term};
 use chw_types::{Kind, Ty, same};
+use con_table::Constructors;
 use std::alloc::Global;
 
 /// The type of a term with its kind, where it has one.
@@ -28,17 +29,19 @@ use std::alloc::Global;
 pub(crate) fn infer(
     alloc: Global,
     scene: &Scene,
+    constructors: &Constructors,
     kinds: &[Kind],
     vars: &Vars,
     term: &Term,
 ) -> Result<Option<Found>, NoMemory>
-    requires { IsReady (setting_in scene.now) (reverse kinds.now) vars.now.vars }
+    requires ready { IsReady (setting_in scene.now) (reverse kinds.now) vars.now.vars }
+    requires table { constructors.now ≡ scene.now.program.now.datas }
     ensures { IfOk result (IsAnswer (setting_in scene.now) (reverse kinds.now) vars.now.vars term.now) }
 {
-    let Some(head) = infer_head(alloc, scene, kinds, vars, &term.head)? else {
+    let Some(head) = infer_head(alloc, scene, constructors, kinds, vars, &term.head)? else {
         return Ok(None);
     };
-    infer_args(alloc, scene, kinds, vars, head, &term.args)
+    infer_args(alloc, scene, constructors, kinds, vars, head, &term.args)
 }
 
 // The type of a term of this type at these arguments.
@@ -46,18 +49,20 @@ pub(crate) fn infer(
 fn infer_args(
     alloc: Global,
     scene: &Scene,
+    constructors: &Constructors,
     kinds: &[Kind],
     vars: &Vars,
     head: Found,
     args: &[Arg],
 ) -> Result<Option<Found>, NoMemory>
-    requires { IsReady (setting_in scene.now) (reverse kinds.now) vars.now.vars }
+    requires ready { IsReady (setting_in scene.now) (reverse kinds.now) vars.now.vars }
+    requires table { constructors.now ≡ scene.now.program.now.datas }
     ensures { IfOk result (λ r. (e : TermTree) → IsTyped (setting_in scene.now) (reverse kinds.now) vars.now.vars e head
         → IsAnswer (setting_in scene.now) (reverse kinds.now) vars.now.vars (applied e args.now) r) }
 {
     let mut found = head;
     for arg in args {
-        match infer_applied(alloc, scene, kinds, vars, found, arg)? {
+        match infer_applied(alloc, scene, constructors, kinds, vars, found, arg)? {
             Some(next) => found = next,
             None => return Ok(None),
         }
@@ -70,17 +75,19 @@ fn infer_args(
 fn infer_applied(
     alloc: Global,
     scene: &Scene,
+    constructors: &Constructors,
     kinds: &[Kind],
     vars: &Vars,
     fun: Found,
     arg: &Arg,
 ) -> Result<Option<Found>, NoMemory>
-    requires { IsReady (setting_in scene.now) (reverse kinds.now) vars.now.vars }
+    requires ready { IsReady (setting_in scene.now) (reverse kinds.now) vars.now.vars }
+    requires table { constructors.now ≡ scene.now.program.now.datas }
     ensures { IfOk result (λ r. (e : TermTree) → IsTyped (setting_in scene.now) (reverse kinds.now) vars.now.vars e fun
         → IsAnswer (setting_in scene.now) (reverse kinds.now) vars.now.vars (applied_to e arg.now) r) }
 {
     match arg {
-        Arg::OfTerm(e) => match infer(alloc, scene, kinds, vars, e)? {
+        Arg::OfTerm(e) => match infer(alloc, scene, constructors, kinds, vars, e)? {
             Some(found) => Ok(apply(alloc, fun, &found.ty)?),
             None => Ok(None),
         },
@@ -93,25 +100,45 @@ fn infer_applied(
 fn infer_head(
     alloc: Global,
     scene: &Scene,
+    constructors: &Constructors,
     kinds: &[Kind],
     vars: &Vars,
     head: &Head,
 ) -> Result<Option<Found>, NoMemory>
-    requires { IsReady (setting_in scene.now) (reverse kinds.now) vars.now.vars }
+    requires ready { IsReady (setting_in scene.now) (reverse kinds.now) vars.now.vars }
+    requires table { constructors.now ≡ scene.now.program.now.datas }
     ensures { IfOk result (IsAnswer (setting_in scene.now) (reverse kinds.now) vars.now.vars (tree_of head.now)) }
 {
     match head {
         Head::Var(x) => variable(alloc, scene, kinds, vars, *x),
         Head::Global(d) => definition(alloc, scene, kinds, vars, *d),
         Head::Made(m) => made_definition(alloc, scene, kinds, vars, *m),
-        Head::Lam(ty, body) => infer_lam(alloc, scene, kinds, vars, ty, body),
-        Head::TyLam(kind, body) => infer_ty_lam(alloc, scene, kinds, vars, *kind, body),
-        Head::LetRec(bindings, body) => { infer_letrec(alloc, scene, kinds, vars, bindings, body) }
-        Head::Con(c) => of_constructor(alloc, scene, kinds, vars, *c),
+        Head::Lam(ty, body) => infer_lam(alloc, scene, constructors, kinds, vars, ty, body),
+        Head::TyLam(kind, body) => infer_ty_lam(
+            alloc,
+            scene,
+            constructors,
+            kinds,
+            vars,
+            *kind,
+            body,
+        ),
+        Head::LetRec(bindings, body) => {
+            infer_letrec(alloc, scene, constructors, kinds, vars, bindings, body)
+        }
+        Head::Con(c) => of_constructor(alloc, scene, constructors, kinds, vars, *c),
         Head::PrimOf(which) => primitive(alloc, scene, kinds, vars, *which),
         Head::Lit(sort, bits) => literal(alloc, scene, kinds, vars, *sort, bits),
-        Head::VecLit(ty, elements) => infer_vector(alloc, scene, kinds, vars, ty, elements),
-        Head::Case(on, alts) => infer_case(alloc, scene, kinds, vars, on, alts),
+        Head::VecLit(ty, elements) => infer_vector(
+            alloc,
+            scene,
+            constructors,
+            kinds,
+            vars,
+            ty,
+            elements,
+        ),
+        Head::Case(on, alts) => infer_case(alloc, scene, constructors, kinds, vars, on, alts),
     }
 }
 
@@ -120,19 +147,21 @@ fn infer_head(
 fn infer_lam(
     alloc: Global,
     scene: &Scene,
+    constructors: &Constructors,
     kinds: &[Kind],
     vars: &Vars,
     ty: &Ty,
     body: &Term,
 ) -> Result<Option<Found>, NoMemory>
-    requires { IsReady (setting_in scene.now) (reverse kinds.now) vars.now.vars }
+    requires ready { IsReady (setting_in scene.now) (reverse kinds.now) vars.now.vars }
+    requires table { constructors.now ≡ scene.now.program.now.datas }
     ensures { IfOk result (IsAnswer (setting_in scene.now) (reverse kinds.now) vars.now.vars (lam ty.now body.now)) }
 {
     let Some(from) = kind_of_terms(scene, kinds, ty) else {
         return Ok(None);
     };
     let inner = (&*vars).with_one(&*ty);
-    let Some(to) = infer(alloc, scene, kinds, &inner, body)? else {
+    let Some(to) = infer(alloc, scene, constructors, kinds, &inner, body)? else {
         return Ok(None);
     };
     if !has_functions(from, to.kind) {
@@ -147,18 +176,20 @@ fn infer_lam(
 fn infer_ty_lam(
     alloc: Global,
     scene: &Scene,
+    constructors: &Constructors,
     kinds: &[Kind],
     vars: &Vars,
     kind: Kind,
     body: &Term,
 ) -> Result<Option<Found>, NoMemory>
-    requires { IsReady (setting_in scene.now) (reverse kinds.now) vars.now.vars }
+    requires ready { IsReady (setting_in scene.now) (reverse kinds.now) vars.now.vars }
+    requires table { constructors.now ≡ scene.now.program.now.datas }
     ensures { IfOk result (IsAnswer (setting_in scene.now) (reverse kinds.now) vars.now.vars (ty_lam kind body.now)) }
 {
     let mut inner = Vec::from_slice(alloc, kinds)?;
     inner.push(kind)?;
     let vars = (&*vars).under_type();
-    let Some(of) = infer(alloc, scene, &inner, &vars, body)? else {
+    let Some(of) = infer(alloc, scene, constructors, &inner, &vars, body)? else {
         return Ok(None);
     };
     let ty = Ty::forall(alloc, kind, of.ty)?;
@@ -170,25 +201,27 @@ fn infer_ty_lam(
 fn infer_letrec(
     alloc: Global,
     scene: &Scene,
+    constructors: &Constructors,
     kinds: &[Kind],
     vars: &Vars,
     bindings: &[Binding],
     body: &Term,
 ) -> Result<Option<Found>, NoMemory>
-    requires { IsReady (setting_in scene.now) (reverse kinds.now) vars.now.vars }
+    requires ready { IsReady (setting_in scene.now) (reverse kinds.now) vars.now.vars }
+    requires table { constructors.now ≡ scene.now.program.now.datas }
     ensures { IfOk result (IsAnswer (setting_in scene.now) (reverse kinds.now) vars.now.vars (letrec (group_of bindings.now) body.now)) }
 {
     let Some(kind) = group_kind(scene, kinds, bindings) else {
         return Ok(None);
     };
     let inner = (&*vars).with_group(&*bindings);
-    let Some(found) = infer(alloc, scene, kinds, &inner, body)? else {
+    let Some(found) = infer(alloc, scene, constructors, kinds, &inner, body)? else {
         return Ok(None);
     };
     if !has_functions(kind, found.kind) {
         return Ok(None);
     }
-    if !have_their_types(alloc, scene, kinds, &inner, bindings)? {
+    if !have_their_types(alloc, scene, constructors, kinds, &inner, bindings)? {
         return Ok(None);
     }
     Ok(Some(found))
@@ -199,15 +232,17 @@ fn infer_letrec(
 fn have_their_types(
     alloc: Global,
     scene: &Scene,
+    constructors: &Constructors,
     kinds: &[Kind],
     vars: &Vars,
     bindings: &[Binding],
 ) -> Result<bool, NoMemory>
-    requires { IsReady (setting_in scene.now) (reverse kinds.now) vars.now.vars }
+    requires ready { IsReady (setting_in scene.now) (reverse kinds.now) vars.now.vars }
+    requires table { constructors.now ≡ scene.now.program.now.datas }
     ensures { IfOk result (λ r. IsTrue r ↔ HaveTheirTypes (setting_in scene.now) (reverse kinds.now) vars.now.vars bindings.now) }
 {
     for b in bindings {
-        if !has_type(alloc, scene, kinds, vars, &b.ty, &b.body)? {
+        if !has_type(alloc, scene, constructors, kinds, vars, &b.ty, &b.body)? {
             return Ok(false);
         }
     }
@@ -219,15 +254,17 @@ fn have_their_types(
 fn has_type(
     alloc: Global,
     scene: &Scene,
+    constructors: &Constructors,
     kinds: &[Kind],
     vars: &Vars,
     ty: &Ty,
     term: &Term,
 ) -> Result<bool, NoMemory>
-    requires { IsReady (setting_in scene.now) (reverse kinds.now) vars.now.vars }
+    requires ready { IsReady (setting_in scene.now) (reverse kinds.now) vars.now.vars }
+    requires table { constructors.now ≡ scene.now.program.now.datas }
     ensures { IfOk result (λ r. IsTrue r ↔ HasTypeUpTo (setting_in scene.now) (reverse kinds.now) vars.now.vars term.now ty.now) }
 {
-    match infer(alloc, scene, kinds, vars, term)? {
+    match infer(alloc, scene, constructors, kinds, vars, term)? {
         Some(found) => Ok(same(alloc, ty, &found.ty)?),
         None => Ok(false),
     }
@@ -238,19 +275,21 @@ fn has_type(
 fn infer_vector(
     alloc: Global,
     scene: &Scene,
+    constructors: &Constructors,
     kinds: &[Kind],
     vars: &Vars,
     ty: &Ty,
     elements: &[Term],
 ) -> Result<Option<Found>, NoMemory>
-    requires { IsReady (setting_in scene.now) (reverse kinds.now) vars.now.vars }
+    requires ready { IsReady (setting_in scene.now) (reverse kinds.now) vars.now.vars }
+    requires table { constructors.now ≡ scene.now.program.now.datas }
     ensures { IfOk result (IsAnswer (setting_in scene.now) (reverse kinds.now) vars.now.vars (vec_lit ty.now (terms_of elements.now))) }
 {
     let Some(kind) = kind_of_terms(scene, kinds, ty) else {
         return Ok(None);
     };
     for e in elements {
-        if !has_type(alloc, scene, kinds, vars, ty, e)? {
+        if !has_type(alloc, scene, constructors, kinds, vars, ty, e)? {
             return Ok(None);
         }
     }
@@ -274,15 +313,17 @@ fn count(len: usize) -> Result<u32, NoMemory>
 fn infer_case(
     alloc: Global,
     scene: &Scene,
+    constructors: &Constructors,
     kinds: &[Kind],
     vars: &Vars,
     on: &Term,
     alts: &[Alt],
 ) -> Result<Option<Found>, NoMemory>
-    requires { IsReady (setting_in scene.now) (reverse kinds.now) vars.now.vars }
+    requires ready { IsReady (setting_in scene.now) (reverse kinds.now) vars.now.vars }
+    requires table { constructors.now ≡ scene.now.program.now.datas }
     ensures { IfOk result (IsAnswer (setting_in scene.now) (reverse kinds.now) vars.now.vars (case_of on.now (alts_of alts.now))) }
 {
-    let Some(on) = infer(alloc, scene, kinds, vars, on)? else {
+    let Some(on) = infer(alloc, scene, constructors, kinds, vars, on)? else {
         return Ok(None);
     };
     if !is_looked_at(&on.ty) {
@@ -291,7 +332,7 @@ fn infer_case(
     if !none_hidden(alloc, alts)? {
         return Ok(None);
     }
-    infer_alts(alloc, scene, kinds, vars, &on, alts)
+    infer_alts(alloc, scene, constructors, kinds, vars, &on, alts)
 }
 
 // The type of a case on what has this type, by its alternatives.
@@ -299,19 +340,21 @@ fn infer_case(
 fn infer_alts(
     alloc: Global,
     scene: &Scene,
+    constructors: &Constructors,
     kinds: &[Kind],
     vars: &Vars,
     on: &Found,
     alts: &[Alt],
 ) -> Result<Option<Found>, NoMemory>
     requires ready { IsReady (setting_in scene.now) (reverse kinds.now) vars.now.vars }
+    requires table { constructors.now ≡ scene.now.program.now.datas }
     requires on { HasKind (setting_in scene.now) (reverse kinds.now) on.now.ty on.now.kind }
     ensures { IfOk result (λ r. (e : TermTree) → IsTyped (setting_in scene.now) (reverse kinds.now) vars.now.vars e on.now → IsLookedAt on.now.ty → NoneHidden (alts_of alts.now)
         → IsAnswer (setting_in scene.now) (reverse kinds.now) vars.now.vars (case_of e (alts_of alts.now)) r) }
 {
     let mut given = None;
     for alt in alts {
-        let Some(next) = infer_alt(alloc, scene, kinds, vars, on, alt)? else {
+        let Some(next) = infer_alt(alloc, scene, constructors, kinds, vars, on, alt)? else {
             return Ok(None);
         };
         let Some(so_far) = joined(alloc, on, given, next)? else {
@@ -327,18 +370,20 @@ fn infer_alts(
 fn infer_alt(
     alloc: Global,
     scene: &Scene,
+    constructors: &Constructors,
     kinds: &[Kind],
     vars: &Vars,
     on: &Found,
     alt: &Alt,
 ) -> Result<Option<Found>, NoMemory>
     requires ready { IsReady (setting_in scene.now) (reverse kinds.now) vars.now.vars }
+    requires table { constructors.now ≡ scene.now.program.now.datas }
     requires on { HasKind (setting_in scene.now) (reverse kinds.now) on.now.ty on.now.kind }
     ensures { IfOk result (λ r. MatchOption r (GivesNothing (setting_in scene.now) (reverse kinds.now) vars.now.vars on.now.ty alt.now) (λ f. Gives (setting_in scene.now) (reverse kinds.now) vars.now.vars on.now.ty alt.now f)) }
 {
-    let Some(bound) = bound_types(alloc, scene, kinds, &on.ty, &alt.pattern)? else {
+    let Some(bound) = bound_types(alloc, scene, constructors, kinds, &on.ty, &alt.pattern)? else {
         return Ok(None);
     };
     let inner = (&*vars).with_fields(&bound);
-    infer(alloc, scene, kinds, &inner, &alt.body)
+    infer(alloc, scene, constructors, kinds, &inner, &alt.body)
 }

@@ -1,5 +1,5 @@
 use Rattle.std.proofs.Common.{Vec, Global, sym, subst}
-use Rattle.std.specs.Prelude.{MatchOption, reverse}
+use Rattle.std.specs.Prelude.{IfOk, MatchOption, reverse}
 use Rattle.chw_types.specs.TypeTree.{TypeTree}
 use Rattle.chw_terms.specs.declared.term.Pattern.TheVariants.{OfLit, Default}
 use Rattle.chw_typing.specs.Typing.{Binds}
@@ -9,12 +9,12 @@ use Rattle.term_types.proofs.Bound.{default_binds, literal_binds, literal_none}
 use Rattle.term_types.proofs.Matched.{not_true}
 use Rattle.term_types.proofs.patterns.bound_types.Goals as goal
 
-pub returns-in_ok-fields-in-OfCon : goal.returns-in_ok-fields-in-OfCon
-returns-in_ok-fields-in-OfCon c =
+pub returns-in-OfCon : goal.returns-in-OfCon
+returns-in-OfCon c =
     let s = setting_in c.args.scene.now in
     let kinds = reverse c.args.kinds.now in
     let u = c.args.of.now in
-    subst (λ q. MatchOption c.in_ok-fields-in-OfCon.field-0 (BindsNothing s kinds u q) (λ (bound : Vec TypeTree Global). Binds s kinds u q bound.items)) (sym c.in-OfCon.is) c.in_ok-fields-in-OfCon.ensures
+    subst (λ q. IfOk c.fields.result (λ r. MatchOption r (BindsNothing s kinds u q) (λ (bound : Vec TypeTree Global). Binds s kinds u q bound.items))) (sym c.in-OfCon.is) c.fields.ensures
 
 pub returns-then-branch : goal.returns-then-branch
 returns-then-branch c =

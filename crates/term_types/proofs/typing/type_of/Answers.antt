@@ -6,8 +6,8 @@ use Rattle.term_types.specs.Settings.{setting_in}
 use Rattle.term_types.proofs.Walked.{answer_some, answer_is_none}
 use Rattle.term_types.proofs.typing.type_of.Goals as goal
 
-pub infer-requires : goal.infer-requires
-infer-requires c = subst (IsReady (setting_in c.args.scene.now) (reverse c.args.kinds.now)) (sym c.outside-vars.ensures) c.requires
+pub infer-requires-clause-ready : goal.infer-requires-clause-ready
+infer-requires-clause-ready c = subst (IsReady (setting_in c.args.scene.now) (reverse c.args.kinds.now)) (sym c.outside-vars.ensures) c.requires.ready
 
 pub returns-in-Some-clause-some : goal.returns-in-Some-clause-some
 returns-in-Some-clause-some c =

@@ -36,7 +36,7 @@ pub infer-infer_head-requires : goal.infer-infer_head-requires
 infer-infer_head-requires t c =
     let h = tree_of c.term.inside.head in
     let whole : tree_size (applied h c.term.inside.args.items) ≡ tree_size c.args.term.now = ap tree_size c.term.view_is in
-    (omega (arith, c.decreases, whole, applied_size h c.term.inside.args.items), c.requires)
+    (omega (arith, c.decreases, whole, applied_size h c.term.inside.args.items), (c.requires.ready, c.requires.table))
 
 pub infer-returns-in_default : goal.infer-returns-in_default
 infer-returns-in_default t c =
@@ -51,7 +51,7 @@ infer-infer_args-requires t c =
     let h = tree_of c.term.inside.head in
     let whole : tree_size (applied h c.term.inside.args.items) ≡ tree_size c.args.term.now = ap tree_size c.term.view_is in
     let all : args_size c.deref.result.now ≡ args_size c.term.inside.args.items = ap args_size c.deref.ensures.value in
-    (omega (arith, c.decreases, whole, all, applied_size h c.term.inside.args.items), c.requires)
+    (omega (arith, c.decreases, whole, all, applied_size h c.term.inside.args.items), (c.requires.ready, c.requires.table))
 
 pub infer-returns : goal.infer-returns
 infer-returns t c =
@@ -66,7 +66,7 @@ infer-returns t c =
 
 pub infer_args-infer_applied-requires : goal.infer_args-infer_applied-requires
 infer_args-infer_applied-requires t c =
-    (omega (arith, c.decreases, arg_smaller c.args.args.now c.loop-arg.arg-index c.arg-item.result _ c.loop-arg-test.true c.arg-item.is), c.requires)
+    (omega (arith, c.decreases, arg_smaller c.args.args.now c.loop-arg.arg-index c.arg-item.result _ c.loop-arg-test.true c.arg-item.is), (c.requires.ready, c.requires.table))
 
 pub infer_args-loop-arg-init : goal.infer_args-loop-arg-init
 infer_args-loop-arg-init t c e d = d
@@ -99,7 +99,7 @@ infer_args-returns t c e d =
 pub infer_applied-infer-requires : goal.infer_applied-infer-requires
 infer_applied-infer-requires t c =
     let size : args_size (c.args.arg.now ∷ []) ≡ tree_size c.in-OfTerm.e + 2 = ap (λ a. args_size (a ∷ [])) c.in-OfTerm.is ∙ omega arith in
-    (omega (arith, c.decreases, size), c.requires)
+    (omega (arith, c.decreases, size), (c.requires.ready, c.requires.table))
 
 pub infer_applied-returns-in_ok-apply-in-Some : goal.infer_applied-returns-in_ok-apply-in-Some
 infer_applied-returns-in_ok-apply-in-Some t c e d =
@@ -108,7 +108,7 @@ infer_applied-returns-in_ok-apply-in-Some t c e d =
     let vars = c.args.vars.now.vars in
     let found = c.in-Some.found in
     subst (λ a. IsAnswer s kinds vars (applied_to e a) c.in_ok-apply-in-Some.field-0) (sym c.in-OfTerm.is)
-    (app_told s kinds vars e c.in-OfTerm.e c.args.fun found c.in_ok-apply-in-Some.field-0 c.requires
+    (app_told s kinds vars e c.in-OfTerm.e c.args.fun found c.in_ok-apply-in-Some.field-0 c.requires.ready
     (answer_some s kinds vars c.in-OfTerm.e c.in_ok-found-in-OfTerm.field-0 found c.in-Some.is c.in_ok-found-in-OfTerm.ensures) c.in_ok-apply-in-Some.ensures d)
 
 pub infer_applied-returns-in-None : goal.infer_applied-returns-in-None
@@ -125,7 +125,7 @@ infer_applied-returns-in_ok-apply_type-in-OfType t c e d =
     let kinds = reverse c.args.kinds.now in
     let vars = c.args.vars.now.vars in
     subst (λ a. IsAnswer s kinds vars (applied_to e a) c.in_ok-apply_type-in-OfType.field-0) (sym c.in-OfType.is)
-    (ty_app_told s kinds vars e c.in-OfType.t c.args.fun c.in_ok-apply_type-in-OfType.field-0 c.requires c.in_ok-apply_type-in-OfType.ensures d)
+    (ty_app_told s kinds vars e c.in-OfType.t c.args.fun c.in_ok-apply_type-in-OfType.field-0 c.requires.ready c.in_ok-apply_type-in-OfType.ensures d)
 
 -- the forms of heads
 pub infer_head-returns-in-Var : goal.infer_head-returns-in-Var
@@ -144,7 +144,7 @@ pub infer_head-infer_lam-requires : goal.infer_head-infer_lam-requires
 infer_head-infer_lam-requires t c =
     let whole : tree_size (tree_of c.args.head.now) ≡ tree_size c.in-Lam.body.value + 2 = ap (λ h. tree_size (tree_of h)) c.in-Lam.is in
     let body : tree_size c.deref.result.now ≡ tree_size c.in-Lam.body.value = ap tree_size c.deref.ensures in
-    (omega (arith, c.decreases, whole, body), c.requires)
+    (omega (arith, c.decreases, whole, body), (c.requires.ready, c.requires.table))
 
 pub infer_head-returns-in-Lam : goal.infer_head-returns-in-Lam
 infer_head-returns-in-Lam t c =
@@ -158,7 +158,7 @@ pub infer_head-infer_ty_lam-requires : goal.infer_head-infer_ty_lam-requires
 infer_head-infer_ty_lam-requires t c =
     let whole : tree_size (tree_of c.args.head.now) ≡ tree_size c.in-TyLam.body.value + 2 = ap (λ h. tree_size (tree_of h)) c.in-TyLam.is in
     let body : tree_size c.deref-in-TyLam.result.now ≡ tree_size c.in-TyLam.body.value = ap tree_size c.deref-in-TyLam.ensures in
-    (omega (arith, c.decreases, whole, body), c.requires)
+    (omega (arith, c.decreases, whole, body), (c.requires.ready, c.requires.table))
 
 pub infer_head-returns-in-TyLam : goal.infer_head-returns-in-TyLam
 infer_head-returns-in-TyLam t c =
@@ -174,7 +174,7 @@ infer_head-infer_letrec-requires t c =
     let whole : tree_size (tree_of c.args.head.now) ≡ group_size (group_of bs) + tree_size c.in-LetRec.body.value + 2 = ap (λ h. tree_size (tree_of h)) c.in-LetRec.is in
     let group : group_size (group_of c.deref-in-LetRec.result.now) ≡ group_size (group_of bs) = ap (λ xs. group_size (group_of xs)) c.deref-in-LetRec.ensures.value in
     let body : tree_size c.deref-in-LetRec-2.result.now ≡ tree_size c.in-LetRec.body.value = ap tree_size c.deref-in-LetRec-2.ensures in
-    (omega (arith, c.decreases, whole, group, body), c.requires)
+    (omega (arith, c.decreases, whole, group, body), (c.requires.ready, c.requires.table))
 
 pub infer_head-returns-in-LetRec : goal.infer_head-returns-in-LetRec
 infer_head-returns-in-LetRec t c =
@@ -202,7 +202,7 @@ infer_head-infer_vector-requires t c =
     let es = c.in-VecLit.elements.items in
     let whole : tree_size (tree_of c.args.head.now) ≡ terms_size (terms_of es) + 2 = ap (λ h. tree_size (tree_of h)) c.in-VecLit.is in
     let parts : terms_size (terms_of c.deref-in-VecLit.result.now) ≡ terms_size (terms_of es) = ap (λ xs. terms_size (terms_of xs)) c.deref-in-VecLit.ensures.value in
-    (omega (arith, c.decreases, whole, parts), c.requires)
+    (omega (arith, c.decreases, whole, parts), (c.requires.ready, c.requires.table))
 
 pub infer_head-returns-in-VecLit : goal.infer_head-returns-in-VecLit
 infer_head-returns-in-VecLit t c =
@@ -218,7 +218,7 @@ infer_head-infer_case-requires t c =
     let whole : tree_size (tree_of c.args.head.now) ≡ tree_size c.in-Case.on.value + alts_size (alts_of alts) + 2 = ap (λ h. tree_size (tree_of h)) c.in-Case.is in
     let on : tree_size c.deref-in-Case.result.now ≡ tree_size c.in-Case.on.value = ap tree_size c.deref-in-Case.ensures in
     let parts : alts_size (alts_of c.deref-in-Case-2.result.now) ≡ alts_size (alts_of alts) = ap (λ xs. alts_size (alts_of xs)) c.deref-in-Case-2.ensures.value in
-    (omega (arith, c.decreases, whole, on, parts), c.requires)
+    (omega (arith, c.decreases, whole, on, parts), (c.requires.ready, c.requires.table))
 
 pub infer_head-returns-in-Case : goal.infer_head-returns-in-Case
 infer_head-returns-in-Case t c =
@@ -235,7 +235,7 @@ infer_lam-infer-requires t c =
     let s = setting_in c.args.scene.now in
     let kinds = reverse c.args.kinds.now in
     let vars = c.args.vars.now.vars in
-    (omega (arith, c.decreases), subst (IsReady s kinds) (sym c.with_one-inner.ensures) (lam_ready s kinds vars c.args.ty.now c.in-Some.from c.requires c.in-Some.ensures))
+    (omega (arith, c.decreases), (subst (IsReady s kinds) (sym c.with_one-inner.ensures) (lam_ready s kinds vars c.args.ty.now c.in-Some.from c.requires.ready c.in-Some.ensures), c.requires.table))
 
 pub infer_lam-returns-in_default : goal.infer_lam-returns-in_default
 infer_lam-returns-in_default t c = lam_parameter c.args.ty.now c.in_default.ensures
@@ -256,7 +256,7 @@ infer_lam-returns-then-not-has_functions t c =
     let body = c.args.body.now in
     let a = c.args.ty.now in
     let typed = subst (λ vars. IsTyped s kinds vars body c.in-Some-2.to) c.with_one-inner.ensures (answer_some s kinds c.with_one-inner.result.vars body c.in_ok-to.field-0 c.in-Some-2.to c.in-Some-2.is c.in_ok-to.ensures) in
-    lam_kinds a c.in-Some.from c.in-Some-2.to (lam_ready s kinds vars a c.in-Some.from c.requires c.in-Some.ensures) c.in-Some.ensures.0 typed (sym c.has_functions.ensures ∙ c.if-not-has_functions.true)
+    lam_kinds a c.in-Some.from c.in-Some-2.to (lam_ready s kinds vars a c.in-Some.from c.requires.ready c.in-Some.ensures) c.in-Some.ensures.0 typed (sym c.has_functions.ensures ∙ c.if-not-has_functions.true)
 
 pub infer_lam-returns : goal.infer_lam-returns
 infer_lam-returns t c =
@@ -273,7 +273,7 @@ infer_ty_lam-infer-requires t c =
     let kinds = c.args.kinds.now in
     let vars = c.args.vars.now.vars in
     let more = inner_kinds kinds c.deref.result.now c.args.kind (c.deref.ensures.value ∙ c.in_ok-push.ensures.items ∙ ap (λ ks. ks ++ c.args.kind ∷ []) c.in_ok-inner.ensures.items) in
-    (omega (arith, c.decreases), ready_as s c.args.kind kinds vars (reverse c.deref.result.now) c.under_type-vars.result.vars more c.under_type-vars.ensures c.requires)
+    (omega (arith, c.decreases), (ready_as s c.args.kind kinds vars (reverse c.deref.result.now) c.under_type-vars.result.vars more c.under_type-vars.ensures c.requires.ready, c.requires.table))
 
 pub infer_ty_lam-returns-in_default : goal.infer_ty_lam-returns-in_default
 infer_ty_lam-returns-in_default t c =
@@ -293,7 +293,7 @@ infer_ty_lam-returns t c =
     let found = c.in-Some.of in
     let more = inner_kinds kinds c.deref.result.now c.args.kind (c.deref.ensures.value ∙ c.in_ok-push.ensures.items ∙ ap (λ ks. ks ++ c.args.kind ∷ []) c.in_ok-inner.ensures.items) in
     let typed = answer_some s (reverse c.deref.result.now) c.under_type-vars.result.vars body c.in_ok-of.field-0 found c.in-Some.is c.in_ok-of.ensures in
-    ty_lam_typed c.args.kind found _ (ready_under s (reverse kinds) c.args.vars.now.vars c.args.kind c.requires)
+    ty_lam_typed c.args.kind found _ (ready_under s (reverse kinds) c.args.vars.now.vars c.args.kind c.requires.ready)
     (subst (λ vars. IsTyped s (c.args.kind ∷ reverse kinds) vars body found) c.under_type-vars.ensures (subst (λ ks. IsTyped s ks c.under_type-vars.result.vars body found) more typed)) c.in_ok-ty.ensures refl
 
 -- letrecs
@@ -302,7 +302,7 @@ infer_letrec-infer-requires t c =
     let s = setting_in c.args.scene.now in
     let kinds = reverse c.args.kinds.now in
     let vars = c.args.vars.now.vars in
-    (omega (arith, c.decreases), subst (IsReady s kinds) (sym c.with_group-inner.ensures) (ready_more s kinds vars (types_of c.args.bindings.now) c.requires c.in-Some.ensures.typed))
+    (omega (arith, c.decreases), (subst (IsReady s kinds) (sym c.with_group-inner.ensures) (ready_more s kinds vars (types_of c.args.bindings.now) c.requires.ready c.in-Some.ensures.typed), c.requires.table))
 
 pub infer_letrec-returns-in_default : goal.infer_letrec-returns-in_default
 infer_letrec-returns-in_default t c = let_group c.args.bindings.now c.in_default.ensures
@@ -324,14 +324,14 @@ infer_letrec-returns-then-not-has_functions t c =
     let bs = c.args.bindings.now in
     let found = c.in-Some-2.found in
     let typed = subst (λ vars. IsTyped s kinds vars body found) c.with_group-inner.ensures (answer_some s kinds c.with_group-inner.result.vars body c.in_ok-found.field-0 found c.in-Some-2.is c.in_ok-found.ensures) in
-    let_kind bs c.in-Some.kind found (ready_more s kinds vars (types_of bs) c.requires c.in-Some.ensures.typed) c.in-Some.ensures typed (sym c.has_functions.ensures ∙ c.if-not-has_functions.true)
+    let_kind bs c.in-Some.kind found (ready_more s kinds vars (types_of bs) c.requires.ready c.in-Some.ensures.typed) c.in-Some.ensures typed (sym c.has_functions.ensures ∙ c.if-not-has_functions.true)
 
 pub infer_letrec-have_their_types-requires : goal.infer_letrec-have_their_types-requires
 infer_letrec-have_their_types-requires t c =
     let s = setting_in c.args.scene.now in
     let kinds = reverse c.args.kinds.now in
     let vars = c.args.vars.now.vars in
-    (omega (arith, c.decreases), subst (IsReady s kinds) (sym c.with_group-inner.ensures) (ready_more s kinds vars (types_of c.args.bindings.now) c.requires c.in-Some.ensures.typed))
+    (omega (arith, c.decreases), (subst (IsReady s kinds) (sym c.with_group-inner.ensures) (ready_more s kinds vars (types_of c.args.bindings.now) c.requires.ready c.in-Some.ensures.typed), c.requires.table))
 
 pub infer_letrec-returns-then-not-branch : goal.infer_letrec-returns-then-not-branch
 infer_letrec-returns-then-not-branch t c =
@@ -353,7 +353,7 @@ infer_letrec-returns t c =
 
 pub have_their_types-has_type-requires : goal.have_their_types-has_type-requires
 have_their_types-has_type-requires t c =
-    (omega (arith, c.decreases, binding_smaller c.args.bindings.now c.loop-b.b-index c.b-item.result _ c.loop-b-test.true c.b-item.is), c.requires)
+    (omega (arith, c.decreases, binding_smaller c.args.bindings.now c.loop-b.b-index c.b-item.result _ c.loop-b-test.true c.b-item.is), (c.requires.ready, c.requires.table))
 
 pub have_their_types-returns-then-not-branch : goal.have_their_types-returns-then-not-branch
 have_their_types-returns-then-not-branch t c =
@@ -373,14 +373,14 @@ have_their_types-returns t c =
     (λ y. each_all P c.args.bindings.now c.loop-b.b-index (omega (arith, c.loop-b-test.false)) c.loop-b.invariant, λ h. refl)
 
 pub has_type-infer-requires : goal.has_type-infer-requires
-has_type-infer-requires t c = (omega (arith, c.decreases), c.requires)
+has_type-infer-requires t c = (omega (arith, c.decreases), (c.requires.ready, c.requires.table))
 
 pub has_type-returns-in_ok-same-in-Some : goal.has_type-returns-in_ok-same-in-Some
 has_type-returns-in_ok-same-in-Some t c =
     let s = setting_in c.args.scene.now in
     let kinds = reverse c.args.kinds.now in
     let vars = c.args.vars.now.vars in
-    up_to_told c.args.ty.now c.in-Some.found c.in_ok-same-in-Some.field-0 c.requires
+    up_to_told c.args.ty.now c.in-Some.found c.in_ok-same-in-Some.field-0 c.requires.ready
     (answer_some s kinds vars c.args.term.now c.in_ok-found.field-0 c.in-Some.found c.in-Some.is c.in_ok-found.ensures) c.in_ok-same-in-Some.ensures
 
 pub has_type-returns-in-None : goal.has_type-returns-in-None
@@ -396,7 +396,7 @@ infer_vector-returns-in_default t c = vec_element c.args.ty.now c.args.elements.
 
 pub infer_vector-has_type-requires : goal.infer_vector-has_type-requires
 infer_vector-has_type-requires t c =
-    (omega (arith, c.decreases, term_smaller c.args.elements.now c.loop-e.e-index c.e-item.result _ c.loop-e-test.true c.e-item.is), c.requires)
+    (omega (arith, c.decreases, term_smaller c.args.elements.now c.loop-e.e-index c.e-item.result _ c.loop-e-test.true c.e-item.is), (c.requires.ready, c.requires.table))
 
 pub infer_vector-returns-then-not-branch : goal.infer_vector-returns-then-not-branch
 infer_vector-returns-then-not-branch t c =
@@ -418,7 +418,7 @@ infer_vector-returns t c =
 
 -- cases
 pub infer_case-infer-requires : goal.infer_case-infer-requires
-infer_case-infer-requires t c = (omega (arith, c.decreases), c.requires)
+infer_case-infer-requires t c = (omega (arith, c.decreases), (c.requires.ready, c.requires.table))
 
 pub infer_case-returns-in_default : goal.infer_case-returns-in_default
 infer_case-returns-in_default t c =
@@ -433,7 +433,7 @@ infer_case-returns-then-not-is_looked_at t c =
     let kinds = reverse c.args.kinds.now in
     let vars = c.args.vars.now.vars in
     let on = c.in-Some.on in
-    case_looked c.args.alts.now on c.requires (answer_some s kinds vars c.args.on.now c.in_ok-on.field-0 on c.in-Some.is c.in_ok-on.ensures)
+    case_looked c.args.alts.now on c.requires.ready (answer_some s kinds vars c.args.on.now c.in_ok-on.field-0 on c.in-Some.is c.in_ok-on.ensures)
     (looked_none on.ty (sym c.is_looked_at.ensures ∙ c.if-not-is_looked_at.true))
 
 pub infer_case-returns-then-not-branch : goal.infer_case-returns-then-not-branch
@@ -446,7 +446,7 @@ infer_case-infer_alts-requires t c =
     let kinds = reverse c.args.kinds.now in
     let vars = c.args.vars.now.vars in
     let typed = answer_some s kinds vars c.args.on.now c.in_ok-on.field-0 c.in-Some.on c.in-Some.is c.in_ok-on.ensures in
-    (omega (arith, c.decreases), (c.requires, typed.1))
+    (omega (arith, c.decreases), (c.requires.ready, (c.requires.table, typed.1)))
 
 pub infer_case-returns : goal.infer_case-returns
 infer_case-returns t c =
@@ -463,7 +463,7 @@ infer_case-returns t c =
 
 pub infer_alts-infer_alt-requires : goal.infer_alts-infer_alt-requires
 infer_alts-infer_alt-requires t c =
-    (omega (arith, c.decreases, alt_smaller c.args.alts.now c.loop-alt.alt-index c.alt-item.result _ c.loop-alt-test.true c.alt-item.is), (c.requires.ready, c.requires.on))
+    (omega (arith, c.decreases, alt_smaller c.args.alts.now c.loop-alt.alt-index c.alt-item.result _ c.loop-alt-test.true c.alt-item.is), (c.requires.ready, (c.requires.table, c.requires.on)))
 
 pub infer_alts-returns-in_default : goal.infer_alts-returns-in_default
 infer_alts-returns-in_default t c e d looked hidden =
@@ -505,7 +505,7 @@ infer_alts-returns t c e d looked hidden =
     together_told c.args.on.now c.args.alts.now c.loop-alt.alt-index c.loop-alt.given (omega (arith, c.loop-alt-test.false)) c.loop-alt.invariant d looked hidden
 
 pub infer_alt-bound_types-requires : goal.infer_alt-bound_types-requires
-infer_alt-bound_types-requires t c = record { sound = c.requires.ready.0; kinded = (c.args.on.now.kind, c.requires.on) }
+infer_alt-bound_types-requires t c = record { sound = c.requires.ready.0; table = c.requires.table; kinded = (c.args.on.now.kind, c.requires.on) }
 
 pub infer_alt-returns-in_default : goal.infer_alt-returns-in_default
 infer_alt-returns-in_default t c bound u b d =
@@ -525,7 +525,7 @@ infer_alt-infer-requires t c =
     let bound = c.in-Some.bound.items in
     let binds = of_some (BindsNothing s kinds on.ty q) (λ (bound : Vec TypeTree Global). Binds s kinds on.ty q bound.items) c.in_ok-bound.field-0 c.in-Some.bound c.in-Some.is c.in_ok-bound.ensures in
     let inner = c.with_fields-inner.ensures ∙ ap (λ ts. with_more ts vars) c.deref.ensures.value in
-    (omega (arith, c.decreases), subst (IsReady s kinds) (sym inner) (ready_more s kinds vars bound c.requires.ready binds.typed))
+    (omega (arith, c.decreases), (subst (IsReady s kinds) (sym inner) (ready_more s kinds vars bound c.requires.ready binds.typed), c.requires.table))
 
 pub infer_alt-returns : goal.infer_alt-returns
 infer_alt-returns t c =
