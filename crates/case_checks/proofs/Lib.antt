@@ -1,0 +1,10 @@
+pub mod Complete
+pub mod Covered
+pub mod Defs
+pub mod Handled
+pub mod Items
+pub mod LeftOut
+pub mod Lists
+pub mod NotKept
+pub mod Numbered
+pub mod Spines

@@ -1,0 +1,20 @@
+use Rattle.std.proofs.Common.{sym, ◌∙◌}
+use Rattle.std.proofs.lemmas.Bool.{false≢true}
+use Rattle.chw_terms.specs.TermView.{alts_of}
+use Rattle.case_checks.proofs.LeftOut.{constructor_left, default_left, missing_found}
+use Rattle.case_checks.proofs.alternatives.left_out.Goals as goal
+
+pub returns-in-Some-2 : goal.returns-in-Some-2
+returns-in-Some-2 c =
+    let datas = c.args.constructors.now in
+    let alts = c.args.alts.now in
+    let at = c.in-OfCon.at in
+    let missing = c.in-Some-2.missing in
+    constructor_left datas alts c.in-Some.first.now at c.in-OfCon.field-1 missing c.in-Some.ensures.value c.in-OfCon.is
+    (λ h. false≢true (sym c.if-has_default.false ∙ c.has_default.ensures.1 h))
+    (missing_found datas at.number (alts_of alts) c.in_ok-missing-in-OfCon.field-0 missing c.in-Some-2.is c.in_ok-missing-in-OfCon.ensures)
+
+pub returns-in-OfLit : goal.returns-in-OfLit
+returns-in-OfLit c =
+    default_left c.args.constructors.now c.args.alts.now c.in-Some.first.now c.in-OfLit.field-0 c.in-OfLit.field-1 c.in-Some.ensures.value c.in-OfLit.is
+    (λ h. false≢true (sym c.if-has_default.false ∙ c.has_default.ensures.1 h))

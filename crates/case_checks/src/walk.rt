@@ -1,0 +1,96 @@
+//! The first case of a term that leaves something out.
+ghost use Rattle.std.specs.Prelude.{IfOk};
+ghost use Rattle.chw_terms.specs.TermView.{tree_of};
+ghost use Rattle.case_checks.specs.Found.{IsFound, IsFoundInArg};
+
+use crate::alternatives::left_out;
+use crate::lacks::Lacks;
+use chw_base::NoMemory;
+use chw_terms::{Arg, Head, Term};
+use con_table::Constructors;
+use std::alloc::Global;
+
+/// What the first case of the term that leaves something out leaves out: an outer case comes before those in it, and else the order is that
+/// of the text.
+#[cycle(first_in)]
+pub(crate) fn first_in(
+    alloc: Global,
+    constructors: &Constructors<'_>,
+    t: &Term,
+) -> Result<Option<Lacks>, NoMemory>
+    ensures { IfOk result (IsFound constructors.now t.now) }
+{
+    if let Some(lacks) = first_in_head(alloc, constructors, &t.head)? {
+        return Ok(Some(lacks));
+    }
+    for arg in &t.args {
+        if let Some(lacks) = first_in_arg(alloc, constructors, arg)? {
+            return Ok(Some(lacks));
+        }
+    }
+    Ok(None)
+}
+
+#[cycle(first_in)]
+fn first_in_arg(
+    alloc: Global,
+    constructors: &Constructors<'_>,
+    arg: &Arg,
+) -> Result<Option<Lacks>, NoMemory>
+    ensures { IfOk result (IsFoundInArg constructors.now arg.now) }
+{
+    match arg {
+        Arg::OfTerm(e) => first_in(alloc, constructors, e),
+        Arg::OfType(_) => Ok(None),
+    }
+}
+
+#[cycle(first_in)]
+fn first_in_head(
+    alloc: Global,
+    constructors: &Constructors<'_>,
+    head: &Head,
+) -> Result<Option<Lacks>, NoMemory>
+    ensures { IfOk result (IsFound constructors.now (tree_of head.now)) }
+{
+    match head {
+        Head::Var(_) => Ok(None),
+        Head::Global(_) => Ok(None),
+        Head::Made(_) => Ok(None),
+        Head::Lam(_, body) => first_in(alloc, constructors, body),
+        Head::TyLam(_, body) => first_in(alloc, constructors, body),
+        Head::LetRec(bindings, body) => {
+            for binding in bindings {
+                if let Some(lacks) = first_in(alloc, constructors, &binding.body)? {
+                    return Ok(Some(lacks));
+                }
+            }
+            first_in(alloc, constructors, body)
+        }
+        Head::Con(_) => Ok(None),
+        Head::PrimOf(_) => Ok(None),
+        Head::Lit(_, _) => Ok(None),
+        Head::VecLit(_, elements) => {
+            for element in elements {
+                if let Some(lacks) = first_in(alloc, constructors, element)? {
+                    return Ok(Some(lacks));
+                }
+            }
+            Ok(None)
+        }
+        Head::Case(on, alts) => {
+            if let Some(lacks) = left_out(alloc, constructors, alts)? {
+                return Ok(Some(lacks));
+            }
+            if let Some(lacks) = first_in(alloc, constructors, on)? {
+                return Ok(Some(lacks));
+            }
+            for alternative in alts {
+                if let Some(lacks) = first_in(alloc, constructors, &alternative.body)? {
+                    return Ok(Some(lacks));
+                }
+            }
+            Ok(None)
+        }
+    }
+}
