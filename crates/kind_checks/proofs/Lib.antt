@@ -1,0 +1,5 @@
+pub mod EachItem
+pub mod Found
+pub mod Parts
+pub mod Smaller
+pub mod TypedFits

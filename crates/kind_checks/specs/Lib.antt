@@ -1,0 +1,5 @@
+pub mod Each
+pub mod Fits
+pub mod Laws
+pub mod Parts
+pub mod Unkinded
