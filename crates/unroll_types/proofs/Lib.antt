@@ -1,0 +1,17 @@
+pub mod Applied
+pub mod ByIndex
+pub mod Called
+pub mod Elements
+pub mod Folds
+pub mod Given
+pub mod Joins
+pub mod Kept
+pub mod Lets
+pub mod Makes
+pub mod Maps
+pub mod Places
+pub mod Replaces
+pub mod Shapes
+pub mod Shown
+pub mod Sized
+pub mod Unrolls
