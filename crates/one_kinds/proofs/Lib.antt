@@ -1,0 +1,4 @@
+pub mod Endless
+pub mod Items
+pub mod Loops
+pub mod Same
