@@ -1,0 +1,11 @@
+pub mod Assembled
+pub mod LeavesCounted
+pub mod DataOrder
+pub mod Lacking
+pub mod NoFault
+pub mod PortsLead
+pub mod Reaching
+pub mod TestCounts
+pub mod Told
+pub mod TopsTold
+pub mod TypesTold

@@ -1,0 +1,5 @@
+pub mod Bodies
+pub mod Counting
+pub mod Faults
+pub mod Names
+pub mod Tops

@@ -1,0 +1,54 @@
+//! The first definition whose body hasn't its declared type.
+ghost use Rattle.std.specs.Prelude.{◌≡◌, IfOk, MatchBool, MatchOption};
+ghost use Rattle.chw_check.specs.Bodies.{AllHaveTheirTypes, IsFirstUntyped};
+ghost use Rattle.chw_typing.specs.Programs.{HasItsType, IsSound, setting_of};
+
+use chw_base::NoMemory;
+use chw_terms::{Def, Program, Scene};
+use chw_types::same;
+use chw_typing::laws::one_type;
+use con_table::Constructors;
+use std::alloc::Global;
+use term_types::type_of;
+
+/// The first definition of a program whose body has no type, or another than the declared one; nothing where there is none.
+pub(crate) fn first_untyped<'p>(
+    alloc: Global,
+    program: &'p Program,
+    constructors: &Constructors,
+) -> Result<Option<&'p Def>, NoMemory>
+    requires sound { IsSound (setting_of program.now) }
+    requires table { constructors.now ≡ program.now.datas }
+    ensures { IfOk result (λ first. MatchOption first (AllHaveTheirTypes program.now) (λ it. IsFirstUntyped program.now it.now)) }
+{
+    for it in program.defs.as_slice() {
+        if !has_its_type(alloc, program, constructors, it)? {
+            return Ok(Some(it));
+        }
+    }
+    Ok(None)
+}
+
+/// Whether the body of a definition has the declared type, up to naturals.
+fn has_its_type(
+    alloc: Global,
+    program: &Program,
+    constructors: &Constructors,
+    it: &Def,
+) -> Result<bool, NoMemory>
+    requires sound { IsSound (setting_of program.now) }
+    requires table { constructors.now ≡ program.now.datas }
+    ensures { IfOk result (λ r. MatchBool r (HasItsType program.now it.now) (HasItsType program.now it.now → ⊥)) }
+{
+    one_type();
+    let scene = Scene { program, made: &[] };
+    let found = type_of(alloc, &scene, constructors, &[], &[], &it.body);
+    let Scene {
+        program: _,
+        made: _,
+    } = scene;
+    match found? {
+        Some(ty) => same(alloc, &it.ty, &ty),
+        None => Ok(false),
+    }
+}

@@ -1,0 +1,48 @@
+//! Copies of the names of declarations.
+ghost use Rattle.std.specs.Prelude.{◌≡◌, ◌<◌, length, IfOk, IsSome};
+ghost use Rattle.chw_check.specs.Names.{IsConName, IsDataName, IsDefName};
+ghost use Rattle.chw_terms.specs.Constructors.{con_at};
+
+use chw_base::{ConId, DataId, DefId, Name, NoMemory};
+use chw_terms::Def;
+use chw_types::Data;
+use con_table::Constructors;
+use std::alloc::Global;
+
+/// A name of these bytes.
+pub(crate) fn copied(alloc: Global, bytes: &[u8]) -> Result<Name, NoMemory>
+    ensures { IfOk result (λ name. name ≡ bytes.now) }
+{
+    Ok(Name::from(Vec::from_slice(alloc, bytes)?))
+}
+
+/// The name of a data type.
+pub(crate) fn data_name(alloc: Global, datas: &[Data], at: DataId) -> Result<Name, NoMemory>
+    requires { at.number < length datas.now }
+    ensures { IfOk result (IsDataName datas.now at.number) }
+{
+    copied(alloc, datas[at.number as usize].name.as_slice())
+}
+
+/// The name of a definition.
+pub(crate) fn def_name(alloc: Global, defs: &[Def], at: DefId) -> Result<Name, NoMemory>
+    requires { at.number < length defs.now }
+    ensures { IfOk result (IsDefName defs.now at.number) }
+{
+    copied(alloc, defs[at.number as usize].name.as_slice())
+}
+
+/// The name of a constructor.
+pub(crate) fn con_name(
+    alloc: Global,
+    constructors: &Constructors,
+    at: ConId,
+) -> Result<Name, NoMemory>
+    requires { IsSome (con_at constructors.now at.number) }
+    ensures { IfOk result (IsConName constructors.now at.number) }
+{
+    match constructors.at(at) {
+        Some(con) => copied(alloc, con.decl.name.as_slice()),
+        None => unreachable!(),
+    }
+}

@@ -1,0 +1,36 @@
+//! Whether a type is that of a top.
+ghost use Rattle.std.specs.Prelude.{IfOk, MatchBool};
+ghost use Rattle.chw_types.specs.References.{HasNoCycle};
+ghost use Rattle.chw_typing.specs.Programs.{LeadsToPort};
+
+use crate::counting::leaf_count;
+use chw_base::NoMemory;
+use chw_types::{Data, Ty, TyNode};
+use std::alloc::Global;
+
+/// Whether a type leads from ports, with so many leaves together, to a port with so many leaves.
+pub(crate) fn leads_to_port(
+    alloc: Global,
+    datas: &[Data],
+    ty: &Ty,
+    inputs: usize,
+    outputs: usize,
+) -> Result<bool, NoMemory>
+    requires { HasNoCycle datas.now }
+    ensures { IfOk result (λ r. MatchBool r (LeadsToPort datas.now ty.now inputs outputs) (LeadsToPort datas.now ty.now inputs outputs → ⊥)) }
+{
+    let mut rest = ty;
+    // How many leaves the parameters that are left have together.
+    let mut left = inputs;
+    while let TyNode::Fun(from, to) = &rest.node {
+        let Some(count) = leaf_count(alloc, from, datas, left)? else {
+            return Ok(false);
+        };
+        left -= count;
+        rest = to;
+    }
+    match leaf_count(alloc, rest, datas, outputs)? {
+        Some(count) => Ok(left == 0 && count == outputs),
+        None => Ok(false),
+    }
+}
