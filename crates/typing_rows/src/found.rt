@@ -1,0 +1,103 @@
+//! The types of the bodies of a text's definitions.
+ghost use Rattle.std.specs.Prelude.{◌≡◌, IfSome};
+ghost use Rattle.chw_terms.specs.Tidy.{IsTidy};
+ghost use Rattle.chw_typing.specs.Programs.{IsSound, setting_of};
+
+use chw_lexer::lex;
+use chw_parser::parse;
+use chw_resolve::resolve;
+use chw_terms::{Def, Program, Scene};
+use chw_types::{Ty, type_text};
+use con_table::Constructors;
+use kind_checks::first_unkinded;
+use kind_checks::laws::what_fits_is_sound;
+use std::alloc::{AllocError, Global};
+use term_types::type_of;
+
+/// The program of a text, where it has one.
+fn program(alloc: Global, text: &[u8]) -> Option<Program>
+    ensures { IfSome result IsTidy }
+{
+    if text.len() > 1_048_576 {
+        return None;
+    }
+    let Ok(tokens) = lex(alloc, text) else {
+        return None;
+    };
+    let Ok(tree) = parse(alloc, text, tokens.as_slice()) else {
+        return None;
+    };
+    match resolve(alloc, &tree) {
+        Ok(program) => Some(program),
+        Err(_) => None,
+    }
+}
+
+/// The types of the bodies of a text's definitions in order, each with `;` behind it, and `none` for a body without a type.
+pub(crate) fn types(alloc: Global, text: &[u8]) -> Result<String, AllocError> {
+    let Some(program) = program(alloc, text) else {
+        return format!(in alloc; "no program");
+    };
+    what_fits_is_sound();
+    match first_unkinded(alloc, &program) {
+        Ok(None) => listed(alloc, &program),
+        _ => format!(in alloc; "a type without a kind"),
+    }
+}
+
+/// The same of a program.
+fn listed(alloc: Global, program: &Program) -> Result<String, AllocError>
+    requires { IsSound (setting_of program.now) }
+{
+    let mut text = String::new(alloc);
+    let Ok(constructors) = Constructors::of(alloc, program.datas.as_slice()) else {
+        return Err(AllocError);
+    };
+    for it in program.defs.as_slice() {
+        add_type(alloc, program, &constructors, it, &mut text)?;
+    }
+    Ok(text)
+}
+
+/// Adds the type of a definition's body.
+fn add_type(
+    alloc: Global,
+    program: &Program,
+    constructors: &Constructors<'_>,
+    it: &Def,
+    text: &mut String,
+) -> Result<(), AllocError>
+    requires sound { IsSound (setting_of program.now) }
+    requires table { constructors.now ≡ program.now.datas }
+{
+    let scene = Scene { program, made: &[] };
+    let found = type_of(alloc, &scene, constructors, &[], &[], &it.body);
+    let Scene { program: _, made: _ } = scene;
+    match found {
+        Ok(Some(ty)) => add_text(alloc, program, &ty, text)?,
+        Ok(None) => text.push_str("none")?,
+        Err(_) => return Err(AllocError),
+    }
+    text.push(';')
+}
+
+/// Adds the text of a type.
+fn add_text(
+    alloc: Global,
+    program: &Program,
+    ty: &Ty,
+    text: &mut String,
+) -> Result<(), AllocError> {
+    let Ok(name) = type_text(
+        alloc,
+        ty,
+        program.datas.as_slice(),
+        program.domains.as_slice(),
+    ) else {
+        return Err(AllocError);
+    };
+    for byte in name.as_slice() {
+        text.push(char::from(*byte))?;
+    }
+    Ok(())
+}
