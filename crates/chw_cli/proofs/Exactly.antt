@@ -10,10 +10,10 @@ use Rattle.chw_base.specs.declared.shelf.Fetched.{Fetched}
 use Rattle.chw_base.specs.declared.shelf.Fetched.TheVariants.{Whole, TooLong, Absent}
 use Rattle.chw_base.specs.declared.shelf.ShelfFault.{ShelfFault}
 use Rattle.chw_base.specs.declared.sink.SinkFault.{SinkFault}
-use Rattle.chw_cli.specs.Answer.{Answer, CommandAnswer, EmitAnswer, HasFewWires, HasNoLoop, IsUnread, Source, TextAnswer, file_read}
+use Rattle.chw_cli.specs.Answer.{Answer, CommandAnswer, EmitAnswer, HasFewWires, HasNoLoop, HasProgram, IsUnread, Source, TextAnswer, file_read}
 use Rattle.chw_cli.specs.Answer.Answer.{no_command, unread as not_read, long_text, text as of_text}
 use Rattle.chw_cli.specs.Answer.EmitAnswer.{form, too_large, loops, emitted}
-use Rattle.chw_cli.specs.Answer.TextAnswer.{no_description, wrong_names, description}
+use Rattle.chw_cli.specs.Answer.TextAnswer.{no_description, wrong_names, wrong_types, description}
 use Rattle.chw_cli.specs.Descriptions.{IsDescription, NoDescription}
 use Rattle.chw_cli.specs.Descriptions.NoDescription.{lex, syntax, depth}
 use Rattle.chw_cli.specs.Exact.{BreaksNothing, SuitsCommand, Ends, IsExact, IsUsed}
@@ -27,9 +27,14 @@ use Rattle.chw_cli.specs.declared.refusal.Refusal.TheVariants as refusal
 use Rattle.chw_cli.specs.declared.status.Status.{Status}
 use Rattle.chw_cli.specs.declared.status.Status.TheVariants as status
 use Rattle.chw_cli.proofs.Asking.{AskSays, FetchSays}
+use Rattle.chw_check.specs.Faults.{IsTypeFault}
+use Rattle.chw_check.specs.declared.fault.TypeFault.{TypeFault}
 use Rattle.chw_grammar.specs.declared.program.Tree.{Tree}
 use Rattle.chw_resolve.specs.Faults.{IsNameFault, IsWellNamed}
 use Rattle.chw_resolve.specs.declared.fault.NameFault.{NameFault}
+use Rattle.chw_terms.specs.Tidy.{IsTidy}
+use Rattle.chw_terms.specs.declared.program.Program.{Program}
+use Rattle.chw_typing.specs.Programs.{IsTyped}
 use Rattle.chw_words.specs.Commands.{IsCommand, AreNoCommand}
 use Rattle.chw_words.specs.declared.command.Command.{Command}
 use Rattle.chw_words.specs.declared.command.Command.TheVariants.{Emit, Check}
@@ -37,6 +42,7 @@ use Rattle.flat_form.specs.Grammar.{IsFlatText}
 use Rattle.flat_form.specs.declared.flat.FlatText.{FlatText}
 use Rattle.flat_law.specs.FlatOf.{flat_of}
 use Rattle.netlist.specs.Orders.{IsLoop}
+use Rattle.one_kinds.specs.Laws.{OneProgram}
 
 -- words are at most one command, a text is at most one flat description, and a description has no fault
 abbrev pub OneCommand : Type 0
@@ -48,12 +54,20 @@ OneFlatText = (text : List ℕ) (f g : FlatText) → IsFlatText text f → IsFla
 abbrev pub HasNoFault : Type 0
 HasNoFault = (text : List ℕ) (tree : Tree) (r : Refusal) → IsDescription text tree → NoDescription text r → ⊥
 
--- a text has at most one description, and one whose names are as they should be has no fault of names
+-- a text has at most one description; one whose names are as they should be has no fault of names, and a program that is typed has none of types
 abbrev pub OneDescription : Type 0
 OneDescription = (text : List ℕ) (a b : Tree) → IsDescription text a → IsDescription text b → a ≡ b
 
 abbrev pub HasNoNameFault : Type 0
 HasNoNameFault = (tree : Tree) (fault : NameFault) → IsWellNamed tree → IsNameFault tree fault → ⊥
+
+abbrev pub HasNoTypeFault : Type 0
+HasNoTypeFault = (p : Program) (fault : TypeFault) → IsTidy p → IsTyped p → IsTypeFault p fault → ⊥
+
+-- a description has one program
+pub one_program_of : OneProgram → (tree : Tree) (p q : Program) → HasProgram tree p → HasProgram tree q → p ≡ q
+one_program_of one tree p q w v =
+    one p q (w.is.domains ∙ sym v.is.domains) (v.is.datas ∙ sym w.is.datas) (w.is.defs ∙ sym v.is.defs) (w.is.top ∙ sym v.is.top) w.tidy v.tidy
 
 -- a description that breaks no restriction isn't refused
 flat_is_emitted : OneFlatText → (text : List ℕ) (r : Refusal) → SuitsCommand (Emit text 0) text → EmitAnswer text (Err r) → ⊥
@@ -70,15 +84,18 @@ command_answers : OneFlatText → (command : Command) (text : List ℕ) (tree : 
 command_answers one (Emit file budget) text tree r b a = flat_is_emitted one text r b a
 command_answers one (Check file) text tree r b a = absurd (cc)
 
-text_answers : OneFlatText → HasNoFault → OneDescription → HasNoNameFault → (command : Command) (text : List ℕ) (tree : Tree) (r : Refusal)
+text_answers : OneFlatText → HasNoFault → OneDescription → HasNoNameFault → OneProgram → HasNoTypeFault → (command : Command) (text : List ℕ) (tree : Tree) (r : Refusal)
     → IsDescription text tree → BreaksNothing command text tree
     → TextAnswer command text (Err r) → ⊥
-text_answers one sound same named command text tree r d b a = only refl a
+text_answers one sound same named alone typed command text tree r d b a = only refl a
   where
     only : {answer : Result (List ℕ) Refusal} → answer ≡ Err r → TextAnswer command text answer → ⊥
     only e (no_description q n) = sound text tree q d n
-    only e (wrong_names t fault d' is) = named tree fault b.names (subst (λ (x : Tree). IsNameFault x fault) (same text t tree d' d) is)
-    only e (description t answer d' w c) = command_answers one command text t r b.suits (subst (CommandAnswer command text t) e c)
+    only e (wrong_names t fault d' is) = named tree fault b.is.named (subst (λ (x : Tree). IsNameFault x fault) (same text t tree d' d) is)
+    only e (wrong_types t p fault d' w is) =
+        let w' = subst (λ (x : Tree). HasProgram x p) (same text t tree d' d) w in
+        typed p fault w.tidy (subst IsTyped (one_program_of alone tree b.program p b.is w') b.typed) is
+    only e (description t p answer d' w typed' c) = command_answers one command text t r b.suits (subst (CommandAnswer command text t) e c)
 
 -- the refusal of a text has one status
 fault_status : (text : List ℕ) (r : Refusal) → NoDescription text r → status_of r ≡ status.Refused
@@ -105,7 +122,8 @@ text_status command text r a = only refl a
     only : {answer : Result (List ℕ) Refusal} → answer ≡ Err r → TextAnswer command text answer → status_of r ≡ status.Refused
     only e (no_description q n) = let is : q ≡ r = cc in subst (λ q. status_of q ≡ status.Refused) is (fault_status text q n)
     only e (wrong_names t fault d n) = let is : refusal.Names fault ≡ r = cc in sym (ap status_of is)
-    only e (description t answer d w c) = command_status command text t r (subst (CommandAnswer command text t) e c)
+    only e (wrong_types t p fault d w n) = let is : refusal.Types fault ≡ r = cc in sym (ap status_of is)
+    only e (description t p answer d w typed c) = command_status command text t r (subst (CommandAnswer command text t) e c)
 
 module _ (told : Option Files) (words : List (List ℕ)) (ShelfRose : Type 0) where
   -- the file of the command is held, by what was read of it
@@ -170,7 +188,7 @@ module _ (told : Option Files) (words : List (List ℕ)) (ShelfRose OutRose OutS
       ended (Fault f) rose (inl e) = write bytes (cause_of (Ok bytes) a) rose e
       ended (Fault f) rose (inr e) = memory e
 
-module _ (told : Option Files) (words : List (List ℕ)) (ShelfRose OutRose : Type 0) (once : OneCommand) (one : OneFlatText) (sound : HasNoFault) (same_trees : OneDescription) (named : HasNoNameFault) (s : Status) where
+module _ (told : Option Files) (words : List (List ℕ)) (ShelfRose OutRose : Type 0) (once : OneCommand) (one : OneFlatText) (sound : HasNoFault) (same_trees : OneDescription) (named : HasNoNameFault) (alone : OneProgram) (typed : HasNoTypeFault) (s : Status) where
   -- an answer to words that are a command has a cause in its file
   words_wrong : Reason told words ShelfRose OutRose s → s ≡ status.Words → AreNoCommand words
   words_wrong (ok bytes c e) is = absurd (cc)
@@ -245,6 +263,7 @@ module _ (told : Option Files) (words : List (List ℕ)) (ShelfRose OutRose : Ty
   used_by (refusal.Syntax at) = tt
   used_by refusal.Depth = tt
   used_by (refusal.Names fault) = tt
+  used_by (refusal.Types fault) = tt
   used_by refusal.Form = tt
   used_by refusal.TooLarge = tt
   used_by (refusal.Loop cycle) = tt
@@ -273,7 +292,7 @@ module _ (told : Option Files) (words : List (List ℕ)) (ShelfRose OutRose : Ty
       let commands = once words command other is h in
       let same = ap (λ c. file_of files (file_read c)) commands in let some = held' files t in
       let texts : text' ≡ text = cc in
-      absurd (text_answers one sound same_trees named command text tree r d b (subst (λ x. TextAnswer command x (Err r)) texts (subst (λ c. TextAnswer c text' (Err r)) (sym commands) a)))
+      absurd (text_answers one sound same_trees named alone typed command text tree r d b (subst (λ x. TextAnswer command x (Err r)) texts (subst (λ c. TextAnswer c text' (Err r)) (sym commands) a)))
   complete (write bytes c rose e) files command text tree t is held le d b shelf out = absurd (out rose)
   complete (memory e) files command text tree t is held le d b shelf out = inr e
 

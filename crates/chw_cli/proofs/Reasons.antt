@@ -3,15 +3,15 @@ use Rattle.std.proofs.Common.{◌≡◌, ℕ, List, Result, Ok, Err, refl, ap, s
 use Rattle.chw_base.specs.Outcome.{OfFault}
 use Rattle.chw_base.specs.declared.outcome.Or.{Or}
 use Rattle.chw_base.specs.declared.outcome.Or.TheVariants.{Memory, Fault}
-use Rattle.chw_cli.specs.Answer.{IsUnread, Source, TextAnswer, CommandAnswer, file_read}
+use Rattle.chw_cli.specs.Answer.{HasProgram, IsUnread, Source, TextAnswer, CommandAnswer, file_read}
 use Rattle.chw_cli.specs.Answer.Answer.{no_command, unread as not_read, text as of_text}
 use Rattle.chw_cli.specs.Answer.Source.{nothing, fetched}
-use Rattle.chw_cli.specs.Answer.TextAnswer.{no_description, wrong_names, description}
+use Rattle.chw_cli.specs.Answer.TextAnswer.{no_description, wrong_names, wrong_types, description}
 use Rattle.chw_cli.specs.Descriptions.{IsDescription, NoDescription}
 use Rattle.chw_cli.specs.Descriptions.NoDescription.{lex, syntax, depth}
 use Rattle.chw_cli.specs.Outcome.{AnswersBy, Refuses}
 use Rattle.chw_cli.specs.Outcome.Refuses.{for_memory, by_answer}
-use Rattle.chw_cli.specs.Refusals.{RefusesCommand, RefusesReading, RefusesText, of_lex_fault, of_name_fault, of_parse_fault, of_words_fault}
+use Rattle.chw_cli.specs.Refusals.{RefusesCommand, RefusesReading, RefusesText, of_lex_fault, of_name_fault, of_parse_fault, of_type_fault, of_words_fault}
 use Rattle.chw_cli.specs.declared.refusal.Refusal.{Refusal}
 use Rattle.chw_cli.specs.declared.refusal.Refusal.TheVariants as refusal
 use Rattle.chw_cli.specs.Unread.{IsTold}
@@ -26,9 +26,13 @@ use Rattle.chw_lexer.specs.declared.token.Token.{Token}
 use Rattle.chw_parser.specs.Faults.{IsFault}
 use Rattle.chw_parser.specs.declared.parsing.ParseFault.{ParseFault}
 use Rattle.chw_parser.specs.declared.parsing.ParseFault.TheVariants.{Syntax, Depth}
-use Rattle.chw_resolve.specs.Faults.{IsNameFault, IsWellNamed}
+use Rattle.chw_check.specs.Faults.{IsTypeFault}
+use Rattle.chw_check.specs.declared.fault.TypeFault.{TypeFault}
+use Rattle.chw_resolve.specs.Faults.{IsNameFault}
 use Rattle.chw_resolve.specs.Written.{WasRead}
 use Rattle.chw_resolve.specs.declared.fault.NameFault.{NameFault}
+use Rattle.chw_terms.specs.declared.program.Program.{Program}
+use Rattle.chw_typing.specs.Programs.{IsTyped}
 use Rattle.chw_words.specs.Commands.{IsCommand, AreNoCommand}
 use Rattle.chw_words.specs.declared.command.Command.{Command}
 use Rattle.chw_words.specs.declared.command.WordsFault.{WordsFault}
@@ -57,20 +61,24 @@ pub names_refuse : (command : Command) (text : List ℕ) (tree : Tree) (e : Or N
 names_refuse command text tree Memory d h = inl refl
 names_refuse command text tree (Fault f) d h = inr (wrong_names tree f d h)
 
-pub command_refuses : (command : Command) (text : List ℕ) (tree : Tree) (r : Refusal) → IsDescription text tree → IsWellNamed tree
-    → RefusesCommand command text tree r → RefusesText command text r
-command_refuses command text tree r d w (inl is) = inl is
-command_refuses command text tree r d w (inr a) = inr (description tree (Err r) d w a)
+pub types_refuse : (command : Command) (text : List ℕ) (tree : Tree) (p : Program) (e : Or TypeFault) → IsDescription text tree → HasProgram tree p
+    → OfFault e (IsTypeFault p) → RefusesText command text (of_type_fault e)
+types_refuse command text tree p Memory d w h = inl refl
+types_refuse command text tree p (Fault f) d w h = inr (wrong_types tree p f d w h)
 
-pub command_ok : (command : Command) (text : List ℕ) (tree : Tree) (r : Result (Vec ℕ Global) Refusal) → IsDescription text tree → IsWellNamed tree
-    → IfOk r (λ v. CommandAnswer command text tree (Ok v.items)) → IfOk r (λ v. TextAnswer command text (Ok v.items))
-command_ok command text tree (Ok v) d w a = description tree (Ok v.items) d w a
-command_ok command text tree (Err e) d w a = tt
+module _ (command : Command) (text : List ℕ) (tree : Tree) (p : Program) (d : IsDescription text tree) (w : HasProgram tree p) (typed : IsTyped p) where
+  command_refuses : (r : Refusal) → RefusesCommand command text tree r → RefusesText command text r
+  command_refuses r (inl is) = inl is
+  command_refuses r (inr a) = inr (description tree p (Err r) d w typed a)
 
-pub command_err : (command : Command) (text : List ℕ) (tree : Tree) (r : Result (Vec ℕ Global) Refusal) → IsDescription text tree → IsWellNamed tree
-    → IfErr r (RefusesCommand command text tree) → IfErr r (RefusesText command text)
-command_err command text tree (Ok v) d w a = tt
-command_err command text tree (Err e) d w a = command_refuses command text tree e d w a
+  pub command_ok : (r : Result (Vec ℕ Global) Refusal) → IfOk r (λ v. CommandAnswer command text tree (Ok v.items))
+      → IfOk r (λ v. TextAnswer command text (Ok v.items))
+  command_ok (Ok v) a = description tree p (Ok v.items) d w typed a
+  command_ok (Err e) a = tt
+
+  pub command_err : (r : Result (Vec ℕ Global) Refusal) → IfErr r (RefusesCommand command text tree) → IfErr r (RefusesText command text)
+  command_err (Ok v) a = tt
+  command_err (Err e) a = command_refuses e a
 
 module _ (Asked : Source → Type 0) (words : List (List ℕ)) where
   -- memory, where this was asked

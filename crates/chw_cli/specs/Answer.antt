@@ -13,11 +13,16 @@ use Rattle.chw_clock.specs.Histories.{FitsPorts}
 use Rattle.chw_clock.specs.declared.event.Event.{Event}
 use Rattle.chw_cli.specs.Descriptions.{IsDescription, NoDescription}
 use Rattle.chw_cli.specs.declared.refusal.Refusal.{Refusal}
-use Rattle.chw_cli.specs.declared.refusal.Refusal.TheVariants.{Words, Read, LongText, Names, Form, TooLarge, Loop}
+use Rattle.chw_cli.specs.declared.refusal.Refusal.TheVariants.{Words, Read, LongText, Names, Types, Form, TooLarge, Loop}
+use Rattle.chw_check.specs.Faults.{IsTypeFault}
+use Rattle.chw_check.specs.declared.fault.TypeFault.{TypeFault}
 use Rattle.chw_grammar.specs.declared.program.Tree.{Tree}
 use Rattle.chw_grammar.specs.Text.{Text}
 use Rattle.chw_resolve.specs.Faults.{IsNameFault, IsWellNamed}
 use Rattle.chw_resolve.specs.declared.fault.NameFault.{NameFault}
+use Rattle.chw_terms.specs.Tidy.{IsTidy}
+use Rattle.chw_terms.specs.declared.program.Program.{Program}
+use Rattle.chw_typing.specs.Programs.{IsTyped}
 use Rattle.chw_words.specs.Commands.{IsCommand, AreNoCommand}
 use Rattle.chw_words.specs.declared.command.Command.{Command}
 use Rattle.chw_words.specs.declared.command.Command.TheVariants.{Emit, Check}
@@ -27,6 +32,7 @@ use Rattle.flat_form.specs.declared.flat.FlatText.{FlatText}
 use Rattle.flat_law.specs.FlatOf.{flat_of, SameBits}
 use Rattle.netlist.specs.Orders.{IsLoop}
 use Rattle.netlist.specs.Text.{net_text}
+use Rattle.tree_program.specs.Programs.{IsProgramOf}
 
 -- at every history of its ports the net of the description has, on its output, the bits that the description means
 abbrev pub HasTheBits : FlatText → Type 0
@@ -53,7 +59,13 @@ pub data EmitAnswer (text : List ℕ) : Result (List ℕ) Refusal → Type 0 whe
   loops : (f : FlatText) (cycle : List WireId) → IsFlatText text f → HasFewWires f → IsLoop (flat_of f) cycle → EmitAnswer text (Err (Loop cycle))
   emitted : (f : FlatText) → IsFlatText text f → CanBeEmitted f → EmitAnswer text (Ok (net_text (net_of f)))
 
--- the answer of a command to a description whose names are as they should be
+-- the names of the description are as they should be, and this is its program: the one that is tidy
+pub record HasProgram (tree : Tree) (p : Program) : Type 0 where
+  pub named : IsWellNamed tree
+  pub is : IsProgramOf tree p
+  pub tidy : IsTidy p
+
+-- the answer of a command to a description that is typed
 abbrev pub CommandAnswer : Command → List ℕ → Tree → Result (List ℕ) Refusal → Type 0
 CommandAnswer (Emit file budget) text tree answer = EmitAnswer text answer
 CommandAnswer (Check file) text tree answer = answer ≡ Ok (Text tree)
@@ -62,8 +74,10 @@ CommandAnswer (Check file) text tree answer = answer ≡ Ok (Text tree)
 pub data TextAnswer (command : Command) (text : List ℕ) : Result (List ℕ) Refusal → Type 0 where
   no_description : (r : Refusal) → NoDescription text r → TextAnswer command text (Err r)
   wrong_names : (tree : Tree) (fault : NameFault) → IsDescription text tree → IsNameFault tree fault → TextAnswer command text (Err (Names fault))
-  description : (tree : Tree) (answer : Result (List ℕ) Refusal) → IsDescription text tree → IsWellNamed tree → CommandAnswer command text tree answer
-      → TextAnswer command text answer
+  wrong_types : (tree : Tree) (p : Program) (fault : TypeFault) → IsDescription text tree → HasProgram tree p → IsTypeFault p fault
+      → TextAnswer command text (Err (Types fault))
+  description : (tree : Tree) (p : Program) (answer : Result (List ℕ) Refusal) → IsDescription text tree → HasProgram tree p → IsTyped p
+      → CommandAnswer command text tree answer → TextAnswer command text answer
 
 -- the file that a command reads
 abbrev pub file_read : Command → List ℕ

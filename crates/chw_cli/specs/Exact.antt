@@ -2,12 +2,13 @@
 use Rattle.std.specs.Prelude.{◌≡◌, ◌≤◌, ℕ, List, length, Option, Some, None, ◌⊎◌, IsSomeAnd}
 use Rattle.chw_base.specs.Files.{Files, file_of}
 use Rattle.chw_base.specs.declared.limits.TheConstants.{DESCRIPTION_BYTES}
-use Rattle.chw_cli.specs.Answer.{HasFewWires, HasNoLoop, file_read}
+use Rattle.chw_cli.specs.Answer.{HasFewWires, HasNoLoop, HasProgram, file_read}
 use Rattle.chw_cli.specs.Descriptions.{IsDescription}
 use Rattle.chw_cli.specs.declared.status.Status.{Status}
 use Rattle.chw_cli.specs.declared.status.Status.TheVariants as status
 use Rattle.chw_grammar.specs.declared.program.Tree.{Tree}
-use Rattle.chw_resolve.specs.Faults.{IsWellNamed}
+use Rattle.chw_terms.specs.declared.program.Program.{Program}
+use Rattle.chw_typing.specs.Programs.{IsTyped}
 use Rattle.chw_words.specs.Commands.{IsCommand, AreNoCommand}
 use Rattle.chw_words.specs.declared.command.Command.{Command}
 use Rattle.chw_words.specs.declared.command.Command.TheVariants.{Emit, Check}
@@ -31,9 +32,11 @@ abbrev pub SuitsCommand : Command → List ℕ → Type 0
 SuitsCommand (Emit file budget) text = (f : FlatText) × IsFlatText text f × HasFewWires f × HasNoLoop f
 SuitsCommand (Check file) text = Unit {0}
 
--- the description breaks no restriction: its names are as they should be, and it breaks none of the command
+-- the description breaks no restriction: it has a program, which is typed, and it breaks none of the command
 pub record BreaksNothing (command : Command) (text : List ℕ) (tree : Tree) : Type 0 where
-  pub names : IsWellNamed tree
+  pub program : Program
+  pub is : HasProgram tree program
+  pub typed : IsTyped program
   pub suits : SuitsCommand command text
 
 -- by the files where they are told, the words, and whether the faults of the shelf and of `out` rose

@@ -3,8 +3,10 @@ use Rattle.std.specs.Prelude.{ℕ, List, ◌++◌, codes, decimal}
 use Rattle.std.specs.List.{flat_map}
 use Rattle.chw_base.specs.declared.index.WireId.{WireId}
 use Rattle.chw_cli.specs.declared.refusal.Refusal.{Refusal}
-use Rattle.chw_cli.specs.declared.refusal.Refusal.TheVariants.{Words, Read, LongText, Lex, Syntax, Depth, Names, Form, TooLarge, Loop, Write, Memory}
+use Rattle.chw_cli.specs.declared.refusal.Refusal.TheVariants.{Words, Read, LongText, Lex, Syntax, Depth, Names, Types, Form, TooLarge, Loop, Write, Memory}
 use Rattle.chw_cli.specs.declared.status.Status.{Status}
+use Rattle.chw_check.specs.declared.fault.TypeFault.{TypeFault}
+use Rattle.chw_check.specs.declared.fault.TypeFault.TheVariants.{Kind, Typing, Missing, NoDefault, NotPorts}
 use Rattle.chw_limits.specs.Limits.{word_of}
 use Rattle.chw_resolve.specs.declared.fault.NameFault.{NameFault}
 use Rattle.chw_resolve.specs.declared.fault.NameFault.TheVariants.{Limit, Twice, Unknown, DataCycle, DefCycle}
@@ -29,6 +31,7 @@ status_of (Lex at) = status.Refused
 status_of (Syntax at) = status.Refused
 status_of Depth = status.Refused
 status_of (Names fault) = status.Refused
+status_of (Types fault) = status.Refused
 status_of Form = status.Refused
 status_of TooLarge = status.Refused
 status_of (Loop cycle) = status.Refused
@@ -59,6 +62,18 @@ fault_line (Unknown name at) = name_line (codes "chw: E05 unknown ") name at
 fault_line (DataCycle names) = circle_line (codes "chw: E07 data cycle") names
 fault_line (DefCycle names) = circle_line (codes "chw: E10 cycle") names
 
+-- words, a name or a type, and a line feed
+abbrev pub words_line : List ℕ → List ℕ → List ℕ
+words_line words shown = words ++ shown ++ codes "\n"
+
+-- the line of a fault of types
+abbrev pub type_line : TypeFault → List ℕ
+type_line (Kind name) = words_line (codes "chw: E06 kind in ") name
+type_line (Typing name) = words_line (codes "chw: E08 type in ") name
+type_line (Missing name constructor) = codes "chw: E09 missing " ++ constructor ++ codes " in " ++ name ++ codes "\n"
+type_line (NoDefault name) = words_line (codes "chw: E09 default in ") name
+type_line (NotPorts ty) = words_line (codes "chw: E11 top ") ty
+
 -- the one line that a refusal is told by
 abbrev pub line_of : Refusal → List ℕ
 line_of Words = codes "chw: words\n"
@@ -68,6 +83,7 @@ line_of (Lex at) = codes "chw: E01 lex at " ++ decimal at ++ codes "\n"
 line_of (Syntax at) = codes "chw: E02 syntax at " ++ decimal at ++ codes "\n"
 line_of Depth = codes "chw: E03 limit depth 200\n"
 line_of (Names fault) = fault_line fault
+line_of (Types fault) = type_line fault
 line_of Form = codes "chw: E20 form at 0\n"
 line_of TooLarge = codes "chw: E17 size wires 200000\n"
 line_of (Loop cycle) = codes "chw: E16 loop" ++ wire_texts cycle ++ codes "\n"

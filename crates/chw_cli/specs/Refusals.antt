@@ -8,6 +8,7 @@ use Rattle.chw_cli.specs.Answer.{EmitAnswer, HasFewWires, TextAnswer, CommandAns
 use Rattle.chw_cli.specs.Descriptions.{NoDescription}
 use Rattle.chw_cli.specs.declared.refusal.Refusal.{Refusal}
 use Rattle.chw_cli.specs.declared.refusal.Refusal.TheVariants as refusal
+use Rattle.chw_check.specs.declared.fault.TypeFault.{TypeFault}
 use Rattle.chw_grammar.specs.declared.program.Tree.{Tree}
 use Rattle.chw_lexer.specs.declared.token.LexFault.{LexFault}
 use Rattle.chw_parser.specs.declared.parsing.ParseFault.{ParseFault}
@@ -38,6 +39,10 @@ of_parse_fault (Fault (Depth at)) = refusal.Depth
 abbrev pub of_name_fault : Or NameFault → Refusal
 of_name_fault Memory = refusal.Memory
 of_name_fault (Fault f) = refusal.Names f
+
+abbrev pub of_type_fault : Or TypeFault → Refusal
+of_type_fault Memory = refusal.Memory
+of_type_fault (Fault f) = refusal.Types f
 
 abbrev pub of_not_flat : Or NotFlat → Refusal
 of_not_flat Memory = refusal.Memory

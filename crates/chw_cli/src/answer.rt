@@ -11,6 +11,7 @@ use crate::emit::emitted;
 use crate::fetch::description;
 use crate::refusal::Refusal;
 use chw_base::{Name, Shelf};
+use chw_check::check;
 use chw_grammar::Tree;
 use chw_resolve::resolve;
 use chw_text::print;
@@ -38,7 +39,8 @@ fn text_answer(alloc: Global, command: &Command, text: &[u8]) -> Result<Vec<u8>,
     ensures refuses { IfErr result (RefusesText command.now text.now) }
 {
     let tree = described(alloc, text)?;
-    resolve(alloc, &tree)?;
+    let program = resolve(alloc, &tree)?;
+    check(alloc, program)?;
     command_answer(alloc, command, text, &tree)
 }
 

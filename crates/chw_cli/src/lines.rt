@@ -1,9 +1,11 @@
-//! The lines of faults of names and references.
+//! The lines of faults of names, of references and of types.
 ghost use Rattle.std.specs.Prelude.{◌≡◌, ◌++◌, IfOk};
-ghost use Rattle.chw_cli.specs.Lines.{circle_line, fault_line, name_line};
+ghost use Rattle.chw_cli.specs.Lines.{circle_line, fault_line, name_line, type_line, words_line};
+ghost use Rattle.chw_check.specs.declared.fault.TypeFault.TheVariants as of_types;
 ghost use Rattle.chw_resolve.specs.declared.fault.NameFault.TheVariants as fault;
 
 use chw_base::{Name, NoMemory, Seq};
+use chw_check::TypeFault;
 use chw_limits::Limit;
 use chw_resolve::NameFault;
 use itoa::Buffer;
@@ -57,6 +59,41 @@ fn circle_line(alloc: Global, text: &str, names: &Seq<Name>) -> Result<Vec<u8>, 
         line.push(b' ')?;
         line.extend_from_slice(name.as_slice())?;
     }
+    line.push(b'\n')?;
+    Ok(line)
+}
+
+/// The line of a fault of types.
+pub(crate) fn type_line(alloc: Global, fault: &TypeFault) -> Result<Vec<u8>, NoMemory>
+    ensures { IfOk result (λ line. line.items ≡ type_line fault.now) }
+{
+    match fault {
+        TypeFault::Kind { name } => words_line(alloc, "chw: E06 kind in ", name),
+        TypeFault::Typing { name } => words_line(alloc, "chw: E08 type in ", name),
+        TypeFault::Missing { name, constructor } => missing_line(alloc, name, constructor),
+        TypeFault::NoDefault { name } => words_line(alloc, "chw: E09 default in ", name),
+        TypeFault::NotPorts { ty } => words_line(alloc, "chw: E11 top ", ty),
+    }
+}
+
+/// The line of a constructor that a case lacks.
+fn missing_line(alloc: Global, name: &Name, constructor: &Name) -> Result<Vec<u8>, NoMemory>
+    ensures { IfOk result (λ line. line.items ≡ type_line (of_types.Missing name.now constructor.now)) }
+{
+    let mut line = Vec::from_slice(alloc, "chw: E09 missing ".as_bytes())?;
+    line.extend_from_slice(constructor.as_slice())?;
+    line.extend_from_slice(" in ".as_bytes())?;
+    line.extend_from_slice(name.as_slice())?;
+    line.push(b'\n')?;
+    Ok(line)
+}
+
+/// The line of words and what they are about: these words, a name or a type, and a line feed.
+fn words_line(alloc: Global, text: &str, shown: &Name) -> Result<Vec<u8>, NoMemory>
+    ensures { IfOk result (λ line. line.items ≡ words_line text.now shown.now) }
+{
+    let mut line = Vec::from_slice(alloc, text.as_bytes())?;
+    line.extend_from_slice(shown.as_slice())?;
     line.push(b'\n')?;
     Ok(line)
 }

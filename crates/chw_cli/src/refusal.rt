@@ -1,9 +1,10 @@
 //! Why the program gave no answer.
 ghost use Rattle.std.specs.Prelude.{◌≡◌};
-ghost use Rattle.chw_cli.specs.Refusals.{of_lex_fault, of_loop, of_name_fault, of_not_flat, of_parse_fault, of_too_large, of_words_fault};
+ghost use Rattle.chw_cli.specs.Refusals.{of_lex_fault, of_loop, of_name_fault, of_not_flat, of_parse_fault, of_too_large, of_type_fault, of_words_fault};
 ghost use Rattle.chw_cli.specs.declared.refusal.Refusal.TheVariants.{Memory};
 
 use chw_base::{Name, NoMemory, Or, Seq, WireId};
+use chw_check::TypeFault;
 use chw_lexer::LexFault;
 use chw_parser::ParseFault;
 use chw_resolve::NameFault;
@@ -28,6 +29,8 @@ pub enum Refusal {
     Depth,
     /// A limit on the description is passed, or a name or a reference in it is at fault.
     Names(NameFault),
+    /// A type, a body, a case or the top of the description is at fault.
+    Types(TypeFault),
     /// The text isn't of the flat form.
     Form,
     /// The net has more flat wires than the limit.
@@ -89,6 +92,17 @@ impl From<Or<NameFault>> for Refusal {
         match error {
             Or::Memory => Refusal::Memory,
             Or::Fault(fault) => Refusal::Names(fault),
+        }
+    }
+}
+
+impl From<Or<TypeFault>> for Refusal {
+    ghost from_gives = { λ e r. r ≡ of_type_fault e };
+
+    fn from(error: Or<TypeFault>) -> Refusal {
+        match error {
+            Or::Memory => Refusal::Memory,
+            Or::Fault(fault) => Refusal::Types(fault),
         }
     }
 }

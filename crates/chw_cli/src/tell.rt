@@ -5,17 +5,18 @@ ghost use Rattle.chw_cli.specs.Outcome.{Told};
 ghost use Rattle.chw_cli.specs.Telling.{Puts, place_line};
 ghost use Rattle.chw_cli.specs.declared.status.Status.TheVariants.{Refused};
 
-use crate::lines::fault_line;
+use crate::lines::{fault_line, type_line};
 use crate::refusal::Refusal;
 use crate::status::Status;
 use chw_base::{Name, NoMemory, Or, Seq, Sink, WireId};
+use chw_check::TypeFault;
 use chw_resolve::NameFault;
 use itoa::Buffer;
 use std::alloc::Global;
 
 /// Puts the line of the refusal, and says with which status the program ends.
 ///
-/// Only a line that shows a file's name, names or wires takes memory to make.
+/// Only a line that shows a place, a file's name, names, a type or wires takes memory to make.
 pub(crate) fn tell<E: Sink>(alloc: Global, refusal: &Refusal, err: &mut E) -> Status
     ensures { Told E.put_gives E.written E.faults refusal.now err.old err.new result }
 {
@@ -27,6 +28,7 @@ pub(crate) fn tell<E: Sink>(alloc: Global, refusal: &Refusal, err: &mut E) -> St
         Refusal::Syntax(at) => tell_place(alloc, "chw: E02 syntax at ", *at, err),
         Refusal::Depth => put_line(alloc, "chw: E03 limit depth 200\n", Status::Refused, err),
         Refusal::Names(fault) => tell_names(alloc, fault, err),
+        Refusal::Types(fault) => tell_types(alloc, fault, err),
         Refusal::Form => put_line(alloc, "chw: E20 form at 0\n", Status::Refused, err),
         Refusal::TooLarge => put_line(alloc, "chw: E17 size wires 200000\n", Status::Refused, err),
         Refusal::Loop(cycle) => tell_loop(alloc, cycle, err),
@@ -50,6 +52,16 @@ fn tell_names<E: Sink>(alloc: Global, fault: &NameFault, err: &mut E) -> Status
     ensures { Told E.put_gives E.written E.faults (Refusal.Names fault.now) err.old err.new result }
 {
     match fault_line(alloc, fault) {
+        Ok(line) => put_bytes(alloc, line.as_slice(), Status::Refused, err),
+        Err(NoMemory) => Status::Memory,
+    }
+}
+
+/// Puts the line of a fault of types.
+fn tell_types<E: Sink>(alloc: Global, fault: &TypeFault, err: &mut E) -> Status
+    ensures { Told E.put_gives E.written E.faults (Refusal.Types fault.now) err.old err.new result }
+{
+    match type_line(alloc, fault) {
         Ok(line) => put_bytes(alloc, line.as_slice(), Status::Refused, err),
         Err(NoMemory) => Status::Memory,
     }

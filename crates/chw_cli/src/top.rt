@@ -12,11 +12,13 @@ use crate::refusal::Refusal;
 use crate::status::Status;
 use crate::tell::tell;
 use chw_base::{Name, Or, Shelf, Sink};
+use chw_check::laws::typed_has_no_fault;
 use chw_lexer::laws::{no_fault, one_splitting};
 use chw_parser::laws::one_tree;
 use chw_resolve::laws::well_named_has_no_fault;
 use chw_words::laws::words_are_one_command;
 use flat_form::one_description;
+use one_kinds::laws::one_program;
 use std::alloc::Global;
 
 /// Does what the words ask for: reads the file from the shelf, and writes the answer to `out`, or one line to `err`.
@@ -44,6 +46,8 @@ pub fn top<F: Shelf, K: Sink, E: Sink>(
     one_splitting();
     one_tree();
     well_named_has_no_fault();
+    one_program();
+    typed_has_no_fault();
     match answer(alloc, words, shelf) {
         Ok(bytes) => match deliver(alloc, bytes.as_slice(), out) {
             Ok(()) => Status::Ok,

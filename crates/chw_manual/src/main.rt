@@ -6,7 +6,7 @@ use chw_cli::top::top;
 use std::io;
 
 /// The commands of the manual, with their files.
-const ROWS: [[&str; 2]; 20] = [
+const ROWS: [[&str; 2]; 30] = [
     ["check", "bad/lex.chw"],
     ["check", "good/lex.chw"],
     ["check", "bad/syntax.chw"],
@@ -23,6 +23,16 @@ const ROWS: [[&str; 2]; 20] = [
     ["check", "good/data_cycle.chw"],
     ["check", "bad/cycle.chw"],
     ["check", "good/cycle.chw"],
+    ["check", "bad/kind.chw"],
+    ["check", "good/kind.chw"],
+    ["check", "bad/type.chw"],
+    ["check", "good/type.chw"],
+    ["check", "bad/missing.chw"],
+    ["check", "good/missing.chw"],
+    ["check", "bad/default.chw"],
+    ["check", "good/default.chw"],
+    ["check", "bad/top.chw"],
+    ["check", "good/top.chw"],
     ["emit", "bad/form.chw"],
     ["emit", "good/form.chw"],
     ["emit", "bad/loop.chw"],

@@ -15,16 +15,16 @@ fn canonical_texts(rt: HostRuntime) -> Result<(), Fail> {
             "domain Sys ;\ndef main : Signal Sys ( Unsigned 8 ) -> Signal Sys ( Unsigned 8 ) = \\ ( x : Signal Sys ( Unsigned 8 ) ) . x ;\ntop main ( x ) ( o ) ;\n",
         ),
         (
-            "data T(a:Val)(n:Nat)=A(Vec n a)|B;def g:Bool=True;def f:(forall(a:Val).a->a)->((Bool))=/\\(a:Val).letrec{x:a=(g(g x)@(Vec 2 a)x);}in case(x)of{A p q->((x));-1s4->vec@a[x,(g x)];_->g (\\(v:a).v);};top f(a,b)(c);",
-            "data T ( a : Val ) ( n : Nat ) = A ( Vec n a ) | B ;\ndef g : Bool = True ;\ndef f : ( forall ( a : Val ) . a -> a ) -> Bool = /\\ ( a : Val ) . letrec { x : a = g ( g x ) @ ( Vec 2 a ) x ; } in case x of { A p q -> x ; -1s4 -> vec @ a [ x , g x ] ; _ -> g ( \\ ( v : a ) . v ) ; } ;\ntop f ( a , b ) ( c ) ;\n",
+            "domain Sys;data T(a:Val)(n:Nat)=A(Vec n a)|B;def f:(forall(a:Val).(a->a)->(a)->((Vec 2 a)))=/\\(a:Val).\\(g:(a->a)).\\(v:a).letrec{x:a=(g(v));}in(vec@a[x,(g x)]);def h:Signed 4->T Bool 2->Bool=\\(n:Signed 4).\\(t:T Bool 2).case(n)of{-1s4->case t of{A p->((vget@0@1@Bool p));B->False;};_->vget@0@1@(Bool)(f@(Bool)(\\(b:Bool).b)True);};def main : Signal Sys Bool = pure @Sys @Bool True; top main () (o);",
+            "domain Sys ;\ndata T ( a : Val ) ( n : Nat ) = A ( Vec n a ) | B ;\ndef f : forall ( a : Val ) . ( a -> a ) -> a -> Vec 2 a = /\\ ( a : Val ) . \\ ( g : a -> a ) . \\ ( v : a ) . letrec { x : a = g v ; } in vec @ a [ x , g x ] ;\ndef h : Signed 4 -> T Bool 2 -> Bool = \\ ( n : Signed 4 ) . \\ ( t : T Bool 2 ) . case n of { -1s4 -> case t of { A p -> vget @ 0 @ 1 @ Bool p ; B -> False ; } ; _ -> vget @ 0 @ 1 @ Bool ( f @ Bool ( \\ ( b : Bool ) . b ) True ) ; } ;\ndef main : Signal Sys Bool = pure @ Sys @ Bool True ;\ntop main ( ) ( o ) ;\n",
         ),
         (
-            "def f : forall (a : Val) . (a -> a) -> a -> (a -> a) = True; -- to the right\ntop f () (o);",
-            "def f : forall ( a : Val ) . ( a -> a ) -> a -> a -> a = True ;\ntop f ( ) ( o ) ;\n",
+            "domain Sys; def f : forall (a : Val) . (a -> a) -> a -> (a -> a) = /\\(a : Val) . \\(g : a -> a) . \\(x : a) . g; -- to the right\ndef main : Signal Sys Bool = pure @Sys @Bool True; top main () (o);",
+            "domain Sys ;\ndef f : forall ( a : Val ) . ( a -> a ) -> a -> a -> a = /\\ ( a : Val ) . \\ ( g : a -> a ) . \\ ( x : a ) . g ;\ndef main : Signal Sys Bool = pure @ Sys @ Bool True ;\ntop main ( ) ( o ) ;\n",
         ),
         (
-            "def f : forall (a : Nat) . Unsigned ((a + a) * a + a * (a * a) + (a + 1)) = True; top f () (o);",
-            "def f : forall ( a : Nat ) . Unsigned ( ( a + a ) * a + a * ( a * a ) + ( a + 1 ) ) = True ;\ntop f ( ) ( o ) ;\n",
+            "domain Sys; def f : forall (a : Nat) . Unsigned ((a + a) * a + a * (a * a) + (a + 1)) -> Bool = /\\(a : Nat) . \\(x : Unsigned ((a + a) * a + a * (a * a) + (a + 1))) . True; def main : Signal Sys Bool = pure @Sys @Bool True; top main () (o);",
+            "domain Sys ;\ndef f : forall ( a : Nat ) . Unsigned ( ( a + a ) * a + a * ( a * a ) + ( a + 1 ) ) -> Bool = /\\ ( a : Nat ) . \\ ( x : Unsigned ( ( a + a ) * a + a * ( a * a ) + ( a + 1 ) ) ) . True ;\ndef main : Signal Sys Bool = pure @ Sys @ Bool True ;\ntop main ( ) ( o ) ;\n",
         ),
     ];
     for (text, canonical) in rows {
@@ -61,7 +61,7 @@ fn texts_that_are_no_description(rt: HostRuntime) -> Result<(), Fail> {
 
 /// A definition whose body is a constructor between so many opening brackets and, if it is closed, as many closing ones.
 fn brackets(rt: &HostRuntime, count: usize, closed: bool) -> Result<Vec<u8>, Fail> {
-    let mut text = b"def main : Bool = ".to_vec(rt.alloc())?;
+    let mut text = b"domain Sys; def f : Bool = ".to_vec(rt.alloc())?;
     for _ in 0..count {
         text.push(b'(')?;
     }
@@ -70,7 +70,9 @@ fn brackets(rt: &HostRuntime, count: usize, closed: bool) -> Result<Vec<u8>, Fai
         for _ in 0..count {
             text.push(b')')?;
         }
-        text.extend_from_slice(b"; top main () (o);")?;
+        text.extend_from_slice(
+            b"; def main : Signal Sys Bool = pure @Sys @Bool f; top main () (o);",
+        )?;
     }
     Ok(text)
 }
@@ -83,7 +85,7 @@ fn nesting_is_limited(rt: HostRuntime) -> Result<(), Fail> {
         &rt,
         &ran,
         Status::Ok,
-        "def main : Bool = True ;\ntop main ( ) ( o ) ;\n",
+        "domain Sys ;\ndef f : Bool = True ;\ndef main : Signal Sys Bool = pure @ Sys @ Bool f ;\ntop main ( ) ( o ) ;\n",
         "",
     );
     for text in [brackets(&rt, 201, true)?, brackets(&rt, 250, false)?] {
@@ -95,11 +97,17 @@ fn nesting_is_limited(rt: HostRuntime) -> Result<(), Fail> {
 
 /// A definition of so many lambdas over a name.
 fn lambdas(rt: &HostRuntime, count: usize) -> Result<Vec<u8>, Fail> {
-    let mut text = b"def main : Bool = ".to_vec(rt.alloc())?;
+    let mut text = b"domain Sys; def f : ".to_vec(rt.alloc())?;
+    for _ in 0..count {
+        text.extend_from_slice(b"Bool->")?;
+    }
+    text.extend_from_slice(b"Bool = ")?;
     for _ in 0..count {
         text.extend_from_slice(b"\\(x:Bool).")?;
     }
-    text.extend_from_slice(b"x; top main () (o);")?;
+    text.extend_from_slice(
+        b"x; def main : Signal Sys Bool = pure @Sys @Bool True; top main () (o);",
+    )?;
     Ok(text)
 }
 
@@ -108,7 +116,7 @@ fn height_is_limited(rt: HostRuntime) -> Result<(), Fail> {
     let within = lambdas(&rt, 197)?;
     let ran = run(rt.alloc(), CHECK, &Given::file("a.chw", &within))?;
     assert_eq!(rt; ran.status, Status::Ok);
-    for count in [198, 100_000] {
+    for count in [198, 60_000] {
         let over = lambdas(&rt, count)?;
         let ran = run(rt.alloc(), CHECK, &Given::file("a.chw", &over))?;
         expect(&rt, &ran, Status::Refused, "", "chw: E03 limit depth 200\n");

@@ -41,7 +41,7 @@ fn texts_that_are_refused(rt: HostRuntime) -> Result<(), Fail> {
         ("domain Sys; top f () (o);", "chw: E05 unknown f at 16\n"),
         // a description that isn't flat
         (
-            "domain Sys; def main : Bool = True; top main () (o);",
+            "domain Sys; def main : Signal Sys Bool = pure @Sys @Bool True; top main () (o);",
             "chw: E20 form at 0\n",
         ),
     ];

@@ -9,3 +9,5 @@ mod emit;
 mod names;
 #[cfg(test)]
 mod row;
+#[cfg(test)]
+mod types;

@@ -5,6 +5,10 @@ use crate::row::{Given, run};
 use chw_cli::Status;
 use std::test::Fail;
 
+/// A domain, a definition that is a port, and the top.
+const MAIN: &str =
+    "domain Sys; def main : Signal Sys Bool = pure @Sys @Bool True; top main () (o);";
+
 const COMMANDS: [&[&[u8]]; 2] = [&[b"check", b"a.chw"], &[b"emit", b"a.chw"]];
 
 #[test]
@@ -69,9 +73,9 @@ fn first_faults(rt: HostRuntime) -> Result<(), Fail> {
 #[test]
 fn one_name_in_each_name_space(rt: HostRuntime) -> Result<(), Fail> {
     let text =
-        "domain A; data T = A; data B (a : Val) = B a; def a : forall (a : Val) . B a -> a = /\\(a : Val) . \\(a : B a) . case a of { B a -> a; }; top a (a) (a);";
+        "domain A; data T = A; data B (a : Val) = B a; def a : forall (a : Val) . B a -> a = /\\(a : Val) . \\(a : B a) . case a of { B a -> a; }; def b : Signal A T -> Signal A (B T) = \\(b : Signal A T) . fmap @A @T @(B T) (B @T) b; top b (a) (a);";
     let canonical =
-        "domain A ;\ndata T = A ;\ndata B ( a : Val ) = B a ;\ndef a : forall ( a : Val ) . B a -> a = /\\ ( a : Val ) . \\ ( a : B a ) . case a of { B a -> a ; } ;\ntop a ( a ) ( a ) ;\n";
+        "domain A ;\ndata T = A ;\ndata B ( a : Val ) = B a ;\ndef a : forall ( a : Val ) . B a -> a = /\\ ( a : Val ) . \\ ( a : B a ) . case a of { B a -> a ; } ;\ndef b : Signal A T -> Signal A ( B T ) = \\ ( b : Signal A T ) . fmap @ A @ T @ ( B T ) ( B @ T ) b ;\ntop b ( a ) ( a ) ;\n";
     let ran = run(
         rt.alloc(),
         COMMANDS[0],
@@ -94,7 +98,7 @@ fn declarations(rt: &HostRuntime, each: &str, count: u32) -> Result<Vec<u8>, Fai
             }
         }
     }
-    text.extend_from_slice(b"def main : Bool = True; top main () (o);")?;
+    text.extend_from_slice(MAIN.as_bytes())?;
     Ok(text)
 }
 
@@ -108,7 +112,7 @@ fn declarations_are_limited(rt: HostRuntime) -> Result<(), Fail> {
             "chw: E03 limit definitions 4096\n",
         ),
         ("data T# = C#; ", 1024, 1025, "chw: E03 limit data 1024\n"),
-        ("domain S#; ", 64, 65, "chw: E03 limit domains 64\n"),
+        ("domain S#; ", 63, 64, "chw: E03 limit domains 64\n"),
     ];
     for (each, most, one_more, line) in rows {
         let within = declarations(&rt, each, most)?;
@@ -121,10 +125,10 @@ fn declarations_are_limited(rt: HostRuntime) -> Result<(), Fail> {
     Ok(())
 }
 
-/// As many definitions as there may be, each of which refers to the next, and the last is this term.
+/// As many definitions as there may be beside the one of the top, each of which refers to the next, and the last is this term.
 fn chain(rt: &HostRuntime, last: &str) -> Result<Vec<u8>, Fail> {
     let mut text = Vec::new(rt.alloc());
-    for number in 0..4095_u32 {
+    for number in 0..4094_u32 {
         let mut digits = itoa::Buffer::new();
         let mut next = itoa::Buffer::new();
         text.extend_from_slice(b"def f")?;
@@ -133,9 +137,10 @@ fn chain(rt: &HostRuntime, last: &str) -> Result<Vec<u8>, Fail> {
         text.extend_from_slice(next.format(number + 1).as_bytes())?;
         text.extend_from_slice(b"; ")?;
     }
-    text.extend_from_slice(b"def f4095 : Bool = ")?;
+    text.extend_from_slice(b"def f4094 : Bool = ")?;
     text.extend_from_slice(last.as_bytes())?;
-    text.extend_from_slice(b"; top f0 () (o);")?;
+    text.extend_from_slice(b"; ")?;
+    text.extend_from_slice(MAIN.as_bytes())?;
     Ok(text)
 }
 
@@ -156,21 +161,22 @@ fn long_chains(rt: HostRuntime) -> Result<(), Fail> {
     )?;
     assert_eq!(rt; ran.status, Status::Refused);
     assert!(rt; ran.err.starts_with(b"chw: E10 cycle f0 f1 f2 "));
-    assert!(rt; ran.err.ends_with(b" f4094 f4095\n"));
-    let end_of_all = chain(&rt, "f4095")?;
+    assert!(rt; ran.err.ends_with(b" f4093 f4094\n"));
+    let end_of_all = chain(&rt, "f4094")?;
     let ran = run(rt.alloc(), COMMANDS[0], &Given::file("a.chw", &end_of_all))?;
-    expect(&rt, &ran, Status::Refused, "", "chw: E10 cycle f4095\n");
+    expect(&rt, &ran, Status::Refused, "", "chw: E10 cycle f4094\n");
     Ok(())
 }
 
 #[test]
 fn written_vectors_are_limited(rt: HostRuntime) -> Result<(), Fail> {
     for (commas, line) in [(255, ""), (256, "chw: E03 limit vector 256\n")] {
-        let mut text = b"def f : Bool = vec @Bool [True".to_vec(rt.alloc())?;
+        let mut text = b"def f : Vec 256 Bool = vec @Bool [True".to_vec(rt.alloc())?;
         for _ in 0..commas {
             text.extend_from_slice(b", True")?;
         }
-        text.extend_from_slice(b"]; top f () (o);")?;
+        text.extend_from_slice(b"]; ")?;
+        text.extend_from_slice(MAIN.as_bytes())?;
         let ran = run(rt.alloc(), COMMANDS[0], &Given::file("a.chw", &text))?;
         assert_eq!(rt;
             ran.status,
@@ -193,13 +199,15 @@ fn numbers_are_limited(rt: HostRuntime) -> Result<(), Fail> {
             "340282366920938463463374607431768211456u128",
             "chw: E03 limit number 128\n",
         ),
-        ("1u4294967295", ""),
+        // within the limits on text, though it has no type
+        ("1u4294967295", "chw: E08 type in f\n"),
         ("1u4294967296", "chw: E03 limit number 32\n"),
     ];
     for (literal, line) in rows {
-        let mut text = b"def f : Unsigned 4294967295 = ".to_vec(rt.alloc())?;
+        let mut text = b"def f : Unsigned 128 = ".to_vec(rt.alloc())?;
         text.extend_from_slice(literal.as_bytes())?;
-        text.extend_from_slice(b"; top f () (o);")?;
+        text.extend_from_slice(b"; ")?;
+        text.extend_from_slice(MAIN.as_bytes())?;
         let ran = run(rt.alloc(), COMMANDS[0], &Given::file("a.chw", &text))?;
         assert_eq!(rt;
             ran.status,

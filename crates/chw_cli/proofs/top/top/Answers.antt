@@ -34,27 +34,27 @@ returns-clause-outcome g c = refused c.in-Err.refusal c.tell-in-Err.result c.in-
 pub returns-in-Ok-deliver-clause-exact : goal.returns-in-Ok-deliver-clause-exact
 returns-in-Ok-deliver-clause-exact g c =
     exact_by _ _ _ _ c.words_are_one_command.ensures c.one_description.ensures (has_no_fault c.one_splitting.ensures c.no_fault.ensures c.one_tree.ensures)
-    (same_description c.one_splitting.ensures c.one_tree.ensures) c.well_named_has_no_fault.ensures _
+    (same_description c.one_splitting.ensures c.one_tree.ensures) c.well_named_has_no_fault.ensures c.one_program.ensures c.typed_has_no_fault.ensures _
     (reason _ _ _ _ _ _ _ _ _ _ c.words_are_one_command.ensures
     (ask_says g.F.Shelf.fetch_gives g.F.Shelf.told g.F.Shelf.faults c.args.words.now c.args.shelf.now c.answer.new.shelf) (told_ends g.E.Sink.put_gives g.E.Sink.written g.E.Sink.faults c.args.err.now c.args.err.now) _ (returns-in-Ok-deliver-clause-outcome g c))
 
 pub returns-in-Err-Fault-clause-exact : goal.returns-in-Err-Fault-clause-exact
 returns-in-Err-Fault-clause-exact g c =
     exact_by _ _ _ _ c.words_are_one_command.ensures c.one_description.ensures (has_no_fault c.one_splitting.ensures c.no_fault.ensures c.one_tree.ensures)
-    (same_description c.one_splitting.ensures c.one_tree.ensures) c.well_named_has_no_fault.ensures _
+    (same_description c.one_splitting.ensures c.one_tree.ensures) c.well_named_has_no_fault.ensures c.one_program.ensures c.typed_has_no_fault.ensures _
     (reason _ _ _ _ _ _ _ _ _ _ c.words_are_one_command.ensures
     (ask_says g.F.Shelf.fetch_gives g.F.Shelf.told g.F.Shelf.faults c.args.words.now c.args.shelf.now c.answer.new.shelf) (told_ends g.E.Sink.put_gives g.E.Sink.written g.E.Sink.faults c.args.err.now c.tell.new.err) _ (returns-in-Err-Fault-clause-outcome g c))
 
 pub returns-in-Ok-clause-exact : goal.returns-in-Ok-clause-exact
 returns-in-Ok-clause-exact g c =
     exact_by _ _ _ _ c.words_are_one_command.ensures c.one_description.ensures (has_no_fault c.one_splitting.ensures c.no_fault.ensures c.one_tree.ensures)
-    (same_description c.one_splitting.ensures c.one_tree.ensures) c.well_named_has_no_fault.ensures _
+    (same_description c.one_splitting.ensures c.one_tree.ensures) c.well_named_has_no_fault.ensures c.one_program.ensures c.typed_has_no_fault.ensures _
     (reason _ _ _ _ _ _ _ _ _ _ c.words_are_one_command.ensures
     (ask_says g.F.Shelf.fetch_gives g.F.Shelf.told g.F.Shelf.faults c.args.words.now c.args.shelf.now c.answer.new.shelf) (told_ends g.E.Sink.put_gives g.E.Sink.written g.E.Sink.faults c.args.err.now c.tell-in-Err-Memory.new.err) _ (returns-in-Ok-clause-outcome g c))
 
 pub returns-clause-exact : goal.returns-clause-exact
 returns-clause-exact g c =
     exact_by _ _ _ _ c.words_are_one_command.ensures c.one_description.ensures (has_no_fault c.one_splitting.ensures c.no_fault.ensures c.one_tree.ensures)
-    (same_description c.one_splitting.ensures c.one_tree.ensures) c.well_named_has_no_fault.ensures _
+    (same_description c.one_splitting.ensures c.one_tree.ensures) c.well_named_has_no_fault.ensures c.one_program.ensures c.typed_has_no_fault.ensures _
     (reason _ _ _ _ _ _ _ _ _ _ c.words_are_one_command.ensures
     (ask_says g.F.Shelf.fetch_gives g.F.Shelf.told g.F.Shelf.faults c.args.words.now c.args.shelf.now c.answer.new.shelf) (told_ends g.E.Sink.put_gives g.E.Sink.written g.E.Sink.faults c.args.err.now c.tell-in-Err.new.err) _ (returns-clause-outcome g c))
