@@ -127,10 +127,7 @@ fn types_without_a_kind(rt: HostRuntime) -> Result<(), Fail> {
 fn bodies_without_their_type(rt: HostRuntime) -> Result<(), Fail> {
     let rows = [
         // a body of another type, and one without a type
-        (
-            "def f : Bool = 1u1; top f () (o);",
-            "chw: E08 type in f\n",
-        ),
+        ("def f : Bool = 1u1; top f () (o);", "chw: E08 type in f\n"),
         (
             "domain Sys; def f : Bool = True True; def main : Signal Sys Bool = pure @Sys @Bool True; top main () (o);",
             "chw: E08 type in f\n",
@@ -324,10 +321,7 @@ fn cases_that_leave_something_out(rt: HostRuntime) -> Result<(), Fail> {
 fn tops_that_are_no_ports(rt: HostRuntime) -> Result<(), Fail> {
     let rows = [
         // not a port
-        (
-            "def f : Bool = True; top f () (o);",
-            "chw: E11 top Bool\n",
-        ),
+        ("def f : Bool = True; top f () (o);", "chw: E11 top Bool\n"),
         (
             "domain Sys; def f : Bool -> Signal Sys Bool = \\(x : Bool) . pure @Sys @Bool x; top f (x) (o);",
             "chw: E11 top Bool -> Signal Sys Bool\n",
@@ -447,7 +441,11 @@ fn typed_descriptions(rt: HostRuntime) -> Result<(), Fail> {
         "domain Sys; def f : forall (a : Cir) . (a -> a) -> a = /\\(a : Cir) . \\(f : a -> a) . letrec { x : a = f x; } in x; data W = W (Signal Sys Bool); def g : W -> Signal Sys Bool = \\(w : W) . case w of { W s -> s; }; def main : Signal Sys Bool = pure @Sys @Bool True; top main () (o);",
     ];
     for text in rows {
-        let ran = run(rt.alloc(), COMMANDS[0], &Given::file("a.chw", text.as_bytes()))?;
+        let ran = run(
+            rt.alloc(),
+            COMMANDS[0],
+            &Given::file("a.chw", text.as_bytes()),
+        )?;
         assert!(rt; ran.err.is_empty());
         assert_eq!(rt; ran.status, Status::Ok);
     }

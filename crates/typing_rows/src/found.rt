@@ -72,7 +72,10 @@ fn add_type(
 {
     let scene = Scene { program, made: &[] };
     let found = type_of(alloc, &scene, constructors, &[], &[], &it.body);
-    let Scene { program: _, made: _ } = scene;
+    let Scene {
+        program: _,
+        made: _,
+    } = scene;
     match found {
         Ok(Some(ty)) => add_text(alloc, program, &ty, text)?,
         Ok(None) => text.push_str("none")?,
