@@ -6,6 +6,8 @@ mod check;
 #[cfg(test)]
 mod emit;
 #[cfg(test)]
+mod kinds;
+#[cfg(test)]
 mod names;
 #[cfg(test)]
 mod row;
