@@ -1,5 +1,5 @@
 -- What the shelf was asked says, by its files where they are told, and by its faults.
-use Rattle.std.proofs.Common.{◌≡◌, ℕ, ◌<◌, ◌≤◌, List, length, Option, Some, None, Result, Ok, Err, subst}
+use Rattle.std.proofs.Common.{◌≡◌, ℕ, ◌<◌, ◌≤◌, List, length, Option, None, Result, Ok, Err, subst}
 use Rattle.std.specs.Option.{IsSomeAnd}
 use Rattle.std.specs.Str.{IsUtf8}
 use Rattle.chw_base.specs.Faults.{Rose}

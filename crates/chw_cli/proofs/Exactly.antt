@@ -7,10 +7,9 @@ use Rattle.chw_base.specs.declared.limits.TheConstants.{DESCRIPTION_BYTES, FLAT_
 use Rattle.chw_base.specs.declared.outcome.Or.{Or}
 use Rattle.chw_base.specs.declared.outcome.Or.TheVariants.{Memory, Fault}
 use Rattle.chw_base.specs.declared.shelf.Fetched.{Fetched}
-use Rattle.chw_base.specs.declared.shelf.Fetched.TheVariants.{Whole, TooLong, Absent}
 use Rattle.chw_base.specs.declared.shelf.ShelfFault.{ShelfFault}
 use Rattle.chw_base.specs.declared.sink.SinkFault.{SinkFault}
-use Rattle.chw_cli.specs.Answer.{Answer, CommandAnswer, EmitAnswer, HasFewWires, HasNoLoop, HasProgram, IsUnread, Source, TextAnswer, file_read}
+use Rattle.chw_cli.specs.Answer.{Answer, CommandAnswer, EmitAnswer, HasProgram, IsUnread, Source, TextAnswer, file_read}
 use Rattle.chw_cli.specs.Answer.Answer.{no_command, unread as not_read, long_text, text as of_text}
 use Rattle.chw_cli.specs.Answer.EmitAnswer.{form, too_large, loops, emitted}
 use Rattle.chw_cli.specs.Answer.TextAnswer.{no_description, wrong_names, wrong_types, description}
@@ -18,7 +17,7 @@ use Rattle.chw_cli.specs.Descriptions.{IsDescription, NoDescription}
 use Rattle.chw_cli.specs.Descriptions.NoDescription.{lex, syntax, depth}
 use Rattle.chw_cli.specs.Exact.{BreaksNothing, SuitsCommand, Ends, IsExact, IsUsed}
 use Rattle.chw_cli.specs.Lines.{status_of}
-use Rattle.chw_cli.specs.Outcome.{AnswersBy, Outcome, Refuses, Told, stopped}
+use Rattle.chw_cli.specs.Outcome.{AnswersBy, Outcome, Told, stopped}
 use Rattle.chw_cli.specs.Outcome.Outcome.{answered, refused, unwritten}
 use Rattle.chw_cli.specs.Outcome.Told.{told as was_told, untold as was_untold}
 use Rattle.chw_cli.specs.Outcome.Refuses.{for_memory, by_answer}

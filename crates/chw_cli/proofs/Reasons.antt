@@ -7,7 +7,7 @@ use Rattle.chw_cli.specs.Answer.{HasProgram, IsUnread, Source, TextAnswer, Comma
 use Rattle.chw_cli.specs.Answer.Answer.{no_command, unread as not_read, text as of_text}
 use Rattle.chw_cli.specs.Answer.Source.{nothing, fetched}
 use Rattle.chw_cli.specs.Answer.TextAnswer.{no_description, wrong_names, wrong_types, description}
-use Rattle.chw_cli.specs.Descriptions.{IsDescription, NoDescription}
+use Rattle.chw_cli.specs.Descriptions.{IsDescription}
 use Rattle.chw_cli.specs.Descriptions.NoDescription.{lex, syntax, depth}
 use Rattle.chw_cli.specs.Outcome.{AnswersBy, Refuses}
 use Rattle.chw_cli.specs.Outcome.Refuses.{for_memory, by_answer}

@@ -1,5 +1,5 @@
 -- What the program answers to words, by what was read of the file that they name: bytes for `out`, or a refusal.
-use Rattle.std.specs.Prelude.{◌≡◌, ℕ, ◌<◌, ◌≤◌, List, [], length, Option, Result, Ok, Err, ◌⊎◌}
+use Rattle.std.specs.Prelude.{◌≡◌, ℕ, ◌<◌, ◌≤◌, List, length, Option, Result, Ok, Err, ◌⊎◌}
 use Rattle.chw_base.specs.Files.{Files}
 use Rattle.chw_base.specs.Reading.{Fetches}
 use Rattle.chw_base.specs.declared.limits.TheConstants.{DESCRIPTION_BYTES, FLAT_WIRES}

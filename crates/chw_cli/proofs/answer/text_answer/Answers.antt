@@ -1,6 +1,4 @@
 use Rattle.std.proofs.lemmas.Result.{err_from_is_err_and}
-use Rattle.chw_cli.specs.Answer.{HasProgram}
-use Rattle.chw_terms.specs.Tidy.{IsTidy}
 use Rattle.chw_cli.proofs.Reasons.{command_err, command_ok, names_refuse, reading_refuses, types_refuse, was_read}
 use Rattle.chw_cli.proofs.answer.text_answer.Goals as goal
 
