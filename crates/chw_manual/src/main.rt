@@ -1,12 +1,13 @@
-//! The examples of the manual, each run by its words: what the program writes to either output, and its status, stand on standard output.
+//! The examples of the manual, and descriptions of the whole language, each run by its words: what the program writes to either output,
+//! and its status, stand on standard output.
 #![tactic(auto)]
 
 use chw_base::{FileShelf, Name, StdSink};
 use chw_cli::top::top;
 use std::io;
 
-/// The commands of the manual, with their files.
-const ROWS: [[&str; 2]; 30] = [
+/// The commands, with their files.
+const ROWS: [[&str; 2]; 38] = [
     ["check", "bad/lex.chw"],
     ["check", "good/lex.chw"],
     ["check", "bad/syntax.chw"],
@@ -37,6 +38,14 @@ const ROWS: [[&str; 2]; 30] = [
     ["emit", "good/form.chw"],
     ["emit", "bad/loop.chw"],
     ["emit", "good/loop.chw"],
+    ["check", "worked/counter.chw"],
+    ["check", "worked/twice.chw"],
+    ["check", "worked/mac.chw"],
+    ["check", "worked/memory.chw"],
+    ["check", "worked/filter.chw"],
+    ["check", "worked/feedback.chw"],
+    ["check", "worked/domains.chw"],
+    ["check", "worked/signed.chw"],
 ];
 
 fn main(rt: HostRuntime) -> io::Result<()> {
