@@ -7,8 +7,8 @@ use Rattle.chw_types.specs.declared.declarations.Data.{Data}
 use Rattle.chw_terms.specs.Constructors.{Constructor, cons_of, constructors_from, con_at, first_con}
 use Rattle.chw_terms.specs.TermTree.{Alts}
 use Rattle.chw_typing.specs.Alternatives.{IsFor}
-use Rattle.con_table.specs.declared.table.Constructor.{Constructor as Reference}
-use Rattle.con_table.specs.Constructing.{constructor_of, IsConstructor}
+use Rattle.con_places.specs.declared.table.Constructor.{Constructor as Reference}
+use Rattle.con_places.specs.Constructing.{constructor_of, IsConstructor}
 use Rattle.case_checks.specs.Missing.{IsMissing, NoneMissing}
 use Rattle.case_checks.proofs.Covered.{either}
 

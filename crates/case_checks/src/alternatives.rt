@@ -8,7 +8,7 @@ use crate::lacks::Lacks;
 use crate::missing::first_missing;
 use chw_base::NoMemory;
 use chw_terms::{Alt, Pattern};
-use con_table::Constructors;
+use con_places::Constructors;
 use std::alloc::Global;
 
 // Whether an alternative is the default.

@@ -7,7 +7,6 @@ mod alternatives;
 mod lacks;
 pub mod laws;
 mod missing;
-mod numbers;
 mod programs;
 mod walk;
 

@@ -5,10 +5,9 @@ ghost use Rattle.chw_terms.specs.TermView.{alts_of};
 ghost use Rattle.chw_typing.specs.Alternatives.{IsFor};
 ghost use Rattle.case_checks.specs.Missing.{IsMissing, NoneMissing};
 
-use crate::numbers::narrow;
-use chw_base::{ConId, NoMemory};
+use chw_base::{ConId, NoMemory, narrow};
 use chw_terms::{Alt, Pattern};
-use con_table::Constructors;
+use con_places::Constructors;
 use indexmap::IndexSet;
 use std::alloc::Global;
 

@@ -3,11 +3,10 @@ ghost use Rattle.std.specs.Prelude.{◌≡◌, IfOk, MatchOption};
 ghost use Rattle.case_checks.specs.Incomplete.{AllKeep, IsFirst};
 
 use crate::lacks::Incomplete;
-use crate::numbers::narrow;
 use crate::walk::first_in;
-use chw_base::{DefId, NoMemory};
+use chw_base::{DefId, NoMemory, narrow};
 use chw_terms::Program;
-use con_table::Constructors;
+use con_places::Constructors;
 use std::alloc::Global;
 
 /// The first definition whose body has a case that leaves something out, and what its first such case leaves out. `None` comes exactly where

@@ -7,7 +7,7 @@ use crate::alternatives::left_out;
 use crate::lacks::Lacks;
 use chw_base::NoMemory;
 use chw_terms::{Arg, Head, Term};
-use con_table::Constructors;
+use con_places::Constructors;
 use std::alloc::Global;
 
 /// What the first case of the term that leaves something out leaves out: an outer case comes before those in it, and else the order is that

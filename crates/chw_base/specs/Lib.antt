@@ -5,6 +5,7 @@ pub mod Files
 pub mod InMemory
 pub mod MemReading
 pub mod MemWriting
+pub mod Names
 pub mod Outcome
 pub mod Passing
 pub mod Reading

@@ -10,15 +10,15 @@ use Rattle.chw_base.specs.declared.shelf.Fetched.{Fetched}
 use Rattle.chw_base.specs.declared.shelf.Fetched.TheVariants.{Whole, TooLong, Absent}
 
 -- the answer of a call that isn't listed, and the bytes that it reads, by what is held under the name
-abbrev pub Finds : Option (List ℕ) → ℕ → Fetched → List ℕ → Type 0
-Finds held limit Whole bytes = (held ≡ Some bytes) × (length bytes ≤ limit)
-Finds held limit TooLong bytes = ((long : List ℕ) × (held ≡ Some long) × (limit < length long)) × (bytes ≡ [])
-Finds held limit Absent bytes = (held ≡ None) × (bytes ≡ [])
+abbrev pub IsFound : Option (List ℕ) → ℕ → Fetched → List ℕ → Type 0
+IsFound held limit Whole bytes = (held ≡ Some bytes) × (length bytes ≤ limit)
+IsFound held limit TooLong bytes = ((long : List ℕ) × (held ≡ Some long) × (limit < length long)) × (bytes ≡ [])
+IsFound held limit Absent bytes = (held ≡ None) × (bytes ≡ [])
 
 -- a call that is listed fails and is counted as a fault; each call is counted, and nothing else changes
 abbrev pub FetchesInMemory : ShelfState → List ℕ → ℕ → Result Fetched (Or ShelfFault) → List ℕ → ShelfState → Type 0
 FetchesInMemory before name limit (Ok found) bytes after =
-    (fails before.fail before.calls ≡ false) × Finds (file_of before.files name) limit found bytes
+    (fails before.fail before.calls ≡ false) × IsFound (file_of before.files name) limit found bytes
     × (after ≡ record before { calls = next before.calls })
 FetchesInMemory before name limit (Err Memory) bytes after =
     (fails before.fail before.calls ≡ false) × (bytes ≡ []) × (after ≡ record before { calls = next before.calls })

@@ -8,6 +8,7 @@ pub mod index;
 pub mod limits;
 pub mod mem_shelf;
 pub mod mem_sink;
+mod numbers;
 pub mod outcome;
 pub mod seq;
 pub mod shelf;
@@ -20,6 +21,7 @@ pub use index::{
 };
 pub use mem_shelf::MemShelf;
 pub use mem_sink::MemSink;
+pub use numbers::narrow;
 pub use outcome::{NoMemory, Or};
 pub use seq::{Name, Seq};
 pub use shelf::{Fetched, Shelf, ShelfFault};

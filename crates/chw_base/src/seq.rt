@@ -1,6 +1,8 @@
 //! `Seq`, the list type of public types: contracts see it as the list of its items.
-ghost use Rattle.std.specs.Prelude.{◌≡◌, ◌==◌, length};
+ghost use Rattle.std.specs.Prelude.{◌≡◌, ◌==◌, length, IfOk};
 
+use crate::outcome::NoMemory;
+use std::alloc::Global;
 use std::marker::Model;
 
 /// A list of items, which contracts see as the list alone.
@@ -60,6 +62,15 @@ impl<T> Seq<T> {
     }
 }
 
+impl Seq<u8> {
+    /// A name of these bytes.
+    pub fn copy_of(alloc: Global, bytes: &[u8]) -> Result<Name, NoMemory>
+        ensures { IfOk result (λ name. name ≡ bytes.now) }
+    {
+        Ok(Name::from(Vec::from_slice(alloc, bytes)?))
+    }
+}
+
 #[cfg(test)]
 mod tests {
     use super::*;
@@ -67,7 +78,7 @@ mod tests {
 
     #[test]
     fn is_the_list_of_its_items(rt: HostRuntime) -> Result<(), Fail> {
-        let name = Name::from(b"clk".to_vec(rt.alloc())?);
+        let name = Name::copy_of(rt.alloc(), b"clk")?;
         assert_eq!(rt; name.len(), 3);
         assert!(rt; !name.is_empty());
         assert_eq!(rt; name.as_slice(), b"clk".as_slice());

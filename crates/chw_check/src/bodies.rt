@@ -7,7 +7,7 @@ use chw_base::NoMemory;
 use chw_terms::{Def, Program, Scene};
 use chw_types::same;
 use chw_typing::laws::one_type;
-use con_table::Constructors;
+use con_places::Constructors;
 use std::alloc::Global;
 use term_types::type_of;
 

@@ -11,14 +11,14 @@ ghost use Rattle.kind_checks.specs.Fits.{AllDeclarationsFit};
 
 use crate::bodies::first_untyped;
 use crate::fault::TypeFault;
-use crate::names::{con_name, copied, data_name, def_name};
+use crate::names::{con_name, data_name, def_name};
 use crate::ports::leads_to_port;
 use case_checks::laws::typed_terms_are_complete;
 use case_checks::{Lacks, first_incomplete};
 use chw_base::{NoMemory, Or};
 use chw_terms::Program;
 use chw_types::type_text;
-use con_table::Constructors;
+use con_places::Constructors;
 use kind_checks::laws::what_fits_is_sound;
 use kind_checks::{Unkinded, first_unkinded};
 use std::alloc::Global;
@@ -116,7 +116,7 @@ fn check_types(
     match first_untyped(alloc, program, constructors)? {
         None => Ok(()),
         Some(it) => {
-            let name = copied(alloc, it.name.as_slice())?;
+            let name = Name::copy_of(alloc, it.name.as_slice())?;
             Err(Or::Fault(TypeFault::Typing { name }))
         }
     }

@@ -6,22 +6,15 @@ ghost use Rattle.chw_terms.specs.Constructors.{con_at};
 use chw_base::{ConId, DataId, DefId, Name, NoMemory};
 use chw_terms::Def;
 use chw_types::Data;
-use con_table::Constructors;
+use con_places::Constructors;
 use std::alloc::Global;
-
-/// A name of these bytes.
-pub(crate) fn copied(alloc: Global, bytes: &[u8]) -> Result<Name, NoMemory>
-    ensures { IfOk result (λ name. name ≡ bytes.now) }
-{
-    Ok(Name::from(Vec::from_slice(alloc, bytes)?))
-}
 
 /// The name of a data type.
 pub(crate) fn data_name(alloc: Global, datas: &[Data], at: DataId) -> Result<Name, NoMemory>
     requires { at.number < length datas.now }
     ensures { IfOk result (IsDataName datas.now at.number) }
 {
-    copied(alloc, datas[at.number as usize].name.as_slice())
+    Name::copy_of(alloc, datas[at.number as usize].name.as_slice())
 }
 
 /// The name of a definition.
@@ -29,7 +22,7 @@ pub(crate) fn def_name(alloc: Global, defs: &[Def], at: DefId) -> Result<Name, N
     requires { at.number < length defs.now }
     ensures { IfOk result (IsDefName defs.now at.number) }
 {
-    copied(alloc, defs[at.number as usize].name.as_slice())
+    Name::copy_of(alloc, defs[at.number as usize].name.as_slice())
 }
 
 /// The name of a constructor.
@@ -42,7 +35,7 @@ pub(crate) fn con_name(
     ensures { IfOk result (IsConName constructors.now at.number) }
 {
     match constructors.at(at) {
-        Some(con) => copied(alloc, con.decl.name.as_slice()),
+        Some(con) => Name::copy_of(alloc, con.decl.name.as_slice()),
         None => unreachable!(),
     }
 }

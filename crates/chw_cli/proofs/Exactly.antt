@@ -41,7 +41,7 @@ use Rattle.flat_form.specs.Grammar.{IsFlatText}
 use Rattle.flat_form.specs.declared.flat.FlatText.{FlatText}
 use Rattle.flat_law.specs.FlatOf.{flat_of}
 use Rattle.netlist.specs.Orders.{IsLoop}
-use Rattle.one_kinds.specs.Laws.{OneProgram}
+use Rattle.data_kinds.specs.Laws.{OneProgram}
 
 -- words are at most one command, a text is at most one flat description, and a description has no fault
 abbrev pub OneCommand : Type 0

@@ -32,7 +32,7 @@ use Rattle.flat_form.specs.declared.flat.FlatText.{FlatText}
 use Rattle.flat_law.specs.FlatOf.{flat_of, SameBits}
 use Rattle.netlist.specs.Orders.{IsLoop}
 use Rattle.netlist.specs.Text.{net_text}
-use Rattle.tree_program.specs.Programs.{IsProgramOf}
+use Rattle.chw_resolve.specs.Programs.{IsProgramOf}
 
 -- at every history of its ports the net of the description has, on its output, the bits that the description means
 abbrev pub HasTheBits : FlatText → Type 0

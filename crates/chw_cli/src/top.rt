@@ -18,7 +18,7 @@ use chw_parser::laws::one_tree;
 use chw_resolve::laws::well_named_has_no_fault;
 use chw_words::laws::words_are_one_command;
 use flat_form::one_description;
-use one_kinds::laws::one_program;
+use data_kinds::kind_laws::one_program;
 use std::alloc::Global;
 
 /// Does what the words ask for: reads the file from the shelf, and writes the answer to `out`, or one line to `err`.

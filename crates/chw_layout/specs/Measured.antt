@@ -1,6 +1,7 @@
 -- How wide the values of a type are, or the first limit that the type passes.
 use Rattle.std.specs.Prelude.{◌≡◌, ℕ, zero, suc, ◌+◌, ◌*◌, ◌^◌, if◌then◌else◌, nat_le, max, List, [], ◌∷◌, length, Some}
 use Rattle.std.specs.List.{slice_get}
+use Rattle.chw_base.specs.declared.limits.TheConstants.{DATA_BITS, SCALAR_BITS, VECTOR_LENGTH}
 use Rattle.chw_types.specs.declared.kind.Scalar.{Scalar}
 use Rattle.chw_types.specs.declared.declarations.ConDecl.{ConDecl}
 use Rattle.chw_types.specs.declared.declarations.Data.{Data}
@@ -30,17 +31,17 @@ first_width (suc tries) k n = if nat_le n (2 ^ k) then k else first_width tries 
 abbrev pub tag_width : ℕ → ℕ
 tag_width n = first_width n 0 n
 
--- a scalar has at most 128 bits
+-- a scalar has at most so many bits
 abbrev pub scalar_measure : ℕ → Measure
-scalar_measure w = if nat_le w 128 then fits w else too_wide (OverScalar w)
+scalar_measure w = if nat_le w SCALAR_BITS then fits w else too_wide (OverScalar w)
 
--- data and vectors have at most 1,024 bits
+-- data and vectors have at most so many bits
 abbrev pub data_measure : ℕ → Measure
-data_measure w = if nat_le w 1024 then fits w else too_wide (OverData w)
+data_measure w = if nat_le w DATA_BITS then fits w else too_wide (OverData w)
 
 -- a vector of these elements: the element counts before the vector, and the length before the width
 abbrev pub vector_measure : ℕ → Measure → Measure
-vector_measure n (fits w) = if nat_le n 256 then data_measure (ended (n * w)) else too_wide (OverLength n)
+vector_measure n (fits w) = if nat_le n VECTOR_LENGTH then data_measure (ended (n * w)) else too_wide (OverLength n)
 vector_measure n (too_wide e) = too_wide e
 
 -- a part before others: their sum, or what is passed first

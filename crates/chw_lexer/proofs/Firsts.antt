@@ -5,7 +5,8 @@ use Rattle.std.specs.List.{list_any, list_all}
 use Rattle.std.specs.Str.{bytes_eq}
 use Rattle.std.proofs.lemmas.Bool.{false≢true, and_parts, or_cases, leb-true, eqb-true}
 use Rattle.std.proofs.lemmas.Slice.Eq.{bytes_eq-Decides}
-use Rattle.chw_lexer.specs.Forms.{AllOf, BeginsThen, is_small_letter, is_capital, is_digit, is_name_byte, IsNumeral, IsLiteral, keywords, symbols, is_keyword, is_symbol, HasForm}
+use Rattle.chw_base.specs.Names.{AllOf, BeginsThen, is_small_letter, is_capital, is_digit, is_name_byte, keywords, is_keyword}
+use Rattle.chw_lexer.specs.Forms.{IsNumeral, IsLiteral, symbols, is_symbol, HasForm}
 use Rattle.chw_lexer.specs.Scanning.{is_letter, IsUnsigned}
 use Rattle.chw_lexer.specs.declared.token.Sort.{Sort}
 use Rattle.chw_lexer.specs.declared.token.Sort.TheVariants.{Lower, Upper, Key, Numeral, Literal, Symbol}

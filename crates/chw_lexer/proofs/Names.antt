@@ -3,7 +3,8 @@ use Rattle.std.proofs.Common.{◌≡◌, ℕ, suc, zero, ◌≤◌, Bool, true, 
 use Rattle.std.specs.Prelude.{IsTrue}
 use Rattle.std.proofs.lemmas.Bool.{false≢true, or_left, or_right}
 use Rattle.std.proofs.lemmas.List.{take-append-drop}
-use Rattle.chw_lexer.specs.Forms.{AllOf, BeginsThen, is_small_letter, is_capital, is_letter_or_digit, is_name_byte, is_keyword, HasForm}
+use Rattle.chw_base.specs.Names.{AllOf, BeginsThen, is_small_letter, is_capital, is_letter_or_digit, is_name_byte, is_keyword}
+use Rattle.chw_lexer.specs.Forms.{HasForm}
 use Rattle.chw_lexer.specs.Scanning.{BeginsWith, IsRun, IsTokenAt}
 use Rattle.chw_lexer.specs.declared.token.Sort.{Sort}
 use Rattle.chw_lexer.specs.declared.token.Sort.TheVariants.{Lower, Upper, Key, Numeral, Literal, Symbol}

@@ -3,7 +3,8 @@ use Rattle.std.proofs.Common.{◌≡◌, ℕ, suc, zero, ◌+◌, ◌<◌, ◌�
 use Rattle.std.specs.Prelude.{IsTrue}
 use Rattle.std.proofs.lemmas.Bool.{false≢true, or_cases, eqb-true}
 use Rattle.std.proofs.lemmas.List.{take-append-drop, take_at, take_rest, length-append, length-take-le}
-use Rattle.chw_lexer.specs.Forms.{AllOf, is_digit, IsNumeral, HasForm}
+use Rattle.chw_base.specs.Names.{AllOf, is_digit}
+use Rattle.chw_lexer.specs.Forms.{IsNumeral, HasForm}
 use Rattle.chw_lexer.specs.Scanning.{BeginsWith, IsRun, is_letter, IsUnsigned, IsLongestUnsigned, BeginsNoUnsigned, IsTokenAt, begins_with}
 use Rattle.chw_lexer.specs.declared.token.Sort.{Sort}
 use Rattle.chw_lexer.specs.declared.token.Sort.TheVariants.{Lower, Upper, Key, Numeral, Literal, Symbol}

@@ -3,7 +3,8 @@ use Rattle.std.proofs.Common.{◌≡◌, ℕ, suc, ◌+◌, ◌<◌, ◌≤◌, 
 use Rattle.std.specs.Prelude.{◌==◌}
 use Rattle.std.proofs.lemmas.Bool.{not-false, eqb-true}
 use Rattle.std.proofs.lemmas.List.{take_all, take_more, drop_more}
-use Rattle.chw_lexer.specs.Forms.{AllOf, is_white}
+use Rattle.chw_base.specs.Names.{AllOf}
+use Rattle.chw_lexer.specs.Forms.{is_white}
 use Rattle.chw_lexer.specs.Tokens.{InLine, Gap, LastGap}
 use Rattle.chw_lexer.specs.Tokens.Gap.{none, white, comment}
 use Rattle.chw_lexer.specs.Scanning.{StopsAt, IsRun}

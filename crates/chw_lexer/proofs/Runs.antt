@@ -1,7 +1,7 @@
 -- Fronts of bytes that pass a test, against the longest one.
 use Rattle.std.proofs.Common.{◌≡◌, ℕ, suc, zero, ◌<◌, ◌≤◌, Bool, true, List, [], ◌∷◌, ◌++◌, length, take, get_or, sym, refl, ap, ◌∙◌, arith}
 use Rattle.std.proofs.lemmas.Bool.{false≢true}
-use Rattle.chw_lexer.specs.Forms.{AllOf}
+use Rattle.chw_base.specs.Names.{AllOf}
 use Rattle.chw_lexer.specs.Scanning.{StopsAt}
 
 -- a front that passes is no longer than one that passes and is followed by a byte that doesn't

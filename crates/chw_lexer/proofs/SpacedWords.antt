@@ -4,7 +4,8 @@ use Rattle.std.specs.Prelude.{IsTrue, All}
 use Rattle.std.specs.List.{slice_range, list_all}
 use Rattle.std.proofs.lemmas.Bool.{false≢true}
 use Rattle.std.proofs.lemmas.List.{append-nil, length-append, take_at, drop_at}
-use Rattle.chw_lexer.specs.Forms.{AllOf, BeginsThen, is_white, is_small_letter, is_capital, is_digit, is_letter_or_digit, is_name_byte, keywords, symbols, HasForm, IsNumeral}
+use Rattle.chw_base.specs.Names.{AllOf, BeginsThen, is_small_letter, is_capital, is_digit, is_letter_or_digit, is_name_byte, keywords}
+use Rattle.chw_lexer.specs.Forms.{is_white, symbols, HasForm, IsNumeral}
 use Rattle.chw_lexer.specs.Tokens.{Gap, IsLongest, token, TokensFrom}
 use Rattle.chw_lexer.specs.Tokens.Gap.{white, none}
 use Rattle.chw_lexer.specs.Tokens.TokensFrom.{ends, next}

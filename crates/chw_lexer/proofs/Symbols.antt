@@ -3,7 +3,8 @@ use Rattle.std.proofs.Common.{eqb-true, get_or, ◌≡◌, ℕ, ◌+◌, ◌≤�
 use Rattle.std.specs.Prelude.{IsTrue, ◌==◌}
 use Rattle.std.proofs.lemmas.Bool.{false≢true, both_ways, and_parts, or_parts, not-true, eq-eqb, le-leb, and_from}
 use Rattle.std.proofs.lemmas.List.{take-append-drop, take_rest, length-take-le}
-use Rattle.chw_lexer.specs.Forms.{is_small_letter, is_capital, is_digit, is_letter_or_digit, is_symbol, HasForm}
+use Rattle.chw_base.specs.Names.{is_small_letter, is_capital, is_digit, is_letter_or_digit}
+use Rattle.chw_lexer.specs.Forms.{is_symbol, HasForm}
 use Rattle.chw_lexer.specs.Scanning.{BeginsWith, begins_with, is_letter, is_other, IsUnsigned, IsLongestUnsigned, BeginsNoUnsigned, IsTokenAt, BeginsNoToken}
 use Rattle.chw_lexer.specs.declared.token.Sort.{Sort}
 use Rattle.chw_lexer.specs.declared.token.Sort.TheVariants.{Lower, Upper, Key, Numeral, Literal, Symbol}

@@ -2,7 +2,8 @@
 use Rattle.std.proofs.Common.{get_or, suc, zero, ◌≡◌, ℕ, ◌+◌, ◌<◌, ◌≤◌, true, false, List, [], ◌∷◌, ◌++◌, length, inl, inr, take, sym, refl, ap, ◌∙◌, subst, arith}
 use Rattle.std.proofs.lemmas.Bool.{false≢true, both_ways}
 use Rattle.std.proofs.lemmas.List.{append-nil, append_cancel_left, length-append, take_at}
-use Rattle.chw_lexer.specs.Forms.{is_digit, IsNumeral, HasForm}
+use Rattle.chw_base.specs.Names.{is_digit}
+use Rattle.chw_lexer.specs.Forms.{IsNumeral, HasForm}
 use Rattle.chw_lexer.specs.Tokens.{Gap, IsLongest, TokensFrom, NoTokenFrom, InOrder}
 use Rattle.chw_lexer.specs.Tokens.TokensFrom.{ends, next}
 use Rattle.chw_lexer.specs.Tokens.NoTokenFrom.{here, later}

@@ -1,6 +1,7 @@
 -- What stands at the front of some bytes: a run, a literal without its sign, a token, or a piece of a gap.
 use Rattle.std.specs.Prelude.{◌≡◌, ℕ, ◌<◌, ◌≤◌, Bool, true, false, not, ◌||◌, ◌==◌, IsTrue, List, [], ◌∷◌, ◌++◌, length, take, drop}
-use Rattle.chw_lexer.specs.Forms.{AllOf, HasForm, IsNumeral, is_white, is_digit, is_letter_or_digit, is_name_byte}
+use Rattle.chw_base.specs.Names.{AllOf, is_digit, is_letter_or_digit, is_name_byte}
+use Rattle.chw_lexer.specs.Forms.{HasForm, IsNumeral, is_white}
 use Rattle.chw_lexer.specs.Tokens.{Gap, LastGap, IsLongest, BeginsNothing}
 use Rattle.chw_lexer.specs.declared.token.Sort.{Sort}
 use Rattle.chw_lexer.specs.declared.run.Class.{Class}

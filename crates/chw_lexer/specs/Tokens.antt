@@ -1,6 +1,7 @@
 -- The splitting of a text into tokens by the longest token, and the first place where none begins.
 use Rattle.std.specs.Prelude.{◌≡◌, ℕ, ◌+◌, ◌<◌, ◌≤◌, false, not, ◌==◌, IsTrue, List, [], ◌∷◌, ◌++◌, length, ◌⊎◌}
-use Rattle.chw_lexer.specs.Forms.{AllOf, HasForm, is_white}
+use Rattle.chw_base.specs.Names.{AllOf}
+use Rattle.chw_lexer.specs.Forms.{HasForm, is_white}
 use Rattle.chw_lexer.specs.declared.token.Sort.{Sort}
 use Rattle.chw_lexer.specs.declared.token.Token.{Token}
 

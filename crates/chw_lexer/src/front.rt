@@ -1,6 +1,7 @@
 //! The longest token at the front of some bytes.
 ghost use Rattle.std.specs.Prelude.{◌≡◌, ◌<◌, ◌==◌, ℕ, List, [], ◌∷◌, length, IfSome, IfNone};
-ghost use Rattle.chw_lexer.specs.Forms.{is_small_letter, is_capital, is_digit, is_keyword, is_symbol};
+ghost use Rattle.chw_base.specs.Names.{is_small_letter, is_capital, is_digit, is_keyword};
+ghost use Rattle.chw_lexer.specs.Forms.{is_symbol};
 ghost use Rattle.chw_lexer.specs.Scanning.{begins_with, is_letter, is_other, BeginsWith, IsLongestUnsigned, BeginsNoUnsigned, IsTokenAt, BeginsNoToken};
 
 use crate::run::{Class, is_digit, run_len};

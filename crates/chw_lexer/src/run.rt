@@ -1,6 +1,6 @@
 //! Runs of bytes of one class.
 ghost use Rattle.std.specs.Prelude.{◌≡◌, length};
-ghost use Rattle.chw_lexer.specs.Forms.{is_digit, is_letter_or_digit};
+ghost use Rattle.chw_base.specs.Names.{is_digit, is_letter_or_digit};
 ghost use Rattle.chw_lexer.specs.Scanning.{is_of, IsRun};
 
 /// Which bytes a run is of.

@@ -6,7 +6,7 @@ use Rattle.std.proofs.lemmas.Bool.{false≢true, ltb-false, ltb-true}
 use Rattle.std.proofs.lemmas.Int.Digits.{number_after_append, number_after_ge, number_push}
 use Rattle.std.proofs.lemmas.List.{map-append, take_more, take-append-drop, drop_more, drop_all}
 use Rattle.std.proofs.lemmas.Option.{none-some, same_Some}
-use Rattle.chw_lexer.specs.Forms.{is_digit}
+use Rattle.chw_base.specs.Names.{is_digit}
 use Rattle.chw_limits.specs.Literals.{number_of, within}
 
 digit : ℕ → ℕ

@@ -3,7 +3,8 @@ use Rattle.std.proofs.Common.{◌≡◌, ℕ, ◌+◌, ◌≤◌, Bool, true, fa
 use Rattle.std.specs.List.{prefix_len}
 use Rattle.std.proofs.lemmas.Bool.{false≢true, eqb-true}
 use Rattle.std.proofs.lemmas.List.{take-append-le, drop-append-le, take_all, drop_all}
-use Rattle.chw_lexer.specs.Forms.{AllOf, IsNumeral, is_digit}
+use Rattle.chw_base.specs.Names.{AllOf, is_digit}
+use Rattle.chw_lexer.specs.Forms.{IsNumeral}
 use Rattle.chw_limits.specs.Literals.{parts, parts_behind, parts_of, literal_of}
 
 -- the digits stand before what is no digit

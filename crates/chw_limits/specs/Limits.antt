@@ -13,7 +13,7 @@ use Rattle.chw_limits.specs.Parts.{Tests, tree_has, is_definition, is_data_type,
 abbrev pub none : List ℕ → Bool
 none bytes = false
 
--- written vectors of more than 256 elements
+-- written vectors of more elements than the limit
 abbrev pub long_vectors : Tests
 long_vectors = record { vector = nat_lt WRITTEN_VECTOR; literal = none; numeral = none }
 

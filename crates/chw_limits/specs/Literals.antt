@@ -2,7 +2,8 @@
 use Rattle.std.specs.Prelude.{ℕ, ◌-◌, ◌^◌, Bool, true, false, ◌==◌, nat_lt, List, [], ◌∷◌, map, take, drop, Option, Some, None, if◌then◌else◌}
 use Rattle.std.specs.Int.Digits.{number_from_digits}
 use Rattle.std.specs.List.{prefix_len}
-use Rattle.chw_lexer.specs.Forms.{is_digit}
+use Rattle.chw_base.specs.Names.{is_digit}
+use Rattle.chw_base.specs.declared.limits.TheConstants.{LITERAL_VALUE_BITS, TYPE_NUMERAL_BITS}
 use Rattle.chw_limits.specs.declared.literal.Letter.{Letter}
 use Rattle.chw_limits.specs.declared.literal.Letter.TheVariants.{U, S, B}
 use Rattle.chw_limits.specs.declared.literal.Literal.{Literal}
@@ -22,7 +23,7 @@ letter byte = if byte == 115 then S else (if byte == 98 then B else U)
 -- the literal with or without a sign of this value, this letter and this width
 abbrev pub parts : (negative : Bool) (value : List ℕ) (byte : ℕ) (width : List ℕ) → Literal
 parts negative value byte width =
-    record { negative = negative; value = within 128 (number_of value); letter = letter byte; width = within 32 (number_of width) }
+    record { negative = negative; value = within LITERAL_VALUE_BITS (number_of value); letter = letter byte; width = within TYPE_NUMERAL_BITS (number_of width) }
 
 -- with these digits as its value, the literal whose letter and width are what stands behind them
 abbrev pub parts_behind : Bool → List ℕ → List ℕ → Literal

@@ -1,6 +1,7 @@
 //! What the parts of a literal are.
 ghost use Rattle.std.specs.Prelude.{◌≡◌, ℕ, List, ◌∷◌, ◌++◌, true, false};
-ghost use Rattle.chw_lexer.specs.Forms.{IsNumeral, is_digit};
+ghost use Rattle.chw_base.specs.Names.{is_digit};
+ghost use Rattle.chw_lexer.specs.Forms.{IsNumeral};
 ghost use Rattle.chw_limits.specs.Literals.{parts, literal_of};
 
 /// A literal has the sign, the value, the letter and the width of which it is made.

@@ -1,7 +1,7 @@
 //! What literals and numerals say.
 ghost use Rattle.std.specs.Prelude.{◌≡◌, ◌+◌, ◌*◌, ◌-◌, ◌<◌, ◌^◌, ◌≤◌, length};
 ghost use Rattle.std.specs.List.{prefix_len};
-ghost use Rattle.chw_lexer.specs.Forms.{is_digit};
+ghost use Rattle.chw_base.specs.Names.{is_digit};
 ghost use Rattle.chw_limits.specs.Literals.{number_of, within, letter, parts_of, literal_of};
 
 /// The letter of a literal.

@@ -3,7 +3,7 @@ use Rattle.std.proofs.Common.{◌≡◌, ℕ, ◌+◌, ◌<◌, ◌≤◌, Bool,
 use Rattle.std.proofs.lemmas.List.{append_assoc, map-append, take_more, take_all}
 use Rattle.chw_grammar.specs.declared.word.Word.{Word}
 use Rattle.name_tables.specs.Names.{with_name}
-use Rattle.prim_names.specs.Names.{primitive_names}
+use Rattle.chw_prims.specs.Names.{primitive_names}
 use Rattle.chw_names.specs.Words.{when, with_keys, with_names, seconds_by, sooner, least_of, DeclaresBy}
 use Rattle.chw_names.proofs.Earliest.{least_append}
 

@@ -4,7 +4,7 @@ use Rattle.chw_grammar.specs.declared.program.Constructor.{Constructor}
 use Rattle.chw_grammar.specs.declared.program.Declaration.{Declaration}
 use Rattle.chw_grammar.specs.declared.program.Declaration.TheVariants as declaration
 use Rattle.chw_grammar.specs.declared.word.Word.{Word}
-use Rattle.prim_names.specs.Names.{primitive_names}
+use Rattle.chw_prims.specs.Names.{primitive_names}
 use Rattle.chw_names.specs.declared.globals.Globals.{Globals}
 use Rattle.chw_names.specs.declared.space.Space.{Space}
 use Rattle.chw_names.specs.declared.space.Space.TheVariants.{Domains, DataTypes, Constructors, Definitions}

@@ -10,7 +10,7 @@ use Rattle.chw_grammar.specs.declared.word.Word.{Word}
 use Rattle.chw_grammar.specs.TypeTree.{Ty, type_forall, type_arrow, type_sum, type_product, type_named, type_variable, type_numeral, Tys, no_types, type_and}
 use Rattle.chw_grammar.specs.TermTree.{Tm, term_lambda, term_type_lambda, term_letrec, term_case, term_apply, term_name, term_constructor, term_literal, term_vec, Tms, no_terms, term_and, Bindings, no_bindings, binding_and, Alternatives, no_alternatives, alternative_and, Arguments, no_arguments, argument_and, type_argument_and}
 use Rattle.name_tables.specs.Names.{is_among}
-use Rattle.prim_names.specs.Names.{primitive_names}
+use Rattle.chw_prims.specs.Names.{primitive_names}
 use Rattle.chw_names.specs.declared.globals.Globals.{Globals}
 use Rattle.chw_names.specs.Globals.{globals_of}
 use Rattle.chw_names.specs.Twices.{binding_words, pattern_words, constructor_of, parameter_name}

@@ -1,6 +1,6 @@
 //! Name spaces.
 ghost use Rattle.std.specs.Prelude.{◌≡◌, OnOk, IfOk, flat_map, map};
-ghost use Rattle.prim_names.specs.Names.{primitive_names, name_of};
+ghost use Rattle.chw_prims.specs.Names.{primitive_names, name_of};
 ghost use Rattle.chw_names.specs.Globals.{built_in, built_in_data_types, built_in_constructors, words_in, constructor_name};
 ghost use Rattle.chw_names.specs.Words.{Declares, with_names};
 
@@ -9,7 +9,7 @@ use crate::least::Least;
 use chw_base::NoMemory;
 use chw_grammar::{Constructor, Declaration};
 use name_tables::Declared;
-use prim_names::{ALL, Prim, name};
+use chw_prims::{ALL, Prim, name};
 use std::alloc::Global;
 
 /// A name space of the whole description.

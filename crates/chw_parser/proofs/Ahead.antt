@@ -3,11 +3,11 @@ use Rattle.std.specs.Prelude.{◌≡◌, suc, Some, None, List, [], ◌∷◌, �
 use Rattle.std.proofs.Common.{sym, ap, ◌∙◌, subst, ◌<◌, arith}
 use Rattle.chw_grammar.specs.declared.terminal.Terminal.{Terminal}
 use Rattle.chw_grammar.specs.Lexemes.{Lexeme, next}
-use Rattle.chw_parts.specs.declared.action.Action.{Action}
-use Rattle.chw_parts.specs.declared.parts.Parts.{Parts}
-use Rattle.chw_parts.specs.declared.value.Value.{Value}
-use Rattle.chw_parts.specs.Actions.{made}
-use Rattle.chw_parts.specs.Parts.{Stands}
+use Rattle.parser_parts.specs.declared.action.Action.{Action}
+use Rattle.parser_parts.specs.declared.parts.Parts.{Parts}
+use Rattle.parser_parts.specs.declared.value.Value.{Value}
+use Rattle.parser_parts.specs.Actions.{made}
+use Rattle.parser_parts.specs.Parts.{Stands}
 use Rattle.chw_parser.specs.declared.symbol.Symbol.{Symbol}
 use Rattle.chw_parser.specs.declared.symbol.Symbol.TheVariants.{Part, Act}
 use Rattle.chw_parser.specs.declared.symbol.Rule.{Rule}

@@ -6,7 +6,7 @@ use Rattle.chw_grammar.specs.declared.terminal.Terminal.TheVariants as the
 use Rattle.chw_parser.specs.declared.symbol.Symbol.TheVariants.{Token, Word, Part, Act}
 use Rattle.chw_parser.specs.declared.symbol.WordSort.TheVariants as sort
 use Rattle.chw_parser.specs.declared.symbol.Rule.TheVariants as rule
-use Rattle.chw_parts.specs.declared.action.Action.TheVariants as act
+use Rattle.parser_parts.specs.declared.action.Action.TheVariants as act
 use Rattle.chw_parser.specs.Follow.{begins_atom, after_product, after_sum, after_type, begins_simple, after_term, begins_term}
 use Rattle.chw_parser.specs.Productions.{production}
 

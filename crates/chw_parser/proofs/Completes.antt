@@ -13,7 +13,7 @@ use Rattle.chw_parser.specs.declared.symbol.WordSort.{WordSort}
 use Rattle.chw_parser.specs.declared.symbol.WordSort.TheVariants as sort
 use Rattle.chw_parser.specs.declared.symbol.Rule.{Rule}
 use Rattle.chw_parser.specs.declared.symbol.Rule.TheVariants as rule
-use Rattle.chw_parts.specs.declared.action.Action.{Action}
+use Rattle.parser_parts.specs.declared.action.Action.{Action}
 use Rattle.chw_parser.specs.Follow.{after_product}
 use Rattle.chw_parser.specs.Ending.{goes_on, begins, word_terminal, first, is_end, Fine}
 use Rattle.chw_parser.specs.Machine.{is_word, Reading, end, on_token, on_word, on_kind, on_part, on_act}

@@ -13,11 +13,11 @@ use Rattle.chw_grammar.specs.TypeTree.{Ty, type_named}
 use Rattle.chw_grammar.specs.TypeView.{types_of}
 use Rattle.chw_grammar.specs.TermTree.{Tm, term_letrec, term_case, term_vec}
 use Rattle.chw_grammar.specs.TermView.{terms_of, bindings_of, alternatives_of}
-use Rattle.chw_parts.specs.declared.action.Action.TheVariants as action
-use Rattle.chw_parts.specs.declared.value.Value.{Value}
-use Rattle.chw_parts.specs.declared.value.Value.TheVariants.{OneWord, Words, OneType, Types, OneTerm, Terms, OnePattern, Bindings, Alternatives, Parameters, Constructors, Declarations, Whole}
-use Rattle.chw_parts.specs.Actions.{made}
-use Rattle.chw_parts.specs.Stacks.{onto}
+use Rattle.parser_parts.specs.declared.action.Action.TheVariants as action
+use Rattle.parser_parts.specs.declared.value.Value.{Value}
+use Rattle.parser_parts.specs.declared.value.Value.TheVariants.{OneWord, Words, OneType, Types, OneTerm, Terms, OnePattern, Bindings, Alternatives, Parameters, Constructors, Declarations, Whole}
+use Rattle.parser_parts.specs.Actions.{made}
+use Rattle.parser_parts.specs.Stacks.{onto}
 use Rattle.chw_parser.proofs.Turned.{turned}
 
 pub named_made : (w : Word) (ts : List Ty) (vs : List Value)

@@ -7,8 +7,8 @@ use Rattle.chw_grammar.specs.declared.terminal.Terminal.{Terminal}
 use Rattle.chw_grammar.specs.declared.terminal.Terminal.TheVariants as the
 use Rattle.chw_grammar.specs.Lexemes.{Lexeme, kind_terminal}
 use Rattle.chw_parser.specs.declared.symbol.Symbol.{Symbol}
-use Rattle.chw_parts.specs.declared.value.Value.{Value}
-use Rattle.chw_parts.specs.declared.value.Value.TheVariants.{OneKind}
+use Rattle.parser_parts.specs.declared.value.Value.{Value}
+use Rattle.parser_parts.specs.declared.value.Value.TheVariants.{OneKind}
 use Rattle.chw_parser.specs.Machine.{Runs, all_read, token, word, kind, part, act}
 
 kind_back : Terminal → KindTree

@@ -3,8 +3,8 @@ use Rattle.std.specs.Prelude.{◌≡◌, List, [], ◌∷◌}
 use Rattle.chw_grammar.specs.declared.program.Tree.{Tree}
 use Rattle.chw_grammar.specs.Grammar.{Reads}
 use Rattle.chw_grammar.specs.Lexemes.{Lexeme}
-use Rattle.chw_parts.specs.declared.value.Value.{Value}
-use Rattle.chw_parts.specs.declared.value.Value.TheVariants.{Whole}
+use Rattle.parser_parts.specs.declared.value.Value.{Value}
+use Rattle.parser_parts.specs.declared.value.Value.TheVariants.{Whole}
 use Rattle.chw_parser.proofs.Once.{one_run}
 use Rattle.chw_parser.proofs.ReadPrograms.{tree_runs}
 

@@ -6,7 +6,7 @@ use Rattle.chw_parser.specs.declared.symbol.Symbol.TheVariants.{Token, Word, Kin
 use Rattle.chw_parser.specs.declared.symbol.WordSort.TheVariants as sort
 use Rattle.chw_parser.specs.declared.symbol.Rule.{Rule}
 use Rattle.chw_parser.specs.declared.symbol.Rule.TheVariants as rule
-use Rattle.chw_parts.specs.declared.action.Action.TheVariants as act
+use Rattle.parser_parts.specs.declared.action.Action.TheVariants as act
 
 pub data Produces : Rule → List Symbol → Type 0 where
   of_program : Produces rule.Program (Act act.NoDeclarations ∷ Part rule.Declarations ∷ [])

@@ -11,17 +11,17 @@ use Rattle.chw_grammar.specs.declared.program.Top.{Top}
 use Rattle.chw_grammar.specs.declared.program.Tree.{Tree}
 use Rattle.chw_grammar.specs.Lexemes.{Lexeme, next}
 use Rattle.chw_grammar.specs.Grammar.{is_lower, ParametersAt, no_parameter, parameter, ConstructorAt, constructor, ConstructorsAt, no_constructor, one_more, DeclarationAt, domain_declared, definition_declared, data_declared, DeclarationsAt, no_declaration, declared, MorePortsAt, no_port, port, PortsAt, ports, InputNamesAt, no_input, input_names, InputsAt, inputs, TopAt, top, Reads}
-use Rattle.chw_parts.specs.declared.action.Action.TheVariants as action
+use Rattle.parser_parts.specs.declared.action.Action.TheVariants as action
 use Rattle.chw_parser.specs.declared.symbol.Symbol.{Symbol}
 use Rattle.chw_parser.specs.declared.symbol.Symbol.TheVariants.{Part, Act, Token}
 use Rattle.chw_parser.specs.declared.symbol.WordSort.TheVariants as sort
 use Rattle.chw_parser.specs.declared.symbol.Rule.TheVariants as rule
-use Rattle.chw_parts.specs.declared.value.Value.{Value}
-use Rattle.chw_parts.specs.declared.value.Value.TheVariants.{Words, Parameters, Constructors, Declarations, Whole}
+use Rattle.parser_parts.specs.declared.value.Value.{Value}
+use Rattle.parser_parts.specs.declared.value.Value.TheVariants.{Words, Parameters, Constructors, Declarations, Whole}
 use Rattle.chw_parser.specs.Follow.{begins_atom, after_type, after_term}
 use Rattle.chw_parser.specs.Machine.{Runs, all_read, part, act}
 use Rattle.chw_parser.specs.Productions.{production}
-use Rattle.chw_parts.specs.Stacks.{onto}
+use Rattle.parser_parts.specs.Stacks.{onto}
 use Rattle.chw_parser.proofs.Choices.{lower_is}
 use Rattle.chw_parser.proofs.Made.{constructor_made, data_made, tree_made}
 use Rattle.chw_parser.proofs.ReadTypes.{type_runs, atoms_run}

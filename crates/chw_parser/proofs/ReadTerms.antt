@@ -11,17 +11,17 @@ use Rattle.chw_grammar.specs.Lexemes.{Lexeme, next}
 use Rattle.chw_grammar.specs.Grammar.{Takes, is_lower, is_upper, is_literal, NamesAt, no_name, name, constructor_pattern, literal_pattern, TermAt, lambda, type_lambda, letrec, case_of, application, BindingsAt, no_binding, binding, AlternativesAt, no_alternative, alternative, default, ApplicationAt, head_alone, applied, ArgumentsAt, no_argument as no_more_arguments, argument, ArgumentAt, term_argument, type_argument, SimpleAt, name_term, constructor_term, literal_term, vec_term, bracketed_term, ElementsAt, no_element, elements, MoreElementsAt, no_more_element, element}
 use Rattle.chw_grammar.specs.TermTree.{Tm, term_letrec, term_case, term_apply, term_vec}
 use Rattle.chw_grammar.specs.TermView.{terms_of, bindings_of, alternatives_of, arguments_of}
-use Rattle.chw_parts.specs.declared.action.Action.TheVariants as action
+use Rattle.parser_parts.specs.declared.action.Action.TheVariants as action
 use Rattle.chw_parser.specs.declared.symbol.Symbol.{Symbol}
 use Rattle.chw_parser.specs.declared.symbol.Symbol.TheVariants.{Part, Act, Token}
 use Rattle.chw_parser.specs.declared.symbol.WordSort.TheVariants as sort
 use Rattle.chw_parser.specs.declared.symbol.Rule.TheVariants as rule
-use Rattle.chw_parts.specs.declared.value.Value.{Value}
-use Rattle.chw_parts.specs.declared.value.Value.TheVariants.{Words, OneTerm, Terms, OnePattern, Bindings, Alternatives, Arguments}
+use Rattle.parser_parts.specs.declared.value.Value.{Value}
+use Rattle.parser_parts.specs.declared.value.Value.TheVariants.{Words, OneTerm, Terms, OnePattern, Bindings, Alternatives, Arguments}
 use Rattle.chw_parser.specs.Follow.{begins_simple, after_type, after_term, begins_term}
 use Rattle.chw_parser.specs.Machine.{Runs, token, part, act}
 use Rattle.chw_parser.specs.Productions.{production}
-use Rattle.chw_parts.specs.Stacks.{onto}
+use Rattle.parser_parts.specs.Stacks.{onto}
 use Rattle.chw_parser.proofs.Choices.{lower_is, literal_is, upper_simple, upper_alternative, upper_begins_simple, simple_begins_argument, simple_begins_term, some_application, some_argument, no_argument, one_more_argument, no_more_argument, simple_argument, some_element, no_field}
 use Rattle.chw_parser.proofs.Made.{pattern_made, letrec_made, case_made, vec_made}
 use Rattle.chw_parser.proofs.ReadTypes.{type_runs, atom_runs}

@@ -10,13 +10,13 @@ use Rattle.chw_parser.specs.declared.symbol.Symbol.{Symbol}
 use Rattle.chw_parser.specs.declared.symbol.Symbol.TheVariants.{Part}
 use Rattle.chw_parser.specs.declared.symbol.WordSort.TheVariants as sort
 use Rattle.chw_parser.specs.declared.symbol.Rule.TheVariants as rule
-use Rattle.chw_parts.specs.declared.value.Value.{Value}
-use Rattle.chw_parts.specs.declared.value.Value.TheVariants.{OneType, Types}
+use Rattle.parser_parts.specs.declared.value.Value.{Value}
+use Rattle.parser_parts.specs.declared.value.Value.TheVariants.{OneType, Types}
 use Rattle.chw_parser.specs.Follow.{begins_atom, after_product, after_sum, after_type}
 use Rattle.chw_parser.proofs.Made.{named_made}
 use Rattle.chw_parser.specs.Machine.{Runs, part, act}
 use Rattle.chw_parser.specs.Productions.{production}
-use Rattle.chw_parts.specs.Stacks.{onto}
+use Rattle.parser_parts.specs.Stacks.{onto}
 use Rattle.chw_parser.proofs.Choices.{no_arrow, type_sum as type_to_sum, sum_product, product_atom, no_plus, no_more_plus, no_star, no_more_star, no_atom, some_atom, some_sum, upper_begins, lower_is, numeral_is, upper_applied, upper_atom}
 use Rattle.chw_parser.proofs.Steps.{takes_next, word_next, tokens_run, word_runs, kind_runs}
 

@@ -9,8 +9,8 @@ use Rattle.chw_grammar.specs.Grammar.{Takes, WordAt, KindAt}
 use Rattle.chw_parser.specs.declared.symbol.WordSort.{WordSort}
 use Rattle.chw_parser.specs.declared.symbol.Symbol.{Symbol}
 use Rattle.chw_parser.specs.declared.symbol.Symbol.TheVariants.{Token, Word, Kind}
-use Rattle.chw_parts.specs.declared.value.Value.{Value}
-use Rattle.chw_parts.specs.declared.value.Value.TheVariants.{OneWord, OneKind}
+use Rattle.parser_parts.specs.declared.value.Value.{Value}
+use Rattle.parser_parts.specs.declared.value.Value.TheVariants.{OneWord, OneKind}
 use Rattle.chw_parser.specs.Machine.{is_word, Runs, token, word, kind}
 
 -- the tokens, before other symbols

@@ -2,7 +2,7 @@
 use Rattle.std.specs.Prelude.{◌≡◌, List, [], ◌∷◌, ◌++◌, refl}
 use Rattle.std.proofs.Common.{◌∙◌}
 use Rattle.std.proofs.lemmas.List.{append-nil}
-use Rattle.chw_parts.specs.Stacks.{onto}
+use Rattle.parser_parts.specs.Stacks.{onto}
 
 pub onto_onto : {T : Type 0} (xs ys zs : List T) → onto (onto xs ys) zs ≡ onto ys (xs ++ zs)
 onto_onto [] ys zs = refl

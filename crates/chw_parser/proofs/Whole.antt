@@ -10,9 +10,9 @@ use Rattle.chw_grammar.specs.declared.program.Tree.{Tree}
 use Rattle.chw_grammar.specs.Lexemes.{Lexeme, terminal, lexeme_of, lexemes_of}
 use Rattle.chw_grammar.specs.Grammar.{Reads}
 use Rattle.chw_grammar.specs.Height.{tree_height}
-use Rattle.chw_parts.specs.declared.parts.Parts.{Parts}
-use Rattle.chw_parts.specs.declared.value.Value.TheVariants.{Whole}
-use Rattle.chw_parts.specs.Parts.{Stands}
+use Rattle.parser_parts.specs.declared.parts.Parts.{Parts}
+use Rattle.parser_parts.specs.declared.value.Value.TheVariants.{Whole}
+use Rattle.parser_parts.specs.Parts.{Stands}
 use Rattle.chw_parser.specs.declared.symbol.Symbol.{Symbol}
 use Rattle.chw_parser.specs.declared.symbol.Symbol.TheVariants.{Part}
 use Rattle.chw_parser.specs.declared.symbol.Rule.TheVariants as rule

@@ -4,16 +4,16 @@ use Rattle.chw_grammar.specs.declared.type_tree.KindTree.{KindTree}
 use Rattle.chw_grammar.specs.declared.terminal.Terminal.{Terminal}
 use Rattle.chw_grammar.specs.Lexemes.{Lexeme, terminal, kind_terminal, next, word_of}
 use Rattle.chw_grammar.specs.Grammar.{is_lower, is_upper, is_numeral, is_literal}
-use Rattle.chw_parts.specs.declared.action.Action.{Action}
+use Rattle.parser_parts.specs.declared.action.Action.{Action}
 use Rattle.chw_parser.specs.declared.symbol.Rule.{Rule}
 use Rattle.chw_parser.specs.declared.symbol.WordSort.{WordSort}
 use Rattle.chw_parser.specs.declared.symbol.WordSort.TheVariants as sort
 use Rattle.chw_parser.specs.declared.symbol.Symbol.{Symbol}
 use Rattle.chw_parser.specs.declared.symbol.Symbol.TheVariants.{Token, Word, Kind, Part, Act}
-use Rattle.chw_parts.specs.declared.value.Value.{Value}
-use Rattle.chw_parts.specs.declared.value.Value.TheVariants.{OneWord, OneKind}
+use Rattle.parser_parts.specs.declared.value.Value.{Value}
+use Rattle.parser_parts.specs.declared.value.Value.TheVariants.{OneWord, OneKind}
 use Rattle.chw_parser.specs.Productions.{production}
-use Rattle.chw_parts.specs.Actions.{made}
+use Rattle.parser_parts.specs.Actions.{made}
 
 -- whether a token is a word of the sort
 abbrev pub is_word : WordSort → Terminal → Bool

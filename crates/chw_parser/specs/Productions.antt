@@ -7,7 +7,7 @@ use Rattle.chw_parser.specs.declared.symbol.Symbol.TheVariants.{Token, Word, Kin
 use Rattle.chw_parser.specs.declared.symbol.WordSort.TheVariants as sort
 use Rattle.chw_parser.specs.declared.symbol.Rule.{Rule}
 use Rattle.chw_parser.specs.declared.symbol.Rule.TheVariants as rule
-use Rattle.chw_parts.specs.declared.action.Action.TheVariants as act
+use Rattle.parser_parts.specs.declared.action.Action.TheVariants as act
 
 abbrev pub production : Rule → Terminal → Option (List Symbol)
 production rule.Program _ = Some (Act act.NoDeclarations ∷ Part rule.Declarations ∷ [])

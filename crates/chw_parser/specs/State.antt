@@ -7,10 +7,10 @@ use Rattle.chw_grammar.specs.declared.word.Word.{Word as WordTree}
 use Rattle.chw_grammar.specs.declared.program.Tree.{Tree}
 use Rattle.chw_grammar.specs.Lexemes.{Lexeme, kind_terminal, next}
 use Rattle.chw_grammar.specs.Grammar.{Reads}
-use Rattle.chw_parts.specs.declared.parts.Parts.{Parts}
-use Rattle.chw_parts.specs.declared.value.Value.{Value}
-use Rattle.chw_parts.specs.declared.value.Value.TheVariants.{OneWord, OneKind, Whole}
-use Rattle.chw_parts.specs.Parts.{Stands}
+use Rattle.parser_parts.specs.declared.parts.Parts.{Parts}
+use Rattle.parser_parts.specs.declared.value.Value.{Value}
+use Rattle.parser_parts.specs.declared.value.Value.TheVariants.{OneWord, OneKind, Whole}
+use Rattle.parser_parts.specs.Parts.{Stands}
 use Rattle.chw_parser.specs.declared.symbol.Symbol.{Symbol}
 use Rattle.chw_parser.specs.declared.symbol.Symbol.TheVariants.{Token, Word, Kind, Part, Act}
 use Rattle.chw_parser.specs.declared.symbol.Rule.TheVariants as rule

@@ -4,7 +4,7 @@ ghost use Rattle.chw_parser.specs.Productions.{production};
 
 use crate::symbol::{Rule, Symbol, WordSort};
 use chw_grammar::Terminal;
-use chw_parts::Action;
+use parser_parts::Action;
 
 pub fn of_declarations(next: Terminal) -> Option<&'static [Symbol]>
     ensures { MatchOption result (production Rule.Declarations next ≡ None) (λ symbols. production Rule.Declarations next ≡ Some symbols.now) }

@@ -11,7 +11,7 @@ use crate::symbol::{Symbol, WordSort};
 use chw_base::{Name, NoMemory};
 use chw_grammar::{KindTree, Terminal, Word};
 use chw_lexer::{Token, word};
-use chw_parts::{Parts, Stack};
+use parser_parts::{Parts, Stack};
 use std::alloc::Global;
 
 /// What the stack wants next.
@@ -102,7 +102,7 @@ fn is_same(a: Terminal, b: Terminal) -> bool
 fn word_at(alloc: Global, at: u32, bytes: &[u8]) -> Result<Word, NoMemory>
     ensures { IfOk result (λ w. w ≡ record { at = at; bytes = bytes.now }) }
 {
-    let bytes = Name::from(bytes.to_vec(alloc)?);
+    let bytes = Name::copy_of(alloc, bytes)?;
     Ok(Word { at, bytes })
 }
 

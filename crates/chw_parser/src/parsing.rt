@@ -15,7 +15,7 @@ use chw_base::limits::NESTING;
 use chw_grammar::{Terminal, Tree};
 use chw_lexer::laws::tokens_lie_in;
 use chw_lexer::{Token, word};
-use chw_parts::{Parts, Stack};
+use parser_parts::{Parts, Stack};
 use std::alloc::Global;
 
 /// Why tokens are no description, or too deep a one.

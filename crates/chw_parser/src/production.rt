@@ -5,7 +5,7 @@ ghost use Rattle.chw_parser.specs.Productions.{production};
 use crate::symbol::{Rule, Symbol, WordSort};
 use crate::{declaration_rules, term_rules, type_rules};
 use chw_grammar::Terminal;
-use chw_parts::Action;
+use parser_parts::Action;
 
 /// What the rule has in its place before this terminal, or `None` where none of its productions begins so.
 pub fn production(rule: Rule, next: Terminal) -> Option<&'static [Symbol]>

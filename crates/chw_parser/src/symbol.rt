@@ -1,6 +1,6 @@
 //! The symbols of which the parser's productions consist.
 use chw_grammar::Terminal;
-use chw_parts::Action;
+use parser_parts::Action;
 
 /// What a production has in one place.
 #[derive(Clone, Copy, Debug)]

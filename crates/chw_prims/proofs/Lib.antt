@@ -1,1 +1,2 @@
+mod All
 pub mod SchemaKinds

@@ -3,6 +3,8 @@
 
 mod build;
 pub mod laws;
+pub mod name_laws;
+pub mod names;
 pub mod prim;
 pub mod row;
 pub mod schemas;
@@ -10,6 +12,7 @@ mod signals;
 mod vectors;
 mod words;
 
+pub use names::{ALL, name, named};
 pub use prim::Primitive as Prim;
 pub use row::Row;
 pub use schemas::schema;

@@ -11,7 +11,7 @@ use Rattle.chw_types.specs.BuiltIn.{built_in}
 use Rattle.chw_types.specs.Kinds.{KindOf, kind_var}
 use Rattle.chw_types.proofs.KindsFound.{one_kind}
 use Rattle.chw_terms.specs.Tidy.{HasCircuit, HasItsKind}
-use Rattle.tree_program.specs.Programs.{without_kind}
+use Rattle.chw_resolve.specs.Programs.{without_kind}
 
 -- no field is a circuit: each is a value
 abbrev AreValues : List Data → ℕ → List Kind → List TypeTree → Type 0

@@ -10,7 +10,7 @@ use Rattle.chw_resolve.specs.declared.fault.NameFault.TheVariants.{DataCycle, De
 use Rattle.data_kinds.specs.Cycles.{IsCycleOf}
 use Rattle.data_kinds.specs.Kinds.{of_kind, SameButKinds}
 use Rattle.data_kinds.proofs.Settling.{references_stay}
-use Rattle.tree_program.specs.Programs.{without_kind}
+use Rattle.chw_resolve.specs.Programs.{without_kind}
 
 -- steps that are taken along with each other lead along with each other
 leads_carried : {Step Step' : ℕ → ℕ → Type 0} → ((a b : ℕ) → Step a b → Step' a b) → {a b : ℕ} → Leads Step a b → Leads Step' a b

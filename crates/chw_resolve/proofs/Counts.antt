@@ -15,7 +15,7 @@ use Rattle.chw_names.specs.Globals.{globals_of}
 use Rattle.chw_resolve.specs.Faults.{data_types_of, definitions_of}
 use Rattle.chw_terms.specs.declared.program.Def.{Def}
 use Rattle.chw_types.specs.declared.declarations.Data.{Data}
-use Rattle.tree_program.specs.Programs.{datas_in, defs_in, without_kind}
+use Rattle.chw_resolve.specs.Programs.{datas_in, defs_in, without_kind}
 
 -- a limit that isn't passed, and those behind it
 not_passed : {X : Type 0} (b : Bool) (x : X) (o : Option X) → cond b (Some x) o ≡ None → (b ≡ false) × (o ≡ None)

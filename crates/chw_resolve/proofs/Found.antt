@@ -11,7 +11,7 @@ use Rattle.chw_terms.specs.declared.program.Program.{Program}
 use Rattle.chw_types.specs.declared.declarations.Data.{Data}
 use Rattle.data_kinds.specs.Cycles.{IsCycleOf}
 use Rattle.data_kinds.specs.Kinds.{HaveTheirKinds, SameButKinds}
-use Rattle.ref_order.specs.Orders.{LeastFirst}
+use Rattle.graph_order.specs.Orders.{LeastFirst}
 
 -- what stands in a vector whose items were all written
 pub written : {X : Type 0} (n : ℕ) (xs before ys : List X) → n ≡ length xs → before ≡ xs → length ys ≡ length before → take n (ys ++ drop (length ys) xs) ≡ ys

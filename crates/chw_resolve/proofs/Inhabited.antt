@@ -11,7 +11,7 @@ use Rattle.chw_names.specs.Globals.{globals_of}
 use Rattle.chw_types.specs.declared.declarations.Data.{Data}
 use Rattle.chw_resolve.specs.Faults.{data_types_of}
 use Rattle.chw_resolve.specs.Written.{WasRead}
-use Rattle.tree_program.specs.Programs.{datas_in, without_kind}
+use Rattle.chw_resolve.specs.Programs.{datas_in, without_kind}
 
 abbrev AreInhabited : List Data → Type 0
 AreInhabited [] = Unit {0}

@@ -16,10 +16,10 @@ use Rattle.chw_names.specs.Words.{names_of, with_names}
 use Rattle.chw_resolve.specs.Faults.{definitions_of}
 use Rattle.chw_resolve.proofs.Empty.{right_nil, when_nil, neither}
 use Rattle.name_tables.specs.Names.{place_of, is_among}
-use Rattle.prim_names.specs.declared.table.TheConstants.{ALL}
-use Rattle.prim_names.specs.Names.{primitive_names, name_of}
-use Rattle.tree_program.specs.Programs.{defs_in, top_in}
-use Rattle.tree_program.specs.Terms.{primitives}
+use Rattle.chw_prims.specs.declared.names.TheConstants.{ALL}
+use Rattle.chw_prims.specs.Names.{primitive_names, name_of}
+use Rattle.chw_resolve.specs.Programs.{defs_in, top_in}
+use Rattle.chw_resolve.specs.Terms.{primitives}
 
 place_within : (names : List (List ℕ)) (name : List ℕ) (p : ℕ) → place_of names name ≡ Some p → p < length names
 place_within [] name p e = absurd (none-some p e)

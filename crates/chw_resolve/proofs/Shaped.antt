@@ -1,8 +1,6 @@
 -- The names of a tree that was read have the forms of their tokens.
-use Rattle.std.proofs.Common.{ℕ, Bool, List, [], ◌∷◌, ◌++◌}
+use Rattle.std.proofs.Common.{ℕ, List, [], ◌∷◌, ◌++◌}
 use Rattle.std.specs.List.{flat_map}
-use Rattle.chw_lexer.specs.Forms.{AllOf, HasForm}
-use Rattle.chw_lexer.specs.declared.token.Sort.TheVariants as sort
 use Rattle.chw_lexer.proofs.SpacedWords.{forms}
 use Rattle.chw_grammar.specs.declared.program.Declaration.{Declaration}
 use Rattle.chw_grammar.specs.declared.program.Declaration.TheVariants as declaration
@@ -17,39 +15,26 @@ use Rattle.chw_grammar.proofs.Reprint.{formed_tokens}
 use Rattle.chw_names.specs.declared.space.Space.TheVariants.{Domains}
 use Rattle.chw_names.specs.Globals.{words_in}
 use Rattle.chw_resolve.specs.Written.{WasRead}
-use Rattle.chw_terms.specs.Names.{is_letter_or_digit, is_name_byte, AllBytes, IsUpper, IsLower}
+use Rattle.chw_base.specs.Names.{IsUpper, IsLower}
 
 -- the name of each word has the form
 abbrev pub HaveForm : (List ℕ → Type 0) → List Word → Type 0
 HaveForm Form [] = Unit {0}
 HaveForm Form (w ∷ ws) = Form w.bytes × HaveForm Form ws
 
--- the forms of tokens are those of names
-all_bytes : (test : ℕ → Bool) (bytes : List ℕ) → AllOf test bytes → AllBytes test bytes
-all_bytes test [] all = tt
-all_bytes test (b ∷ bs) all = (all.0, all_bytes test bs all.1)
-
-upper : (word : List ℕ) → HasForm sort.Upper word → IsUpper word
-upper [] form = absurd form
-upper (b ∷ bs) form = (form.0, all_bytes is_letter_or_digit bs form.1)
-
-lower : (word : List ℕ) → HasForm sort.Lower word → IsLower word
-lower [] form = absurd form.0
-lower (b ∷ bs) form = (form.0.0, all_bytes is_name_byte bs form.0.1, form.1)
-
 domains_upper : (ds : List Declaration) → DeclarationsFormed ds → HaveForm IsUpper (flat_map (words_in Domains) ds)
 domains_upper [] formed = tt
-domains_upper (declaration.Domain w ∷ ds) formed = (upper w.bytes formed.0.1.0, domains_upper ds formed.1)
+domains_upper (declaration.Domain w ∷ ds) formed = (formed.0.1.0, domains_upper ds formed.1)
 domains_upper (declaration.Data w ps cs ∷ ds) formed = domains_upper ds formed.1
 domains_upper (declaration.Def w t e ∷ ds) formed = domains_upper ds formed.1
 
 more_lower : (ws : List Word) → Formed (flat_map port_lexemes ws) → HaveForm IsLower ws
 more_lower [] formed = tt
-more_lower (w ∷ ws) formed = (lower w.bytes formed.1.0, more_lower ws formed.1.1)
+more_lower (w ∷ ws) formed = (formed.1.0, more_lower ws formed.1.1)
 
 names_lower : (ws : List Word) → Formed (port_names_lexemes ws) → HaveForm IsLower ws
 names_lower [] formed = tt
-names_lower (w ∷ ws) formed = (lower w.bytes formed.0, more_lower ws formed.1)
+names_lower (w ∷ ws) formed = (formed.0, more_lower ws formed.1)
 
 formed_left : (a b : List Lexeme) → Formed (a ++ b) → Formed a
 formed_left [] b formed = tt

@@ -12,7 +12,8 @@ use Rattle.chw_names.specs.Words.{names_of, seconds}
 use Rattle.chw_terms.specs.declared.program.Def.{Def}
 use Rattle.chw_terms.specs.declared.program.Program.{Program}
 use Rattle.chw_terms.specs.declared.program.Top.{Top}
-use Rattle.chw_terms.specs.Names.{IsUpper, IsLower, AreNames}
+use Rattle.chw_base.specs.Names.{IsUpper, IsLower}
+use Rattle.chw_terms.specs.Names.{AreNames}
 use Rattle.chw_terms.specs.References.{DefRefers, HasNoCycle}
 use Rattle.chw_terms.specs.Tidy.{IsTidy}
 use Rattle.chw_resolve.specs.Faults.{HasNames, IsWellNamed, data_types_of}
@@ -25,7 +26,7 @@ use Rattle.chw_resolve.proofs.Empty.{left_nil, right_nil}
 use Rattle.chw_resolve.proofs.Inhabited.{inhabited}
 use Rattle.chw_resolve.proofs.Places.{top_below}
 use Rattle.chw_resolve.proofs.Shaped.{names_formed}
-use Rattle.tree_program.specs.Programs.{IsProgramOf, domains_in, datas_in, top_in}
+use Rattle.chw_resolve.specs.Programs.{IsProgramOf, domains_in, datas_in, top_in}
 
 -- the program stays that of the tree when its data types get their kinds
 pub program_kept : (tree : Tree) (before after : Program) → IsProgramOf tree before → GetsKinds before after → IsProgramOf tree after

@@ -18,7 +18,7 @@ use Rattle.chw_resolve.proofs.Carried.{circle_carried}
 use Rattle.chw_resolve.proofs.Tidied.{tidied, well_named}
 use Rattle.chw_terms.specs.Tidy.{IsTidy}
 use Rattle.chw_terms.specs.declared.program.Program.{Program}
-use Rattle.tree_program.specs.Programs.{IsProgramOf}
+use Rattle.chw_resolve.specs.Programs.{IsProgramOf}
 
 pub twice_told : (tree : Tree) (w : Word) (name : List ℕ) → name ≡ w.bytes → limit_of tree ≡ None → IsLeast (twices tree) w → IsNameFault tree (Twice name w.at)
 twice_told tree w name same within least = subst (λ (n : List ℕ). IsNameFault tree (Twice n w.at)) (sym same) (twice w within least)

@@ -16,8 +16,8 @@ use Rattle.chw_terms.specs.declared.program.Def.{Def}
 use Rattle.chw_types.specs.BuiltIn.{built_in}
 use Rattle.chw_types.specs.declared.declarations.Data.{Data}
 use Rattle.data_kinds.specs.Cycles.{IsCycleOf}
-use Rattle.ref_order.specs.Orders.{LeastFirst}
-use Rattle.tree_program.specs.Programs.{datas_in, defs_in}
+use Rattle.graph_order.specs.Orders.{LeastFirst}
+use Rattle.chw_resolve.specs.Programs.{datas_in, defs_in}
 
 -- the data types of a description, the built-in ones first
 abbrev pub data_types_of : Tree → List Data

@@ -5,7 +5,6 @@ ghost use Rattle.chw_resolve.specs.Faults.{IsCircle, data_name, def_name, name_a
 ghost use Rattle.chw_resolve.specs.Kinds.{GetsKinds};
 
 use crate::fault::NameFault;
-use crate::names::copied;
 use chw_base::{Name, NoMemory, Or, Seq};
 use chw_terms::{Def, Program};
 use chw_types::Data;
@@ -60,8 +59,8 @@ fn data_name(alloc: Global, datas: &[Data], node: u32) -> Result<Name, NoMemory>
     ensures { IfOk result (λ name. name ≡ name_at (map data_name datas.now) node) }
 {
     match datas.get(node as usize) {
-        Some(data) => copied(alloc, data.name.as_slice()),
-        None => copied(alloc, &[]),
+        Some(data) => Name::copy_of(alloc, data.name.as_slice()),
+        None => Name::copy_of(alloc, &[]),
     }
 }
 
@@ -82,7 +81,7 @@ fn def_name(alloc: Global, defs: &[Def], node: u32) -> Result<Name, NoMemory>
     ensures { IfOk result (λ name. name ≡ name_at (map def_name defs.now) node) }
 {
     match defs.get(node as usize) {
-        Some(def) => copied(alloc, def.name.as_slice()),
-        None => copied(alloc, &[]),
+        Some(def) => Name::copy_of(alloc, def.name.as_slice()),
+        None => Name::copy_of(alloc, &[]),
     }
 }

@@ -4,11 +4,10 @@ ghost use Rattle.chw_base.specs.Outcome.{IfFault};
 ghost use Rattle.chw_resolve.specs.Faults.{HasNames, IsNameFault, IsWellNamed};
 ghost use Rattle.chw_resolve.specs.Written.{WasRead};
 ghost use Rattle.chw_terms.specs.Tidy.{IsTidy};
-ghost use Rattle.tree_program.specs.Programs.{IsProgramOf};
+ghost use Rattle.chw_resolve.specs.Programs.{IsProgramOf};
 
 use crate::cycles::with_kinds;
 use crate::fault::NameFault;
-use crate::names::copied;
 use chw_base::{NoMemory, Or};
 use chw_grammar::Tree;
 use chw_limits::first_passed;
@@ -16,7 +15,7 @@ use chw_names::least::Least;
 use chw_names::{Globals, twice, unknown};
 use chw_terms::Program;
 use std::alloc::Global;
-use tree_program::program_of;
+use crate::program_of;
 
 /// The program of a description: its names are numbers, and it is tidy. Or the first fault of the description, in this order: a limit is
 /// passed, a name is declared twice, a name is declared nowhere, data types refer to each other in a circle, definitions do. Each is
@@ -45,11 +44,11 @@ fn check_names(alloc: Global, tree: &Tree) -> Result<(), Or<NameFault>>
         return Err(Or::Fault(NameFault::Limit(limit)));
     }
     if let Some(word) = twice(alloc, tree)? {
-        let name = copied(alloc, word.bytes.as_slice())?;
+        let name = Name::copy_of(alloc, word.bytes.as_slice())?;
         return Err(Or::Fault(NameFault::Twice { name, at: word.at }));
     }
     if let Some(word) = unknown(alloc, tree)? {
-        let name = copied(alloc, word.bytes.as_slice())?;
+        let name = Name::copy_of(alloc, word.bytes.as_slice())?;
         return Err(Or::Fault(NameFault::Unknown { name, at: word.at }));
     }
     Ok(())

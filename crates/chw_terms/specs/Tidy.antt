@@ -8,7 +8,8 @@ use Rattle.chw_types.specs.Kinds.{KindOf}
 use Rattle.chw_types.specs.BuiltIn.{built_in}
 use Rattle.chw_terms.specs.declared.program.Program.{Program}
 use Rattle.chw_terms.specs.References.{IsField, DataRefers, DefRefers, HasNoCycle}
-use Rattle.chw_terms.specs.Names.{IsUpper, IsLower, AreNames}
+use Rattle.chw_base.specs.Names.{IsUpper, IsLower}
+use Rattle.chw_terms.specs.Names.{AreNames}
 
 -- a field of the data type is a circuit, with its parameters in scope
 abbrev pub HasCircuit : List Data → ℕ → Data → Type 0

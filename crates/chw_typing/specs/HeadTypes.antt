@@ -1,5 +1,6 @@
 -- The types of constructors, of literals, and of what patterns bind.
 use Rattle.std.specs.Prelude.{◌≡◌, ℕ, suc, zero, ◌≤◌, Bool, List, [], ◌∷◌, map, length, Some}
+use Rattle.chw_base.specs.declared.limits.TheConstants.{SCALAR_BITS}
 use Rattle.chw_base.specs.declared.index.ConId.{ConId}
 use Rattle.chw_types.specs.declared.kind.Kind.{Kind}
 use Rattle.chw_types.specs.declared.kind.Scalar.{Scalar}
@@ -33,7 +34,7 @@ con_type c = for_each c.it.params (from_each c.decl.fields (data_of c.of (variab
 
 -- the greatest width of a literal
 abbrev pub widest : ℕ
-widest = 128
+widest = SCALAR_BITS
 
 -- a literal's type; its bits are as many as its width, so that its value is in range
 abbrev pub literal_type : Scalar → List Bool → TypeTree

@@ -7,10 +7,10 @@ use Rattle.chw_types.specs.declared.declarations.Data.{Data}
 use Rattle.chw_types.specs.TypeTree.{TypeTree}
 use Rattle.chw_terms.specs.declared.program.Def.{Def}
 use Rattle.chw_terms.specs.References.{Leads, HasNoCycle, step, step_and, DataRefers, DefRefers, IsField, names_data}
-use Rattle.ref_order.specs.References.{Refers, Leads as GraphLeads, HasNoCycle as GraphHasNoCycle, step as graph_step, step_and as graph_step_and}
-use Rattle.ref_order.specs.Orders.{IsCycle, IsOrder, OfOrder, OfCycle}
-use Rattle.ref_order.specs.declared.ordering.Ordering.{Ordering}
-use Rattle.ref_order.specs.declared.ordering.Ordering.TheVariants.{Order, Cycle}
+use Rattle.graph_order.specs.References.{Refers, Leads as GraphLeads, HasNoCycle as GraphHasNoCycle, step as graph_step, step_and as graph_step_and}
+use Rattle.graph_order.specs.Orders.{IsCycle, IsOrder, OfOrder, OfCycle}
+use Rattle.graph_order.specs.declared.ordering.Ordering.{Ordering}
+use Rattle.graph_order.specs.declared.ordering.Ordering.TheVariants.{Order, Cycle}
 use Rattle.data_kinds.specs.Cycles.{IsCycleOf}
 use Rattle.data_kinds.specs.Named.{datas_in, con_datas, field_datas, body_defs}
 use Rattle.data_kinds.proofs.Listing.{is_listed, datas_listed, defs_listed, is_contained, contained_is, listed_at, listed_where}

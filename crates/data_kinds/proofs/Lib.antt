@@ -1,7 +1,11 @@
 pub mod Agreeing
 pub mod Cycling
+pub mod Endless
 pub mod Graphs
+pub mod Items
 pub mod Listing
+pub mod Loops
 pub mod Reading
+pub mod Same
 pub mod Searches
 pub mod Settling

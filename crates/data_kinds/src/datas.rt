@@ -1,13 +1,13 @@
 //! The data types that stand in types, and an order of them or a cycle.
 ghost use Rattle.std.specs.Prelude.{◌≡◌, ◌<◌, ◌^◌, ◌++◌, length, map, IfOk, OnOk};
 ghost use Rattle.chw_terms.specs.References.{DataRefers, HasNoCycle};
-ghost use Rattle.ref_order.specs.Orders.{IsOrder, LeastFirst, OfCycle, OfOrder, numbers};
+ghost use Rattle.graph_order.specs.Orders.{IsOrder, LeastFirst, OfCycle, OfOrder, numbers};
 ghost use Rattle.data_kinds.specs.Cycles.{IsCycleOf};
 ghost use Rattle.data_kinds.specs.Named.{datas_in, con_datas, field_datas};
 
 use chw_base::NoMemory;
 use chw_types::{ConDecl, Data, Ty, TyNode};
-use ref_order::{Ordering, order_of};
+use graph_order::{Ordering, order_of};
 use std::alloc::Global;
 
 // Adds the numbers of the data types in a type.

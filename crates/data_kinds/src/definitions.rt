@@ -1,19 +1,19 @@
 //! Cycles of definitions.
 ghost use Rattle.std.specs.Prelude.{◌<◌, ◌^◌, length, IfOk, IfSome, IfNone};
 ghost use Rattle.chw_terms.specs.References.{DefRefers, HasNoCycle};
-ghost use Rattle.ref_order.specs.Orders.{LeastFirst};
+ghost use Rattle.graph_order.specs.Orders.{LeastFirst};
 ghost use Rattle.data_kinds.specs.Cycles.{IsCycleOf};
 
 use crate::defs::def_order;
 use chw_base::NoMemory;
 use chw_terms::Def;
-use ref_order::Ordering;
+use graph_order::Ordering;
 use std::alloc::Global;
 
 /// A cycle of definitions, by their numbers: each once, of which each stands in the body of the one before and the first in the body of
 /// the last. The least number stands first. `None` comes exactly where no definition refers to itself, by its body or by way of others.
 ///
-/// A number past the last definition is no reference. The cycle is the first that `order_of` of the crate `ref_order` finds where each
+/// A number past the last definition is no reference. The cycle is the first that `order_of` of the crate `graph_order` finds where each
 /// definition lists those in its body, in the order of the text. Time is linear in the bodies.
 pub fn definition_cycle(alloc: Global, defs: &[Def]) -> Result<Option<Vec<u32>>, NoMemory>
     requires { length defs.now < 2 ^ 32 }

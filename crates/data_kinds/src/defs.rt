@@ -2,13 +2,13 @@
 ghost use Rattle.std.specs.Prelude.{◌≡◌, ◌<◌, ◌^◌, ◌++◌, length, map, IfOk, OnOk};
 ghost use Rattle.chw_terms.specs.References.{DefRefers, HasNoCycle};
 ghost use Rattle.chw_terms.specs.TermView.{tree_of};
-ghost use Rattle.ref_order.specs.Orders.{LeastFirst, OfCycle, OfOrder, numbers};
+ghost use Rattle.graph_order.specs.Orders.{LeastFirst, OfCycle, OfOrder, numbers};
 ghost use Rattle.data_kinds.specs.Cycles.{IsCycleOf};
 ghost use Rattle.data_kinds.specs.Named.{defs_in, arg_defs, body_defs};
 
 use chw_base::NoMemory;
 use chw_terms::{Arg, Def, Head, Term};
-use ref_order::{Ordering, order_of};
+use graph_order::{Ordering, order_of};
 use std::alloc::Global;
 
 // Adds the numbers of the definitions in a term.

@@ -2,7 +2,7 @@
 ghost use Rattle.std.specs.Prelude.{◌≡◌, ◌<◌, ◌^◌, length, map, IfOk, IfSome, IfNone, OnErr};
 ghost use Rattle.std.specs.List.{slice_get};
 ghost use Rattle.chw_terms.specs.References.{DataRefers, HasNoCycle};
-ghost use Rattle.ref_order.specs.Orders.{IsOrder, LeastFirst};
+ghost use Rattle.graph_order.specs.Orders.{IsOrder, LeastFirst};
 ghost use Rattle.data_kinds.specs.Cycles.{IsCycleOf};
 ghost use Rattle.data_kinds.specs.Kinds.{HaveTheirKinds, IsKindOfFields, SameButKinds, SetsKind};
 ghost use Rattle.data_kinds.specs.Named.{field_datas};
@@ -11,7 +11,7 @@ use crate::circuits::kind_by_fields;
 use crate::datas::data_order;
 use chw_base::{Name, NoMemory};
 use chw_types::{Data, Kind};
-use ref_order::Ordering;
+use graph_order::Ordering;
 use std::alloc::Global;
 
 // The kind of the data type of this number, by those of its fields.
@@ -49,7 +49,7 @@ fn set_kinds(datas: &mut [Data], order: &[u32], domains: &[Name])
 /// by their numbers, each once, of which each stands in a field of the one before and the first in a field of the last. The least
 /// number stands first. A number past the last data type is no reference.
 ///
-/// The cycle is the first that `order_of` of the crate `ref_order` finds where each data type lists those in its fields, in the order
+/// The cycle is the first that `order_of` of the crate `graph_order` finds where each data type lists those in its fields, in the order
 /// of the text. The references are gathered in time linear in the fields, and the kind of a field is found at most once.
 pub fn find_kinds(
     alloc: Global,

@@ -5,6 +5,8 @@ mod circuits;
 mod datas;
 mod definitions;
 mod defs;
+pub mod examples;
+pub mod kind_laws;
 mod kinds;
 pub mod laws;
 

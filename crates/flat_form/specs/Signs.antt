@@ -1,6 +1,6 @@
 -- What the words of a description say, and the small parts that its grammar is made of.
 use Rattle.std.specs.Prelude.{ℕ, ◌+◌, ◌-◌, ◌*◌, ◌^◌, ◌==◌, nat_lt, nat_le, not, ◌&&◌, Option, Some, None, List, [], ◌∷◌, take, drop, fold, position, slice_index, if◌then◌else◌, codes}
-use Rattle.chw_lexer.specs.Forms.{is_digit}
+use Rattle.chw_base.specs.Names.{is_digit}
 use Rattle.chw_lexer.specs.Words.{Word}
 use Rattle.chw_lexer.specs.declared.token.Sort.{Sort}
 use Rattle.chw_lexer.specs.declared.token.Sort.TheVariants.{Lower, Upper, Key, Numeral, Literal, Symbol}

@@ -1,5 +1,5 @@
 //! The first declaration whose types have no kinds.
-ghost use Rattle.std.specs.Prelude.{◌≡◌, IfOk, MatchOption};
+ghost use Rattle.std.specs.Prelude.{IfOk, MatchOption};
 ghost use Rattle.chw_typing.specs.Programs.{setting_of};
 ghost use Rattle.kind_checks.specs.declared.first.Unkinded.TheVariants.{OfData, OfDef};
 ghost use Rattle.kind_checks.specs.Each.{Each};
@@ -8,7 +8,7 @@ ghost use Rattle.kind_checks.specs.Unkinded.{IsFirst};
 
 use crate::fields::data_fits;
 use crate::terms::def_fits;
-use chw_base::{DataId, DefId, NoMemory};
+use chw_base::{DataId, DefId, NoMemory, narrow};
 use chw_terms::Program;
 use std::alloc::Global;
 
@@ -46,7 +46,7 @@ fn first_data(program: &Program) -> Result<Option<DataId>, NoMemory>
     let datas = program.datas.as_slice();
     for (place, it) in datas.iter().enumerate() {
         if !data_fits(program, it) {
-            let number = number_of(place)?;
+            let number = narrow(place)?;
             return Ok(Some(DataId { number }));
         }
     }
@@ -61,19 +61,9 @@ fn first_def(alloc: Global, program: &Program) -> Result<Option<DefId>, NoMemory
     let defs = program.defs.as_slice();
     for (place, it) in defs.iter().enumerate() {
         if !def_fits(alloc, program, it)? {
-            let number = number_of(place)?;
+            let number = narrow(place)?;
             return Ok(Some(DefId { number }));
         }
     }
     Ok(None)
-}
-
-// A place as the number of a declaration.
-fn number_of(place: usize) -> Result<u32, NoMemory>
-    ensures { IfOk result (λ number. number ≡ place) }
-{
-    if place > u32::MAX as usize {
-        return Err(NoMemory);
-    }
-    Ok(place as u32)
 }

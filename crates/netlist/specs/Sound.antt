@@ -1,7 +1,7 @@
 -- What a flat net meets as a module: widths that agree, and one driver for each wire that is no input.
 use Rattle.std.specs.Prelude.{◌≡◌, ℕ, ◌+◌, ◌-◌, ◌<◌, ◌≤◌, Bool, List, [], ◌∷◌, length, map, take, sum_by, Some, slice_get, slice_index}
 use Rattle.std.specs.List.{AllByRecursion}
-use Rattle.chw_base.specs.declared.limits.TheConstants.{FLAT_WIRES}
+use Rattle.chw_base.specs.declared.limits.TheConstants.{ADDRESS_BITS, ARITHMETIC_BITS, FLAT_WIRES, RAM_WORDS, WIRE_BITS}
 use Rattle.chw_base.specs.declared.index.WireId.{WireId}
 use Rattle.netlist.specs.Feeds.{target, target_at}
 use Rattle.netlist.specs.declared.net.Cell.{Cell}
@@ -33,9 +33,9 @@ Fits1 widths _ w a = HasWidth widths w 1 × IsWire widths a
 abbrev pub AreEqual : List ℕ → WireId → WireId → WireId → Type 0
 AreEqual widths w a b = (n : ℕ) × HasWidth widths w n × HasWidth widths a n × HasWidth widths b n
 
--- all three are of one width, which is at most 128
+-- all three are of one width, on which arithmetic is done
 abbrev pub AreArithmetic : List ℕ → WireId → WireId → WireId → Type 0
-AreArithmetic widths w a b = (n : ℕ) × (n ≤ 128) × HasWidth widths w n × HasWidth widths a n × HasWidth widths b n
+AreArithmetic widths w a b = (n : ℕ) × (n ≤ ARITHMETIC_BITS) × HasWidth widths w n × HasWidth widths a n × HasWidth widths b n
 
 -- the operands are of one width, and the result is one bit
 abbrev pub AreCompared : List ℕ → WireId → WireId → WireId → Type 0
@@ -60,10 +60,10 @@ Fits2 widths Shl w a b = AreShifted widths w a b
 Fits2 widths Shr w a b = AreShifted widths w a b
 Fits2 widths Sar w a b = AreShifted widths w a b
 
--- a RAM has from 1 to 1,024 words as wide as its wire, and addresses of 12 bits
+-- a RAM has from one word to the most that it may have, as wide as its wire, and addresses of one width
 abbrev pub FitsRam : List ℕ → WireId → List (List Bool) → WireId → WireId → WireId → WireId → Type 0
 FitsRam widths w words read enable place value =
-    (1 ≤ length words) × (length words ≤ 1024) × HasWidth widths read 12 × HasWidth widths enable 1 × HasWidth widths place 12
+    (1 ≤ length words) × (length words ≤ RAM_WORDS) × HasWidth widths read ADDRESS_BITS × HasWidth widths enable 1 × HasWidth widths place ADDRESS_BITS
     × ((n : ℕ) × HasWidth widths w n × HasWidth widths value n × AllByRecursion (λ word. length word ≡ n) words)
 
 -- a cell among this many domains and wires of these widths: what it names exists, widths agree, and it is no use
@@ -101,7 +101,7 @@ pub record Sound (flat : Flat) : Type 0 where
   -- there are at most as many wires as the limit
   pub few : length flat.widths ≤ FLAT_WIRES
   -- a wire has from 1 to 4,096 bits
-  pub widths : AllByRecursion (λ n. (1 ≤ n) × (n ≤ 4096)) flat.widths
+  pub widths : AllByRecursion (λ n. (1 ≤ n) × (n ≤ WIRE_BITS)) flat.widths
   -- the first wires are the inputs of the ports
   pub inputs : map (λ port. port.width) flat.ports.inputs ≡ take (length flat.ports.inputs) flat.widths
   -- the outputs are wires as wide as those of the ports

@@ -1,6 +1,6 @@
 //! A table of small graphs with what they have, and a long chain.
 
-use ref_order::{Ordering, order_of};
+use graph_order::{Ordering, order_of};
 use std::alloc::{AllocError, Global};
 use std::test::Fail;
 

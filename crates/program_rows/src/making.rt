@@ -6,7 +6,7 @@ use chw_names::least::Least;
 use chw_parser::parse;
 use chw_terms::Program;
 use std::alloc::Global;
-use tree_program::program_of;
+use chw_resolve::program_of;
 
 /// What is shown of a program.
 #[derive(Clone, Copy)]

@@ -17,7 +17,7 @@ use chw_bits::Bits;
 use chw_terms::{Arg, Head, Pattern, Program, Scalar, Term};
 use chw_types::{Data, Kind, Ty, TyNode};
 use itoa::Buffer;
-use prim_names::name;
+use chw_prims::name;
 
 fn put(out: &mut Vec<u8>, text: &str) -> Result<(), NoMemory> {
     out.extend_from_slice(text.as_bytes())?;

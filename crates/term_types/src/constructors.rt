@@ -2,11 +2,11 @@
 ghost use Rattle.std.specs.Prelude.{◌≡◌, IfOk};
 ghost use Rattle.chw_types.specs.TypeView.{trees_of};
 ghost use Rattle.chw_typing.specs.HeadTypes.{con_type, for_each, from_each, variables};
-ghost use Rattle.con_table.specs.Constructing.{constructor_of};
+ghost use Rattle.con_places.specs.Constructing.{constructor_of};
 
 use chw_base::{NoMemory, TyIx};
 use chw_types::{Kind, Ty};
-use con_table::Constructor;
+use con_places::Constructor;
 use std::alloc::Global;
 
 // The type variables of so many binders, the outermost first.

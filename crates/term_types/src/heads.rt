@@ -8,16 +8,14 @@ ghost use Rattle.term_types.specs.Answers.{IsAnswer, IsReady};
 use crate::constructors::con_type;
 use crate::found::{Found, with_kind};
 use crate::vars::Vars;
+use chw_base::limits::SCALAR_BITS;
 use chw_base::{ConId, DefId, MadeId, NoMemory, VarIx};
 use chw_bits::Bits;
 use chw_prims::{Prim, schema};
 use chw_terms::Scene;
 use chw_types::{Kind, Scalar, Ty};
-use con_table::Constructors;
+use con_places::Constructors;
 use std::alloc::Global;
-
-/// The greatest width of a literal.
-const WIDEST: u32 = 128;
 
 /// A variable's type.
 pub(crate) fn variable(
@@ -117,7 +115,7 @@ pub(crate) fn primitive(
 pub(crate) fn literal_type(alloc: Global, sort: Scalar, bits: &Bits) -> Result<Option<Ty>, NoMemory>
     ensures { IfOk result (λ r. MatchOption r (widest < length bits.now) (λ t. (length bits.now ≤ widest) × (t ≡ literal_type sort bits.now))) }
 {
-    if bits.len() > WIDEST {
+    if bits.len() > SCALAR_BITS {
         return Ok(None);
     }
     Ok(Some(Ty::scalar(alloc, sort, Ty::nat(bits.len()))?))

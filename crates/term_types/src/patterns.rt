@@ -15,7 +15,7 @@ use chw_base::{ConId, DataId, NoMemory};
 use chw_bits::Bits;
 use chw_terms::{Pattern, Scene};
 use chw_types::{Kind, Scalar, Ty, TyNode, put_arguments, same};
-use con_table::Constructors;
+use con_places::Constructors;
 use std::alloc::Global;
 
 /// The types of the variables that a pattern binds, the first one first, where it is one for values of this type.

@@ -9,7 +9,7 @@ use crate::walk::infer;
 use chw_base::NoMemory;
 use chw_terms::{Scene, Term};
 use chw_types::{Kind, Ty};
-use con_table::Constructors;
+use con_places::Constructors;
 use std::alloc::Global;
 
 /// The type of a term, with type variables of these kinds and variables of these types in scope, the outermost first, each type seen from

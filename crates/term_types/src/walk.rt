@@ -18,10 +18,10 @@ use crate::heads::{definition, literal, made_definition, of_constructor, primiti
 use crate::patterns::{bound_types, is_looked_at};
 use crate::spines::{apply, apply_type};
 use crate::vars::Vars;
-use chw_base::NoMemory;
+use chw_base::{NoMemory, narrow};
 use chw_terms::{Alt, Arg, Binding, Head, Scene, Term};
 use chw_types::{Kind, Ty, same};
-use con_table::Constructors;
+use con_places::Constructors;
 use std::alloc::Global;
 
 /// The type of a term with its kind, where it has one.
@@ -293,19 +293,9 @@ fn infer_vector(
             return Ok(None);
         }
     }
-    let len = count(elements.len())?;
+    let len = narrow(elements.len())?;
     let ty = Ty::vec(alloc, Ty::nat(len), ty.copy(alloc)?)?;
     Ok(Some(Found { ty, kind }))
-}
-
-// A number of elements, where it can be written.
-fn count(len: usize) -> Result<u32, NoMemory>
-    ensures { IfOk result (λ n. n ≡ len) }
-{
-    if len > u32::MAX as usize {
-        return Err(NoMemory);
-    }
-    Ok(len as u32)
 }
 
 // The type of a case.

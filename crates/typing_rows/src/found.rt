@@ -8,7 +8,7 @@ use chw_parser::parse;
 use chw_resolve::resolve;
 use chw_terms::{Def, Program, Scene};
 use chw_types::{Ty, type_text};
-use con_table::Constructors;
+use con_places::Constructors;
 use kind_checks::first_unkinded;
 use kind_checks::laws::what_fits_is_sound;
 use std::alloc::{AllocError, Global};

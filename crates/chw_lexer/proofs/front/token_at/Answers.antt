@@ -1,5 +1,5 @@
 use Rattle.std.proofs.Common.{◌≡◌, ◌<◌, ℕ, List, [], ◌∷◌, length, get_or, Bool, true, sym, ◌∙◌, arith}
-use Rattle.chw_lexer.specs.Forms.{is_capital}
+use Rattle.chw_base.specs.Names.{is_capital}
 use Rattle.chw_lexer.specs.Scanning.{BeginsWith}
 use Rattle.chw_lexer.proofs.Names.{upper_token}
 use Rattle.chw_lexer.proofs.front.token_at.Goals as goal

@@ -1,5 +1,5 @@
 use Rattle.std.proofs.Common.{take}
-use Rattle.chw_lexer.specs.Forms.{AllOf}
+use Rattle.chw_base.specs.Names.{AllOf}
 use Rattle.chw_lexer.specs.Scanning.{is_of}
 use Rattle.chw_lexer.proofs.run.run_len.Given as goal
 

@@ -1,6 +1,6 @@
 use Rattle.std.proofs.Common.{map, ap, ◌∙◌, arith}
 use Rattle.std.proofs.lemmas.List.{take_all}
-use Rattle.prim_names.specs.Names.{name_of}
+use Rattle.chw_prims.specs.Names.{name_of}
 use Rattle.name_tables.specs.Names.{with_name}
 use Rattle.chw_names.specs.Words.{with_names}
 use Rattle.chw_names.proofs.Declaring.{name_more}

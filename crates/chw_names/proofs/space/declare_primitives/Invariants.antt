@@ -1,5 +1,5 @@
 use Rattle.std.proofs.Common.{◌≡◌, map, take}
-use Rattle.prim_names.specs.Names.{name_of}
+use Rattle.chw_prims.specs.Names.{name_of}
 use Rattle.chw_names.specs.Words.{with_names}
 use Rattle.chw_names.proofs.space.declare_primitives.Given as goal
 

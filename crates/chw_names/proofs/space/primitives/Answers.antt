@@ -1,6 +1,6 @@
 use Rattle.std.proofs.Common.{◌∙◌, ap, map}
-use Rattle.prim_names.specs.Names.{name_of}
-use Rattle.prim_names.specs.declared.table.TheConstants.{ALL}
+use Rattle.chw_prims.specs.Names.{name_of}
+use Rattle.chw_prims.specs.declared.names.TheConstants.{ALL}
 use Rattle.chw_names.specs.Words.{with_names}
 use Rattle.chw_names.proofs.Declaring.{primitives_once}
 use Rattle.chw_names.proofs.space.primitives.Goals as goal

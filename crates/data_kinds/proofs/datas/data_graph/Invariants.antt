@@ -1,6 +1,6 @@
 -- the lists of the data types so far
 use Rattle.std.proofs.Common.{◌≡◌, length, map, take}
-use Rattle.ref_order.specs.Orders.{numbers}
+use Rattle.graph_order.specs.Orders.{numbers}
 use Rattle.data_kinds.specs.Named.{field_datas}
 use Rattle.data_kinds.proofs.datas.data_graph.Given as goal
 

@@ -1,5 +1,5 @@
 use Rattle.std.proofs.Common.{◌≡◌, map, ap, ◌∙◌}
-use Rattle.ref_order.specs.Orders.{numbers}
+use Rattle.graph_order.specs.Orders.{numbers}
 use Rattle.data_kinds.specs.Named.{field_datas}
 use Rattle.data_kinds.proofs.Graphs.{data_steps, order_told, no_cycle_told, cycle_told, some_cycle_told}
 use Rattle.data_kinds.proofs.datas.data_order.Goals as goal

@@ -1,6 +1,6 @@
 -- the lists of the definitions so far
 use Rattle.std.proofs.Common.{◌≡◌, length, map, take}
-use Rattle.ref_order.specs.Orders.{numbers}
+use Rattle.graph_order.specs.Orders.{numbers}
 use Rattle.data_kinds.specs.Named.{body_defs}
 use Rattle.data_kinds.proofs.defs.def_graph.Given as goal
 

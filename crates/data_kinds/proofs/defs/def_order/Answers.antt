@@ -1,5 +1,5 @@
 use Rattle.std.proofs.Common.{◌≡◌, map, ap, ◌∙◌}
-use Rattle.ref_order.specs.Orders.{numbers}
+use Rattle.graph_order.specs.Orders.{numbers}
 use Rattle.data_kinds.specs.Named.{body_defs}
 use Rattle.data_kinds.proofs.Graphs.{def_steps, no_cycle_told, cycle_told, some_cycle_told}
 use Rattle.data_kinds.proofs.defs.def_order.Goals as goal

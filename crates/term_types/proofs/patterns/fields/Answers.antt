@@ -2,7 +2,7 @@ use Rattle.std.proofs.Common.{◌≡◌, Some, None, Vec, Global, length, sym, a
 use Rattle.std.specs.Prelude.{MatchOption, reverse}
 use Rattle.chw_types.specs.TypeTree.{TypeTree}
 use Rattle.chw_terms.specs.Constructors.{con_at}
-use Rattle.con_table.specs.Constructing.{constructor_of}
+use Rattle.con_places.specs.Constructing.{constructor_of}
 use Rattle.term_types.specs.Binding.{AreSettled, NoneSettled}
 use Rattle.term_types.specs.Settings.{setting_in}
 use Rattle.term_types.proofs.Bound.{con_missing, con_other, con_names, fields_told}

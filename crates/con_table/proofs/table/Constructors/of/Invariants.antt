@@ -1,6 +1,0 @@
-use Rattle.con_table.specs.Places.{AreOfFirst}
-use Rattle.con_table.proofs.table.Constructors.of.Given as goal
-
--- the constructors of the data types so far have their places
-abbrev pub invariant-loop-number : goal.invariant-loop-number
-invariant-loop-number l = AreOfFirst l.datas l.number l.places.items

@@ -1,4 +1,0 @@
-pub mod Endless
-pub mod Items
-pub mod Loops
-pub mod Same

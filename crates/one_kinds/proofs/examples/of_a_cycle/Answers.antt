@@ -1,5 +1,0 @@
-use Rattle.one_kinds.proofs.Loops.{two_kinds}
-use Rattle.one_kinds.proofs.examples.of_a_cycle.Goals as goal
-
-pub returns : goal.returns
-returns c = two_kinds

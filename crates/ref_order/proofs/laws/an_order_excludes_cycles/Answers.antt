@@ -1,5 +1,0 @@
-use Rattle.ref_order.proofs.Exclusion.{excludes, places}
-use Rattle.ref_order.proofs.laws.an_order_excludes_cycles.Goals as goal
-
-pub returns : goal.returns
-returns c graph nodes order = excludes graph (places graph nodes order)

@@ -1,5 +1,0 @@
-use Rattle.ref_order.proofs.Exclusion.{places}
-use Rattle.ref_order.proofs.laws.an_order_gives_places.Goals as goal
-
-pub returns : goal.returns
-returns c = places

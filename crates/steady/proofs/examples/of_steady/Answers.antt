@@ -1,5 +1,0 @@
-use Rattle.steady.proofs.Shown.{function_of_values, counter_moves, sample_stays}
-use Rattle.steady.proofs.examples.of_steady.Goals as goal
-
-pub returns : goal.returns
-returns c = record { function = function_of_values; counter = counter_moves; sample = sample_stays }

@@ -1,6 +1,0 @@
-use Rattle.std.proofs.Common.{◌≡◌, take}
-use Rattle.chw_names.specs.Unknowns.{within}
-use Rattle.tree_program.proofs.binders.bind_words.Given as goal
-
-abbrev pub invariant-loop-word : goal.invariant-loop-word
-invariant-loop-word l = l.scope ≡ within (take l.word-index l.words) l.initial.scope

@@ -1,6 +1,0 @@
-use Rattle.std.proofs.Common.{◌≡◌, map, take}
-use Rattle.tree_program.specs.Programs.{parameter_kind}
-use Rattle.tree_program.proofs.declarations.kinds_in.Given as goal
-
-abbrev pub invariant-loop-parameter : goal.invariant-loop-parameter
-invariant-loop-parameter l = l.kinds.items ≡ map parameter_kind (take l.parameter-index l.parameters)

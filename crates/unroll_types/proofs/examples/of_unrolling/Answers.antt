@@ -1,5 +1,0 @@
-use Rattle.unroll_types.proofs.Shown.{two_from_one}
-use Rattle.unroll_types.proofs.examples.of_unrolling.Goals as goal
-
-pub returns : goal.returns
-returns c = two_from_one
