@@ -24,7 +24,7 @@ const FULL: Shape<'static> = Shape {
     definitions: 4_096,
     data_types: 1_024,
     domains: 64,
-    elements: 256,
+    elements: 1_024,
     in_term: "-340282366920938463463374607431768211455s4294967295",
     in_pattern: "340282366920938463463374607431768211455u4294967295",
     in_type: "4294967295",
@@ -146,10 +146,10 @@ fn shows_the_first_limit_that_is_passed(rt: HostRuntime) -> Result<(), Fail> {
         ),
         (
             Shape {
-                elements: 257,
+                elements: 1_025,
                 ..FULL
             },
-            Some(("vector", 256)),
+            Some(("vector", 1_024)),
         ),
         (
             Shape {
@@ -205,18 +205,18 @@ fn shows_the_first_limit_that_is_passed(rt: HostRuntime) -> Result<(), Fail> {
         (
             Shape {
                 domains: 65,
-                elements: 257,
+                elements: 1_025,
                 ..FULL
             },
             Some(("domains", 64)),
         ),
         (
             Shape {
-                elements: 257,
+                elements: 1_025,
                 in_pattern: VALUE,
                 ..FULL
             },
-            Some(("vector", 256)),
+            Some(("vector", 1_024)),
         ),
         (
             Shape {
