@@ -28,8 +28,12 @@ impl<'r, R: Files> FileShelf<'r, R> {
     }
 }
 
-// Reads to the end, or to one byte past the limit. A read that was interrupted is made again.
-fn drain<F: Read>(file: &mut F, limit: u32, into: &mut Vec<u8>) -> Result<Fetched, Or<ShelfFault>>
+/// Reads to the end, or to one byte past the limit. A read that was interrupted is made again.
+pub fn drain<F: Read>(
+    file: &mut F,
+    limit: u32,
+    into: &mut Vec<u8>,
+) -> Result<Fetched, Or<ShelfFault>>
     requires { into.old.items ≡ [] }
     ensures { Drains (F.remaining file.old) limit result into.new.items }
 {
@@ -93,66 +97,5 @@ impl<'r, R: Files> Shelf for FileShelf<'r, R> {
                 Err(fault)
             }
         }
-    }
-}
-
-#[cfg(test)]
-mod tests {
-    use super::*;
-    use std::io;
-    use std::test::Fail;
-
-    // Is interrupted, gives one byte, and then fails.
-    #[derive(Drop)]
-    struct Faltering {
-        calls: u32,
-    }
-
-    impl Read for Faltering {
-        fn read(&mut self, bytes: &mut [u8]) -> io::Result<usize> {
-            self.calls = self.calls.saturating_add(1);
-            match self.calls {
-                1 => Err(io::Error::from(ErrorKind::Interrupted)),
-                2 if !bytes.is_empty() => Ok(1),
-                _ => Err(io::Error::from(ErrorKind::TimedOut)),
-            }
-        }
-    }
-
-    #[test]
-    fn fails_where_the_reader_fails(rt: HostRuntime) -> Result<(), Fail> {
-        let mut reader = Faltering { calls: 0 };
-        let mut into = Vec::new(rt.alloc());
-        let answer = drain(&mut reader, 5, &mut into);
-        assert!(rt; matches!(answer, Err(Or::Fault(ShelfFault))));
-        assert_eq!(rt; reader.calls, 3);
-        Ok(())
-    }
-
-    #[test]
-    fn reads_a_file_of_the_system(rt: HostRuntime) -> Result<(), Fail> {
-        let alloc = rt.alloc();
-        fs::write(&rt, "shelf_test", b"line\n")?;
-        let mut shelf = FileShelf::new(&rt);
-        let mut into = Vec::new(alloc);
-        assert!(rt;
-            matches!(
-                shelf.fetch(alloc, "shelf_test", 4, &mut into),
-                Ok(Fetched::TooLong)
-            )
-        );
-        assert!(rt;
-            matches!(
-                shelf.fetch(alloc, "shelf_test", 5, &mut into),
-                Ok(Fetched::Whole)
-            )
-        );
-        assert_eq!(rt; into.as_slice(), b"line\n".as_slice());
-        into.clear();
-        fs::remove_file(&rt, "shelf_test")?;
-        let missing = shelf.fetch(alloc, "shelf_test", 5, &mut into);
-        assert!(rt; matches!(missing, Err(Or::Fault(ShelfFault))));
-        assert_eq!(rt; shelf.faults, 1);
-        Ok(())
     }
 }

@@ -220,19 +220,3 @@ impl Index for ModId {
         self.number
     }
 }
-
-#[cfg(test)]
-mod tests {
-    use super::*;
-
-    fn there_and_back<I: Index + Drop>(n: u32) -> u32 {
-        law_of_index::<I>();
-        I::of(n).number()
-    }
-
-    #[test]
-    fn keeps_numbers(rt: HostRuntime) {
-        assert_eq!(rt; there_and_back::<VarIx>(0), 0);
-        assert_eq!(rt; there_and_back::<WireId>(u32::MAX), u32::MAX);
-    }
-}

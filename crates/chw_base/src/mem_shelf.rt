@@ -87,37 +87,3 @@ impl Shelf for MemShelf {
         Ok(Fetched::Whole)
     }
 }
-
-#[cfg(test)]
-mod tests {
-    use super::*;
-    use std::test::Fail;
-
-    fn file(alloc: Global, name: &str, bytes: &[u8]) -> Result<(Name, Vec<u8>), Fail> {
-        Ok((
-            Name::from(name.as_bytes().to_vec(alloc)?),
-            bytes.to_vec(alloc)?,
-        ))
-    }
-
-    #[test]
-    fn serves_the_first_file_of_a_name(rt: HostRuntime) -> Result<(), Fail> {
-        let alloc = rt.alloc();
-        let mut files = Vec::new(alloc);
-        files.push(file(alloc, "a", b"one")?)?;
-        files.push(file(alloc, "a", b"two")?)?;
-        let mut shelf = MemShelf::new(files, vec![in alloc; 0]?);
-        let mut into = Vec::new(alloc);
-        assert!(rt;
-            matches!(
-                shelf.fetch(alloc, "a", 3, &mut into),
-                Err(Or::Fault(ShelfFault))
-            )
-        );
-        assert!(rt; matches!(shelf.fetch(alloc, "b", 3, &mut into), Ok(Fetched::Absent)));
-        assert!(rt; matches!(shelf.fetch(alloc, "a", 2, &mut into), Ok(Fetched::TooLong)));
-        assert!(rt; matches!(shelf.fetch(alloc, "a", 3, &mut into), Ok(Fetched::Whole)));
-        assert_eq!(rt; into.as_slice(), b"one".as_slice());
-        Ok(())
-    }
-}

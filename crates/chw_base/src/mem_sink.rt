@@ -67,20 +67,3 @@ impl Sink for MemSink {
         Ok(())
     }
 }
-
-#[cfg(test)]
-mod tests {
-    use super::*;
-    use std::test::Fail;
-
-    #[test]
-    fn keeps_pieces_but_of_the_failing_call(rt: HostRuntime) -> Result<(), Fail> {
-        let alloc = rt.alloc();
-        let mut sink = MemSink::new(alloc, vec![in alloc; 1]?);
-        assert!(rt; sink.put(alloc, b"ab").is_ok());
-        assert!(rt; matches!(sink.put(alloc, b"cd"), Err(Or::Fault(SinkFault))));
-        assert!(rt; sink.put(alloc, b"ef").is_ok());
-        assert_eq!(rt; sink.bytes(), b"abef".as_slice());
-        Ok(())
-    }
-}

@@ -70,19 +70,3 @@ impl Seq<u8> {
         Ok(Name::from(Vec::from_slice(alloc, bytes)?))
     }
 }
-
-#[cfg(test)]
-mod tests {
-    use super::*;
-    use std::test::Fail;
-
-    #[test]
-    fn is_the_list_of_its_items(rt: HostRuntime) -> Result<(), Fail> {
-        let name = Name::copy_of(rt.alloc(), b"clk")?;
-        assert_eq!(rt; name.len(), 3);
-        assert!(rt; !name.is_empty());
-        assert_eq!(rt; name.as_slice(), b"clk".as_slice());
-        assert_eq!(rt; name.into_vec().as_slice(), b"clk".as_slice());
-        Ok(())
-    }
-}
