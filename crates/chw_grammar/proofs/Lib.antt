@@ -2,11 +2,13 @@ pub mod Again
 pub mod AgainTerms
 pub mod AgainTrees
 pub mod AgainTypes
+pub mod Digits
 pub mod Examples
 pub mod Formed
 pub mod FormedTerms
 pub mod FormedTrees
 pub mod FormedTypes
+pub mod LiteralParts
 pub mod Reprint
 pub mod SameText
 pub mod TermsBack

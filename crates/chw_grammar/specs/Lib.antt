@@ -1,6 +1,7 @@
 pub mod Grammar
 pub mod Height
 pub mod Lexemes
+pub mod Literals
 pub mod Places
 pub mod TermCode
 pub mod TermFalls

@@ -1,9 +1,12 @@
-//! Laws of the canonical text.
-ghost use Rattle.std.specs.Prelude.{◌≡◌, ℕ, List};
+//! Laws of the canonical text, and what the parts of a literal are.
+ghost use Rattle.std.specs.Prelude.{◌≡◌, ℕ, List, ◌∷◌, ◌++◌, true, false};
+ghost use Rattle.chw_base.specs.Names.{is_digit};
+ghost use Rattle.chw_lexer.specs.Forms.{IsNumeral};
 ghost use Rattle.chw_lexer.specs.Tokens.{Tokens};
 ghost use Rattle.chw_lexer.specs.declared.token.Token.{Token};
 ghost use Rattle.chw_grammar.specs.Grammar.{Reads};
 ghost use Rattle.chw_grammar.specs.Lexemes.{Lexeme, lexemes_of};
+ghost use Rattle.chw_grammar.specs.Literals.{literal_of, parts};
 ghost use Rattle.chw_grammar.specs.Places.{Same};
 ghost use Rattle.chw_grammar.specs.Text.{tree_lexemes, Text};
 ghost use Rattle.chw_grammar.specs.declared.program.Tree.{Tree};
@@ -37,4 +40,12 @@ pub fn canonical_text_reads_back()
 /// Trees that agree in all but the places of their words have one canonical text.
 pub fn places_do_not_show()
     ensures { (a b : Tree) → Same a b → Text a ≡ Text b }
+{}
+
+/// A literal has the sign, the value, the letter and the width of which it is made.
+pub fn literals_have_their_parts()
+    ensures without_sign { (value width : List ℕ) (byte : ℕ) → IsNumeral value → is_digit byte ≡ false
+        → literal_of (value ++ byte ∷ width) ≡ parts false value byte width }
+    ensures with_sign { (value width : List ℕ) (byte : ℕ) → IsNumeral value → is_digit byte ≡ false
+        → literal_of (45 ∷ (value ++ byte ∷ width)) ≡ parts true value byte width }
 {}

@@ -8,5 +8,6 @@ mod run;
 mod splitting;
 pub mod token;
 
+pub use run::is_digit;
 pub use splitting::{lex, word};
 pub use token::{LexFault, Sort, Span, Token};

@@ -61,13 +61,6 @@ none_of_all test xs i le none = ap (list_any test) (sym (take_all i xs le)) ∙ 
 pub found : {X : Type 0} (test : X → Bool) (xs : List X) (i : ℕ) (x : X) → i < length xs → x ≡ get_or xs i x → test x ≡ true → list_any test xs ≡ true
 found test xs i x lt is passes = list_any_at test xs i x lt (ap test (sym is) ∙ passes)
 
-pub left : (a b : Bool) → a ≡ true → (a || b) ≡ true
-left a b is = ap (λ x. x || b) is
-
-pub right : (a b : Bool) → b ≡ true → (a || b) ≡ true
-right true b is = refl
-right false b is = is
-
 -- what a term has, by what its parts have
 pub letrec_is : (tests : Tests) (bs : List Binding) (e : Tm) {whole : Tm} (found : Bool) → term_letrec (bindings_of bs) e ≡ whole
     → list_any (binding_has tests) bs ≡ found → (found || term_has tests e) ≡ term_has tests whole
@@ -93,6 +86,3 @@ pub vec_is : (tests : Tests) (t : Ty) (es : List Tm) {whole : Tm} (found : Bool)
 vec_is tests t es found is before any =
     sym any ∙ sym (terms_any tests es)
     ∙ ap (λ b. b || terms_have tests (terms_of es)) (sym before ∙ ap (λ n. tests.vector n || type_has tests t) (sym (terms_count_is es))) ∙ ap (term_has tests) is
-
-pub neither : (a b : Bool) → a ≡ false → b ≡ false → (a || b) ≡ false
-neither a b not_a not_b = ap (λ x. x || b) not_a ∙ not_b

@@ -1,4 +1,3 @@
 pub mod Limits
-pub mod Literals
 pub mod Parts
 pub mod Sought

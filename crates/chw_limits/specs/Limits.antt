@@ -2,11 +2,11 @@
 use Rattle.std.specs.Prelude.{ℕ, Bool, false, nat_lt, is_none, List, count_by, Option, Some, None, if◌then◌else◌, codes}
 use Rattle.chw_base.specs.declared.limits.TheConstants.{DEFINITIONS, DATA_TYPES, DOMAINS, WRITTEN_VECTOR, LITERAL_VALUE_BITS, TYPE_NUMERAL_BITS}
 use Rattle.chw_grammar.specs.declared.program.Tree.{Tree}
-use Rattle.chw_limits.specs.declared.literal.Literal.{Literal}
+use Rattle.chw_grammar.specs.declared.literal.Literal.{Literal}
 use Rattle.chw_limits.specs.declared.which.Limit.{Limit}
 use Rattle.chw_limits.specs.declared.which.Which.{Which}
 use Rattle.chw_limits.specs.declared.which.Which.TheVariants.{Definitions, Data, Domains, Vector, Number}
-use Rattle.chw_limits.specs.Literals.{number_of, within, literal_of}
+use Rattle.chw_grammar.specs.Literals.{number_of, within, literal_of}
 use Rattle.chw_limits.specs.Parts.{Tests, tree_has, is_definition, is_data_type, is_domain}
 
 -- no part of this sort
@@ -19,11 +19,17 @@ long_vectors = record { vector = nat_lt WRITTEN_VECTOR; literal = none; numeral 
 
 -- literals whose value, without its sign, isn't below two to the 128
 abbrev pub great_values : Tests
-great_values = record { vector = λ n. false; literal = λ w. is_none (literal_of w).value; numeral = none }
+great_values =
+    record { vector = λ n. false; literal = λ w. is_none (literal_of w).value; numeral = none }
 
 -- numerals of types, and literals by their widths, that aren't below two to the 32
 abbrev pub great_numbers : Tests
-great_numbers = record { vector = λ n. false; literal = λ w. is_none (literal_of w).width; numeral = λ w. is_none (within TYPE_NUMERAL_BITS (number_of w)) }
+great_numbers =
+    record {
+      vector = λ n. false;
+      literal = λ w. is_none (literal_of w).width;
+      numeral = λ w. is_none (within TYPE_NUMERAL_BITS (number_of w));
+    }
 
 abbrev pub limit : Which → ℕ → Option Limit
 limit which number = Some (record { which = which; number = number })

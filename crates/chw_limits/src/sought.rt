@@ -2,8 +2,8 @@
 ghost use Rattle.std.specs.Prelude.{◌≡◌};
 ghost use Rattle.chw_limits.specs.Sought.{tests_of};
 
-use crate::literal::{read_literal, read_numeral};
 use chw_base::limits::WRITTEN_VECTOR;
+use chw_grammar::{read_literal, read_numeral};
 
 /// Which parts are sought: those that pass one of the limits on parts.
 #[derive(Clone, Copy)]

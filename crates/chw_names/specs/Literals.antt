@@ -2,10 +2,10 @@
 use Rattle.std.specs.Prelude.{ℕ, Bool, true, false, ◌&&◌, List, [], ◌∷◌, ◌++◌, Option, Some, None, ◌==◌, not, if◌then◌else◌}
 use Rattle.std.specs.List.{list_any}
 use Rattle.chw_grammar.specs.declared.word.Word.{Word}
-use Rattle.chw_limits.specs.declared.literal.Letter.{Letter}
-use Rattle.chw_limits.specs.declared.literal.Letter.TheVariants as letter
-use Rattle.chw_limits.specs.declared.literal.Literal.{Literal}
-use Rattle.chw_limits.specs.Literals.{literal_of}
+use Rattle.chw_grammar.specs.declared.literal.Letter.{Letter}
+use Rattle.chw_grammar.specs.declared.literal.Letter.TheVariants as letter
+use Rattle.chw_grammar.specs.declared.literal.Literal.{Literal}
+use Rattle.chw_grammar.specs.Literals.{literal_of}
 use Rattle.chw_names.specs.declared.literals.Meaning.{Meaning}
 use Rattle.chw_names.specs.declared.literals.Sort.{Sort}
 use Rattle.chw_names.specs.declared.literals.Sort.TheVariants as sort
@@ -20,9 +20,16 @@ abbrev pub is_zero : Option ℕ → Bool
 is_zero None = false
 is_zero (Some n) = n == 0
 
--- what a literal says: its letter, its integer and its width; the integer is below zero where `-` stands before another number than 0
+-- what a literal says: its letter, its integer and its width.
+-- The integer is below zero where `-` stands before a number other than 0.
 abbrev pub meaning : Literal → Meaning
-meaning l = record { sort = sort_of l.letter; negative = l.negative && not (is_zero l.value); value = l.value; width = l.width }
+meaning l =
+    record {
+      sort = sort_of l.letter;
+      negative = l.negative && not (is_zero l.value);
+      value = l.value;
+      width = l.width;
+    }
 
 abbrev pub same_sort : Sort → Sort → Bool
 same_sort sort.Unsigned sort.Unsigned = true
@@ -40,7 +47,9 @@ same_number (Some n) (Some m) = n == m
 same_number _ _ = false
 
 abbrev pub same_meaning : Meaning → Meaning → Bool
-same_meaning a b = same_sort a.sort b.sort && same_flag a.negative b.negative && same_number a.value b.value && same_number a.width b.width
+same_meaning a b =
+    same_sort a.sort b.sort && same_flag a.negative b.negative && same_number a.value b.value
+    && same_number a.width b.width
 
 abbrev pub meaning_of : Word → Meaning
 meaning_of w = meaning (literal_of w.bytes)
@@ -57,5 +66,6 @@ abbrev pub second_literals : List Word → List Word
 second_literals = seconds_by is_said with_meaning meaning_of []
 
 -- literals are declared by what they say
-abbrev pub DeclaresLiterals : List Meaning → List Meaning → Option Word → Option Word → List Word → Type 0
+abbrev pub DeclaresLiterals : List Meaning → List Meaning → Option Word → Option Word → List Word
+    → Type 0
 DeclaresLiterals = DeclaresBy Meaning is_said with_meaning meaning_of

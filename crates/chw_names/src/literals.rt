@@ -6,8 +6,7 @@ ghost use Rattle.chw_names.specs.Words.{Meets};
 
 use crate::least::Least;
 use chw_base::NoMemory;
-use chw_grammar::{Alternative, Pattern, Word};
-use chw_limits::{Letter, read_literal};
+use chw_grammar::{Alternative, Letter, Pattern, Word, read_literal};
 use indexmap::IndexSet;
 use std::alloc::Global;
 

@@ -8,8 +8,8 @@ use crate::declare::declare;
 use crate::least::Least;
 use chw_base::NoMemory;
 use chw_grammar::{Constructor, Declaration};
-use name_tables::Declared;
 use chw_prims::{ALL, Prim, name};
+use name_tables::Declared;
 use std::alloc::Global;
 
 /// A name space of the whole description.

@@ -3,7 +3,7 @@ use Rattle.std.proofs.Common.{◌≡◌, ℕ, suc, zero, ◌+◌, ◌-◌, ◌*�
 use Rattle.std.proofs.Math.Nat.{mod-eq_of_lt, pow-succ'}
 use Rattle.std.proofs.Math.Pow.{pow_mono}
 use Rattle.std.proofs.lemmas.Bool.{le-leb, lt-leb, le-ltb, lt-ltb}
-use Rattle.chw_limits.specs.declared.literal.Letter.TheVariants.{S}
+use Rattle.chw_grammar.specs.declared.literal.Letter.TheVariants.{S}
 use Rattle.chw_resolve.specs.Literals.{number_in}
 
 -- two to a width is twice two to one less

@@ -2,10 +2,10 @@
 use Rattle.std.specs.Prelude.{ℕ, ◌+◌, ◌-◌, ◌*◌, ◌%◌, ◌^◌, Bool, true, false, nat_lt, nat_le, List, replicate, Option, Some, None, if◌then◌else◌}
 use Rattle.chw_base.specs.declared.limits.TheConstants.{SCALAR_BITS}
 use Rattle.chw_bits.specs.Bits.{bits_of}
-use Rattle.chw_limits.specs.declared.literal.Letter.{Letter}
-use Rattle.chw_limits.specs.declared.literal.Letter.TheVariants as letter
-use Rattle.chw_limits.specs.declared.literal.Literal.{Literal}
-use Rattle.chw_limits.specs.Literals.{within}
+use Rattle.chw_grammar.specs.declared.literal.Letter.{Letter}
+use Rattle.chw_grammar.specs.declared.literal.Letter.TheVariants as letter
+use Rattle.chw_grammar.specs.declared.literal.Literal.{Literal}
+use Rattle.chw_grammar.specs.Literals.{within}
 use Rattle.chw_types.specs.declared.kind.Scalar.{Scalar}
 use Rattle.chw_types.specs.declared.kind.Scalar.TheVariants.{U, S, B}
 

@@ -4,7 +4,7 @@ use Rattle.chw_grammar.specs.declared.term_tree.Pattern.{Pattern as WrittenPatte
 use Rattle.chw_grammar.specs.declared.term_tree.Pattern.TheVariants as pattern
 use Rattle.chw_grammar.specs.TermTree.{Tm, term_lambda, term_type_lambda, term_letrec, term_case, term_apply, term_name, term_constructor, term_literal, term_vec, Tms, Bindings, binding_and, Alternatives, no_alternatives, alternative_and, Arguments, no_arguments, argument_and, type_argument_and}
 use Rattle.chw_grammar.specs.TermTree as written
-use Rattle.chw_limits.specs.Literals.{literal_of}
+use Rattle.chw_grammar.specs.Literals.{literal_of}
 use Rattle.chw_names.specs.declared.globals.Globals.{Globals}
 use Rattle.chw_names.specs.Twices.{binding_words, pattern_words}
 use Rattle.chw_names.specs.Unknowns.{within}

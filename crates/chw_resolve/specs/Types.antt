@@ -5,7 +5,7 @@ use Rattle.chw_grammar.specs.declared.type_tree.KindTree.{KindTree}
 use Rattle.chw_grammar.specs.declared.type_tree.KindTree.TheVariants as kind_word
 use Rattle.chw_grammar.specs.TypeTree.{Ty, type_forall, type_arrow, type_sum, type_product, type_named, type_variable, type_numeral, Tys}
 use Rattle.chw_grammar.specs.TypeTree as written
-use Rattle.chw_limits.specs.Literals.{number_of, within}
+use Rattle.chw_grammar.specs.Literals.{number_of, within}
 use Rattle.chw_names.specs.declared.globals.Globals.{Globals}
 use Rattle.chw_types.specs.declared.kind.Kind.{Kind}
 use Rattle.chw_types.specs.declared.kind.Kind.TheVariants as kind

@@ -1,14 +1,14 @@
 //! The sort and the bits of a literal.
 ghost use Rattle.std.specs.Prelude.{◌≡◌, ◌<◌, ◌≤◌, ◌^◌, IfOk, IfSome};
 ghost use Rattle.chw_bits.specs.Bits.{bits_of};
-ghost use Rattle.chw_limits.specs.Literals.{within};
-ghost use Rattle.chw_limits.specs.declared.literal.Letter.TheVariants.{S};
+ghost use Rattle.chw_grammar.specs.Literals.{within};
+ghost use Rattle.chw_grammar.specs.declared.literal.Letter.TheVariants.{S};
 ghost use Rattle.chw_resolve.specs.Literals.{sort_of, unfit, number_in, bits_in};
 
 use chw_base::limits::SCALAR_BITS;
 use chw_base::{NoMemory, Or};
 use chw_bits::Bits;
-use chw_limits::{Letter, Literal};
+use chw_grammar::{Letter, Literal};
 use chw_types::Scalar;
 use std::alloc::Global;
 

@@ -7,8 +7,7 @@ ghost use Rattle.chw_resolve.specs.Types.{kind_in, type_at, named_type, data_typ
 ghost use Rattle.chw_resolve.specs.Walks.{next_in};
 
 use chw_base::{DataId, DomId, NoMemory, TyIx};
-use chw_grammar::{KindTree, TypeNode, TypeTree};
-use chw_limits::read_numeral;
+use chw_grammar::{KindTree, TypeNode, TypeTree, read_numeral};
 use chw_names::Globals;
 use chw_types::{Kind, Scalar, Ty};
 use name_tables::Scope;

@@ -1,5 +1,5 @@
 //! The parts of literals and the numbers of numerals.
-use chw_limits::{Letter, Literal, read_literal, read_numeral};
+use chw_grammar::{Letter, Literal, read_literal, read_numeral};
 
 const GREATEST: u128 = 340_282_366_920_938_463_463_374_607_431_768_211_455;
 

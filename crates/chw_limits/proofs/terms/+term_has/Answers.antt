@@ -1,9 +1,10 @@
 use Rattle.std.proofs.Common.{◌≡◌, true, false, ◌||◌, length, ap, ◌∙◌, sym, arith}
+use Rattle.std.proofs.lemmas.Bool.{or_from, or_left, or_right}
 use Rattle.chw_grammar.specs.TermTree.{term_letrec, term_case, term_apply, term_vec}
 use Rattle.chw_grammar.specs.TermView.{terms_of, bindings_of, alternatives_of, arguments_of, term_of}
 use Rattle.chw_limits.specs.Parts.{type_has, pattern_has, term_has}
 use Rattle.chw_limits.specs.Sought.{tests_of}
-use Rattle.chw_limits.proofs.Lists.{binding_has, alternative_has, argument_has, found, none_of_all, left, right, neither, letrec_is, case_is, apply_is, vec_early, vec_is}
+use Rattle.chw_limits.proofs.Lists.{binding_has, alternative_has, argument_has, found, none_of_all, letrec_is, case_is, apply_is, vec_early, vec_is}
 use Rattle.chw_limits.proofs.terms.+term_has.Goals.{then-type_has-2-via-then-type_has-2, then-type_has-2-via-else-type_has-2+then-term_has, then-pattern_has-via-then-pattern_has, then-pattern_has-via-else-pattern_has+then-term_has-3, in-OfTerm, in-OfType, then-vector-via-then-vector, then-vector-via-else-vector+then-type_has-3}
 use Rattle.chw_limits.proofs.terms.+term_has.Goals as goal
 
@@ -14,8 +15,8 @@ returns-then-type_has-2 t c =
     let whole : term_letrec (bindings_of bs) c.in-LetRec.body.value ≡ c.args.term.now = rw c.deref-binding-items.ensures.value (ap term_of (sym c.in-LetRec.is) ∙ c.term.view_is) in
     let has : binding_has tests c.binding-item.result ≡ true =
     elim c.then-type_has-2.branch [
-      | then-type_has-2-via-then-type_has-2 w ↦ left _ _ (sym c.type_has-in-loop-binding.ensures ∙ w.if-type_has-2.true)
-      | then-type_has-2-via-else-type_has-2+then-term_has w ↦ right _ _ (sym w.term_has-else-type_has-2.ensures ∙ w.if-term_has.true)
+      | then-type_has-2-via-then-type_has-2 w ↦ or_left _ _ (sym c.type_has-in-loop-binding.ensures ∙ w.if-type_has-2.true)
+      | then-type_has-2-via-else-type_has-2+then-term_has w ↦ or_right _ _ (sym w.term_has-else-type_has-2.ensures ∙ w.if-term_has.true)
     ] in
     letrec_is tests bs c.in-LetRec.body.value true whole (found (binding_has tests) bs c.loop-binding.binding-index c.binding-item.result c.loop-binding-test.true c.binding-item.is has)
 
@@ -34,8 +35,8 @@ returns-then-pattern_has t c =
     let whole : term_case c.deref-in-Case.result.now (alternatives_of alts) ≡ c.args.term.now = rw (c.deref-in-Case.ensures, c.deref-alternative-items.ensures.value) (ap term_of (sym c.in-Case.is) ∙ c.term.view_is) in
     let has : alternative_has tests c.alternative-item.result ≡ true =
     elim c.then-pattern_has.branch [
-      | then-pattern_has-via-then-pattern_has w ↦ left _ _ (sym c.pattern_has.ensures ∙ w.if-pattern_has.true)
-      | then-pattern_has-via-else-pattern_has+then-term_has-3 w ↦ right _ _ (sym w.term_has-else-pattern_has.ensures ∙ w.if-term_has-3.true)
+      | then-pattern_has-via-then-pattern_has w ↦ or_left _ _ (sym c.pattern_has.ensures ∙ w.if-pattern_has.true)
+      | then-pattern_has-via-else-pattern_has+then-term_has-3 w ↦ or_right _ _ (sym w.term_has-else-pattern_has.ensures ∙ w.if-term_has-3.true)
     ] in
     case_is tests c.deref-in-Case.result.now alts true whole (sym c.term_has-in-Case.ensures ∙ c.if-term_has-2.false)
     (found (alternative_has tests) alts c.loop-alternative.alternative-index c.alternative-item.result c.loop-alternative-test.true c.alternative-item.is has)
@@ -78,8 +79,8 @@ returns-then-vector t c =
     let is_long : c.vector.result ≡ tests.vector (length es) = c.vector.ensures ∙ ap tests.vector count in
     let has : (tests.vector (length es) || type_has tests c.in-VecLit.ty) ≡ true =
     elim c.then-vector.branch [
-      | then-vector-via-then-vector w ↦ left _ _ (sym is_long ∙ w.if-vector.true)
-      | then-vector-via-else-vector+then-type_has-3 w ↦ right _ _ (sym w.type_has-else-vector.ensures ∙ w.if-type_has-3.true)
+      | then-vector-via-then-vector w ↦ or_left _ _ (sym is_long ∙ w.if-vector.true)
+      | then-vector-via-else-vector+then-type_has-3 w ↦ or_right _ _ (sym w.type_has-else-vector.ensures ∙ w.if-type_has-3.true)
     ] in
     vec_early tests c.in-VecLit.ty es whole has
 
@@ -90,7 +91,7 @@ returns-then-term_has-5 t c =
     let whole : term_vec c.in-VecLit.ty (terms_of es) ≡ c.args.term.now = rw c.deref-element-items.ensures.value (ap term_of (sym c.in-VecLit.is) ∙ c.term.view_is) in
     let count : c.len.result ≡ length es = omega (arith, c.in-VecLit.elements.ok.0, ap length c.deref-element-items.ensures.value) in
     let is_short : tests.vector (length es) ≡ false = sym (c.vector.ensures ∙ ap tests.vector count) ∙ c.if-vector.false in
-    vec_is tests c.in-VecLit.ty es true whole (neither _ _ is_short (sym c.type_has-else-vector.ensures ∙ c.if-type_has-3.false))
+    vec_is tests c.in-VecLit.ty es true whole (or_from _ _ is_short (sym c.type_has-else-vector.ensures ∙ c.if-type_has-3.false))
     (found (term_has tests) es c.loop-element.element-index c.element-item.result c.loop-element-test.true c.element-item.is (sym c.term_has-in-loop-element.ensures ∙ c.if-term_has-5.true))
 
 pub returns-after-loop-element : goal.returns-after-loop-element
@@ -100,5 +101,5 @@ returns-after-loop-element t c =
     let whole : term_vec c.in-VecLit.ty (terms_of es) ≡ c.args.term.now = rw c.deref-element-items.ensures.value (ap term_of (sym c.in-VecLit.is) ∙ c.term.view_is) in
     let count : c.len.result ≡ length es = omega (arith, c.in-VecLit.elements.ok.0, ap length c.deref-element-items.ensures.value) in
     let is_short : tests.vector (length es) ≡ false = sym (c.vector.ensures ∙ ap tests.vector count) ∙ c.if-vector.false in
-    vec_is tests c.in-VecLit.ty es false whole (neither _ _ is_short (sym c.type_has-else-vector.ensures ∙ c.if-type_has-3.false))
+    vec_is tests c.in-VecLit.ty es false whole (or_from _ _ is_short (sym c.type_has-else-vector.ensures ∙ c.if-type_has-3.false))
     (none_of_all (term_has tests) es c.loop-element.element-index (omega (arith, c.loop-element-test.false)) c.loop-element.invariant)

@@ -1,6 +1,6 @@
 use Rattle.std.proofs.Common.{ap, sym, ◌∙◌, arith}
 use Rattle.chw_resolve.specs.Literals.{number_in}
-use Rattle.chw_limits.specs.declared.literal.Letter.TheVariants.{S}
+use Rattle.chw_grammar.specs.declared.literal.Letter.TheVariants.{S}
 use Rattle.chw_resolve.proofs.Ranges.{half_at_most, two_halves, below_zero, too_low, from_zero, too_high}
 use Rattle.chw_resolve.proofs.literals.signed_number.Goals as goal
 

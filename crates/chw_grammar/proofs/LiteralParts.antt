@@ -1,11 +1,11 @@
 -- A literal has the parts of which it is made.
-use Rattle.std.proofs.Common.{◌≡◌, ℕ, ◌+◌, ◌≤◌, Bool, true, false, cond, eqb, List, [], ◌∷◌, ◌++◌, length, take, drop, refl, sym, ap, ◌∙◌, arith}
+use Rattle.std.proofs.Common.{◌≡◌, ℕ, ◌+◌, Bool, true, false, cond, eqb, List, [], ◌∷◌, ◌++◌, length, take, drop, refl, sym, ap, ◌∙◌, arith}
 use Rattle.std.specs.List.{prefix_len}
 use Rattle.std.proofs.lemmas.Bool.{false≢true, eqb-true}
 use Rattle.std.proofs.lemmas.List.{take-append-le, drop-append-le, take_all, drop_all}
 use Rattle.chw_base.specs.Names.{AllOf, is_digit}
 use Rattle.chw_lexer.specs.Forms.{IsNumeral}
-use Rattle.chw_limits.specs.Literals.{parts, parts_behind, parts_of, literal_of}
+use Rattle.chw_grammar.specs.Literals.{parts, parts_behind, parts_of, literal_of}
 
 -- the digits stand before what is no digit
 digits_before : (value : List ℕ) (byte : ℕ) (width : List ℕ) → AllOf is_digit value → is_digit byte ≡ false → prefix_len is_digit (value ++ byte ∷ width) ≡ length value

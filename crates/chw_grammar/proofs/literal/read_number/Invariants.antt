@@ -1,6 +1,6 @@
 use Rattle.std.proofs.Common.{◌≡◌, take, Some}
-use Rattle.chw_limits.specs.Literals.{number_of, within}
-use Rattle.chw_limits.proofs.literal.read_number.Given as goal
+use Rattle.chw_grammar.specs.Literals.{number_of, within}
+use Rattle.chw_grammar.proofs.literal.read_number.Given as goal
 
 abbrev pub invariant-loop-digit : goal.invariant-loop-digit
 invariant-loop-digit l = Some l.number ≡ within 128 (number_of (take l.digit-index l.digits))

@@ -2,7 +2,10 @@
 ghost use Rattle.std.specs.Prelude.{◌≡◌, ◌+◌, ◌*◌, ◌-◌, ◌<◌, ◌^◌, ◌≤◌, length};
 ghost use Rattle.std.specs.List.{prefix_len};
 ghost use Rattle.chw_base.specs.Names.{is_digit};
-ghost use Rattle.chw_limits.specs.Literals.{number_of, within, letter, parts_of, literal_of};
+ghost use Rattle.chw_base.specs.declared.limits.TheConstants.{LITERAL_VALUE_BITS, TYPE_NUMERAL_BITS};
+ghost use Rattle.chw_grammar.specs.Literals.{number_of, within, letter, parts_of, literal_of};
+
+use chw_lexer::is_digit;
 
 /// The letter of a literal.
 #[derive(Clone, Copy, Debug, PartialEq, Eq)]
@@ -41,7 +44,7 @@ pub fn read_literal(literal: &[u8]) -> Literal
 
 /// The number of a numeral, where it is below two to the 32.
 pub fn read_numeral(digits: &[u8]) -> Option<u32>
-    ensures { result ≡ within 32 (number_of digits.now) }
+    ensures { result ≡ within TYPE_NUMERAL_BITS (number_of digits.now) }
 {
     match read_number(digits) {
         Some(number) if number < 0x1_0000_0000 => Some(number as u32),
@@ -79,13 +82,6 @@ fn value_len(unsigned: &[u8]) -> usize
     unsigned.len()
 }
 
-/// Whether the byte is `0` to `9`.
-fn is_digit(byte: u8) -> bool
-    ensures { result ≡ is_digit byte }
-{
-    byte >= b'0' && byte <= b'9'
-}
-
 /// The letter of this byte, which is `u` where it is neither `s` nor `b`.
 fn letter_of(byte: u8) -> Letter
     ensures { result ≡ letter byte }
@@ -99,7 +95,7 @@ fn letter_of(byte: u8) -> Letter
 
 /// The number of decimal digits, where it is below two to the 128.
 fn read_number(digits: &[u8]) -> Option<u128>
-    ensures { result ≡ within 128 (number_of digits.now) }
+    ensures { result ≡ within LITERAL_VALUE_BITS (number_of digits.now) }
 {
     let mut number = 0;
     for digit in digits {
@@ -110,7 +106,7 @@ fn read_number(digits: &[u8]) -> Option<u128>
 
 /// The number with one more digit.
 fn with_digit(number: u128, digit: u8) -> Option<u128>
-    ensures { result ≡ within 128 (number * 10 + (digit - 48)) }
+    ensures { result ≡ within LITERAL_VALUE_BITS (number * 10 + (digit - 48)) }
 {
     number
         .checked_mul(10)?

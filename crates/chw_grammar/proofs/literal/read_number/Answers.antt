@@ -1,8 +1,8 @@
 use Rattle.std.proofs.Common.{ap, ◌∙◌, sym, arith}
 use Rattle.std.proofs.lemmas.List.{take_all}
-use Rattle.chw_limits.specs.Literals.{number_of, within}
-use Rattle.chw_limits.proofs.Digits.{so_far_more, too_great}
-use Rattle.chw_limits.proofs.literal.read_number.Goals as goal
+use Rattle.chw_grammar.specs.Literals.{number_of, within}
+use Rattle.chw_grammar.proofs.Digits.{so_far_more, too_great}
+use Rattle.chw_grammar.proofs.literal.read_number.Goals as goal
 
 pub returns-in_err-number : goal.returns-in_err-number
 returns-in_err-number c =

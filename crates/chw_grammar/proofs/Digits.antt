@@ -1,13 +1,13 @@
 -- Numbers by their digits, and the digits at the front of a literal.
-use Rattle.std.proofs.Common.{◌≡◌, ℕ, ◌+◌, ◌-◌, ◌*◌, ◌^◌, ◌<◌, ◌≤◌, Bool, true, false, cond, ltb, eqb, List, [], ◌∷◌, ◌++◌, length, map, get_or, take, drop, Option, Some, None, refl, sym, ap, ◌∙◌, arith, subst}
+use Rattle.std.proofs.Common.{◌≡◌, ℕ, ◌+◌, ◌-◌, ◌*◌, ◌^◌, ◌<◌, ◌≤◌, Bool, true, false, cond, ltb, List, [], ◌∷◌, length, map, get_or, take, drop, Option, Some, None, refl, sym, ap, ◌∙◌, arith}
 use Rattle.std.specs.Int.Digits.{number_from_digits, number_from_digits_after}
 use Rattle.std.specs.List.{prefix_len}
-use Rattle.std.proofs.lemmas.Bool.{false≢true, ltb-false, ltb-true}
+use Rattle.std.proofs.lemmas.Bool.{ltb-false, ltb-true}
 use Rattle.std.proofs.lemmas.Int.Digits.{number_after_append, number_after_ge, number_push}
 use Rattle.std.proofs.lemmas.List.{map-append, take_more, take-append-drop, drop_more, drop_all}
-use Rattle.std.proofs.lemmas.Option.{none-some, same_Some}
+use Rattle.std.proofs.lemmas.Option.{cond_some, none-some}
 use Rattle.chw_base.specs.Names.{is_digit}
-use Rattle.chw_limits.specs.Literals.{number_of, within}
+use Rattle.chw_grammar.specs.Literals.{number_of, within}
 
 digit : ℕ → ℕ
 digit byte = byte - 48
@@ -30,16 +30,12 @@ number_grows bytes i =
     let grows = number_after_ge 10 (number_of (take i bytes)) back (omega arith) in
     omega arith
 
-chosen : (b : Bool) (n m : ℕ) → Some m ≡ cond b (Some n) None → (b ≡ true) × (m ≡ n)
-chosen true n m e = (refl, same_Some m n e)
-chosen false n m e = absurd (none-some m (sym e))
-
 not_chosen : (b : Bool) (n : ℕ) → None ≡ cond b (Some n) None → b ≡ false
 not_chosen true n e = absurd (none-some n e)
 not_chosen false n e = refl
 
 pub some_within : (bits n m : ℕ) → Some m ≡ within bits n → m ≡ n
-some_within bits n m e = (chosen (ltb n (2 ^ bits)) n m e).1
+some_within bits n m e = sym (cond_some (ltb n (2 ^ bits)) n m (sym e)).1
 
 pub none_within : (bits n : ℕ) → None ≡ within bits n → 2 ^ bits ≤ n
 none_within bits n e = ltb-false n (2 ^ bits) (not_chosen (ltb n (2 ^ bits)) n e)

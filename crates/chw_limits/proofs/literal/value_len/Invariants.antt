@@ -1,5 +1,0 @@
-use Rattle.chw_limits.proofs.Digits.{Counts}
-use Rattle.chw_limits.proofs.literal.value_len.Given as goal
-
-abbrev pub invariant-loop-n : goal.invariant-loop-n
-invariant-loop-n l = Counts l.unsigned l.n
