@@ -1,0 +1,66 @@
+//! Rows of descriptions, and of what their types, terms and declarations become.
+#![tactic(auto)]
+
+use chw_base::{NoMemory, Or};
+use chw_lexer::lex;
+use chw_names::Globals;
+use chw_names::least::Least;
+use chw_parser::parse;
+use chw_resolve::program_of;
+use chw_terms::Program;
+use row_notation::{Unread, print_rows, put, put_data, put_names, put_number, put_term, put_type};
+use std::alloc::Global;
+use std::io;
+
+fn main(rt: HostRuntime) -> io::Result<()> {
+    print_rows(&rt, answer)
+}
+
+// Writes a part of the program of a text: the type or the body of the last definition, or the rest.
+fn answer(alloc: Global, call: &str, text: &str, out: &mut Vec<u8>) -> Result<(), Or<Unread>> {
+    let program = program(alloc, text.as_bytes()).ok_or(Or::Fault(Unread))?;
+    let last = program.defs.as_slice().last().ok_or(Or::Fault(Unread))?;
+    match call {
+        "type" => Ok(put_type(out, &last.ty)?),
+        "body" => Ok(put_term(out, &last.body)?),
+        "rest" => Ok(put_program(out, &program)?),
+        _ => Err(Or::Fault(Unread)),
+    }
+}
+
+// The program of a text that is a description.
+fn program(alloc: Global, text: &[u8]) -> Option<Program> {
+    if text.len() > 2_000_000 {
+        return None;
+    }
+    let Ok(tokens) = lex(alloc, text) else {
+        return None;
+    };
+    let Ok(tree) = parse(alloc, text, tokens.as_slice()) else {
+        return None;
+    };
+    let mut least = Least::new();
+    let Ok(globals) = Globals::of(alloc, &mut least, tree.declarations.as_slice()) else {
+        return None;
+    };
+    program_of(alloc, &tree, &globals).ok()
+}
+
+// Writes the domains, the data types but for their kinds, the definitions' names, and the top.
+fn put_program(out: &mut Vec<u8>, program: &Program) -> Result<(), NoMemory> {
+    put(out, "domains")?;
+    put_names(out, program.domains.as_slice())?;
+    put(out, "; data ")?;
+    for data in program.datas.as_slice() {
+        put_data(out, data)?;
+    }
+    put(out, "; defs")?;
+    for def in program.defs.as_slice() {
+        put(out, " ")?;
+        out.extend_from_slice(def.name.as_slice())?;
+    }
+    put_number(out, "; top ", program.top.def.number)?;
+    put_names(out, program.top.inputs.as_slice())?;
+    put(out, " ->")?;
+    put_names(out, program.top.outputs.as_slice())
+}
