@@ -3,8 +3,8 @@ use Rattle.std.proofs.Common.{◌≡◌, ◌≢◌, ℕ, ◌-◌, ◌<◌, ◌�
 use Rattle.std.proofs.lemmas.Bool.{cases_eq, cases_lt}
 use Rattle.std.proofs.lemmas.List.{get_or_append_left, get_or_push, get_or_past, length_push, take_at}
 use Rattle.std.proofs.lemmas.Option.{get_or_from_slice_get, slice_get-get_or, slice_get_within}
-use Rattle.graph_order.specs.References.{Refers}
-use Rattle.graph_order.specs.Searches.{reference_at, reference_count, visit_at}
+use Rattle.graph_order.specs.References.{Refers, reference_at, reference_count}
+use Rattle.graph_order.specs.Searches.{visit_at}
 use Rattle.graph_order.specs.declared.search.Visit.{Visit}
 use Rattle.graph_order.specs.declared.search.Visit.TheVariants.{Ahead}
 

@@ -2,8 +2,8 @@
 use Rattle.std.proofs.Common.{◌≡◌, ℕ, ◌+◌, ◌-◌, ◌<◌, List, length, get_or, drop, sym, ◌∙◌, ap, subst, arith}
 use Rattle.std.proofs.lemmas.List.{get_or-drop, get_or_push, length-drop, length_push}
 use Rattle.graph_order.specs.Orders.{IsCycle}
-use Rattle.graph_order.specs.References.{Refers}
-use Rattle.graph_order.specs.Searches.{EndsIn, IsFound, IsSearch, MayBegin, reference_count, visit_at}
+use Rattle.graph_order.specs.References.{Refers, reference_count}
+use Rattle.graph_order.specs.Searches.{EndsIn, IsFound, IsSearch, MayBegin, visit_at}
 use Rattle.graph_order.specs.declared.search.Found.TheVariants.{Closing, Next}
 use Rattle.graph_order.specs.declared.search.Visit.{Visit}
 use Rattle.graph_order.specs.declared.search.Visit.TheVariants.{Open}

@@ -1,11 +1,11 @@
 -- What each step of a search keeps.
-use Rattle.std.proofs.Common.{◌≡◌, ℕ, ◌+◌, ◌-◌, ◌<◌, ◌≤◌, inl, inr, List, [], ◌∷◌, ◌++◌, length, get_or, set, refl, sym, ◌∙◌, ap, subst, arith, length-set, Some, map, replicate, zero, suc}
+use Rattle.std.proofs.Common.{◌≡◌, ℕ, ◌+◌, ◌-◌, ◌<◌, ◌≤◌, inl, inr, List, [], ◌∷◌, ◌++◌, length, get_or, set, refl, sym, ◌∙◌, ap, subst, arith, length-set, Some, map, take, replicate, zero, suc}
 use Rattle.std.proofs.lemmas.Bool.{cases_eq}
-use Rattle.std.proofs.lemmas.List.{length-replicate, length-map, get_or-replicate, get_or_append_left, get_or_push, length_push}
+use Rattle.std.proofs.lemmas.List.{length-replicate, length-map, get_or-replicate, get_or_append_left, get_or_push, length_push, map-append, take_more}
 use Rattle.std.proofs.lemmas.List.Folds.{sum_by-replicate}
 use Rattle.std.proofs.lemmas.List.Sums.{sum_by-set}
-use Rattle.graph_order.specs.References.{Refers}
-use Rattle.graph_order.specs.Searches.{IsMet, IsSearch, MayBegin, WentOn, done_count, reference_at, reference_count, visit_at, visit_work}
+use Rattle.graph_order.specs.References.{Refers, reference_at, reference_count}
+use Rattle.graph_order.specs.Searches.{IsMet, IsSearch, MayBegin, WentOn, done_count, visit_at, visit_work}
 use Rattle.graph_order.specs.declared.search.Visit.{Visit}
 use Rattle.graph_order.specs.declared.search.Visit.TheVariants.{Ahead, Open, Done}
 use Rattle.graph_order.proofs.Lists.{named_at, push_split, visit_split, visit_within, write_split}
@@ -274,6 +274,11 @@ all_left : (graph : List (List ℕ)) (p : ℕ) → get_or (map length graph) p 0
 all_left [] p = refl
 all_left (names ∷ graph) zero = refl
 all_left (names ∷ graph) (suc p) = all_left graph p
+
+-- the degrees of one more node
+pub degrees_more : (graph : List (List ℕ)) (k : ℕ) → k < length graph
+    → map length (take (k + 1) graph) ≡ map length (take k graph) ++ reference_count graph k ∷ []
+degrees_more graph k l = ap (map length) (take_more graph k [] l) ∙ map-append length (take k graph) (get_or graph k [] ∷ [])
 
 -- a search that has done nothing
 pub start_knows : (graph : List (List ℕ)) → IsSearch graph (replicate (length graph) Ahead) (map length graph) [] []

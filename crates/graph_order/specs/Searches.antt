@@ -1,19 +1,11 @@
 -- What a search for an order knows.
-use Rattle.std.specs.Prelude.{◌≡◌, ℕ, ◌+◌, ◌-◌, ◌<◌, ◌≤◌, List, [], ◌∷◌, ◌++◌, length, Option, Some, option_and_then, slice_get, slice_index, slice_index_or, sum, sum_by}
-use Rattle.graph_order.specs.References.{Refers}
+use Rattle.std.specs.Prelude.{◌≡◌, ℕ, ◌+◌, ◌-◌, ◌<◌, ◌≤◌, List, [], ◌∷◌, ◌++◌, length, Some, slice_index, slice_index_or, sum, sum_by}
+use Rattle.graph_order.specs.References.{Refers, reference_at, reference_count}
 use Rattle.graph_order.specs.declared.search.Found.{Found}
 use Rattle.graph_order.specs.declared.search.Found.TheVariants.{Met, Next, Closing}
 use Rattle.graph_order.specs.declared.search.Search.{Search}
 use Rattle.graph_order.specs.declared.search.Visit.{Visit}
 use Rattle.graph_order.specs.declared.search.Visit.TheVariants.{Ahead, Open, Done}
-
--- how many numbers a node names
-abbrev pub reference_count : List (List ℕ) → ℕ → ℕ
-reference_count graph node = length (slice_index_or graph node [])
-
--- one of these numbers
-abbrev pub reference_at : List (List ℕ) → ℕ → ℕ → Option ℕ
-reference_at graph node k = option_and_then (λ names. slice_get names k) (slice_get graph node)
 
 -- how far the search has come with this node
 abbrev pub visit_at : List Visit → ℕ → Visit

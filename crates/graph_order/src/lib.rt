@@ -2,8 +2,10 @@
 #![tactic(auto)]
 
 mod cycle;
+mod graph;
 pub mod laws;
 mod ordering;
 mod search;
 
+pub use graph::Graph;
 pub use ordering::{Ordering, order_of};

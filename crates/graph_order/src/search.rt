@@ -1,11 +1,13 @@
 //! The search for an order.
-ghost use Rattle.std.specs.Prelude.{◌≡◌, ◌-◌, ◌<◌, ◌≤◌, [], ◌∷◌, ◌++◌, MatchOption, length, map, slice_index, IfOk, OnOk};
+ghost use Rattle.std.specs.Prelude.{◌≡◌, ◌<◌, ◌≤◌, ◌^◌, [], ◌∷◌, ◌++◌, MatchOption, length, map, slice_index, IfOk, OnOk};
 ghost use Rattle.chw_base.specs.Outcome.{IfFault};
-ghost use Rattle.graph_order.specs.Orders.{IsCycle, LeastFirst, numbers};
-ghost use Rattle.graph_order.specs.Searches.{EndsIn, Goes, IsFound, IsMet, Knows, MayBegin, Stayed, reference_at, reference_count, visit_at};
+ghost use Rattle.graph_order.specs.Orders.{IsCycle, LeastFirst};
+ghost use Rattle.graph_order.specs.References.{reference_count};
+ghost use Rattle.graph_order.specs.Searches.{EndsIn, Goes, IsFound, IsMet, Knows, MayBegin, Stayed, visit_at};
 ghost use Rattle.graph_order.specs.declared.search.Visit.TheVariants.{Done};
 
 use crate::cycle::cycle;
+use crate::graph::Graph;
 use chw_base::{NoMemory, Or};
 use std::alloc::Global;
 
@@ -41,34 +43,25 @@ pub(crate) enum Found {
     Closing(usize),
 }
 
-// How many references each node has.
-fn reference_counts(alloc: Global, graph: &[Vec<u32>]) -> Result<Vec<usize>, NoMemory>
-    ensures { IfOk result (λ counts. counts.items ≡ map length (numbers graph.now)) }
+// How many numbers each node names.
+fn degrees<G: Graph>(alloc: Global, graph: &G) -> Result<Vec<usize>, NoMemory>
+    requires { length (G.lists graph.now) < 2 ^ 32 }
+    ensures { IfOk result (λ degrees. degrees.items ≡ map length (G.lists graph.now)) }
 {
-    let mut counts = Vec::new(alloc);
-    for references in graph {
-        counts.push(references.len())?;
+    let mut degrees = Vec::new(alloc);
+    for node in 0..graph.node_count() as u32 {
+        degrees.push(graph.degree(node))?;
     }
-    Ok(counts)
-}
-
-// The first of the references of a node that are still to be looked at, of which there are so many.
-fn next_reference(graph: &[Vec<u32>], node: u32, left: usize) -> Option<u32>
-    requires { left ≤ reference_count (numbers graph.now) node }
-    ensures { result ≡ reference_at (numbers graph.now) node (reference_count (numbers graph.now) node - left) }
-{
-    match graph.get(node as usize) {
-        Some(references) => references.get(references.len() - left).copied(),
-        None => None,
-    }
+    Ok(degrees)
 }
 
 // Looks at the first of the references of a node that are still to be looked at, of which there are so many.
-fn look(visits: &[Visit], graph: &[Vec<u32>], node: u32, left: usize) -> Found
-    requires { left ≤ reference_count (numbers graph.now) node }
-    ensures { IsFound (numbers graph.now) visits.now node left result }
+fn look<G: Graph>(visits: &[Visit], graph: &G, node: u32, left: usize) -> Found
+    requires some { 0 < left }
+    requires fits { left ≤ reference_count (G.lists graph.now) node }
+    ensures { IsFound (G.lists graph.now) visits.now node left result }
 {
-    let Some(to) = next_reference(graph, node, left) else {
+    let Some(to) = graph.reference(node, left) else {
         return Found::Met;
     };
     match visits.get(to as usize) {
@@ -87,12 +80,13 @@ fn last_node(path: &[u32]) -> Option<u32>
 
 impl Search {
     /// A search that has done nothing.
-    pub(crate) fn new(alloc: Global, graph: &[Vec<u32>]) -> Result<Search, NoMemory>
-        ensures knows { IfOk result (Knows (numbers graph.now)) }
+    pub(crate) fn new<G: Graph>(alloc: Global, graph: &G) -> Result<Search, NoMemory>
+        requires { length (G.lists graph.now) < 2 ^ 32 }
+        ensures knows { IfOk result (Knows (G.lists graph.now)) }
         ensures start { IfOk result (λ s. s.path.items ≡ []) }
     {
-        let visits = vec![in alloc; Visit::Ahead; graph.len()]?;
-        let left = reference_counts(alloc, graph)?;
+        let visits = vec![in alloc; Visit::Ahead; graph.node_count()]?;
+        let left = degrees(alloc, graph)?;
         Ok(Search {
             visits,
             left,
@@ -102,10 +96,10 @@ impl Search {
     }
 
     // Puts a node on the path.
-    fn begin(&mut self, graph: &[Vec<u32>], node: u32) -> Result<(), NoMemory>
-        requires knows { Knows (numbers graph.now) self.old }
-        requires node { MayBegin (numbers graph.now) self.old.visits.items self.old.path.items node }
-        ensures knows { OnOk result (Knows (numbers graph.now) self.new) }
+    fn begin<G: Graph>(&mut self, graph: &G, node: u32) -> Result<(), NoMemory>
+        requires knows { Knows (G.lists graph.now) self.old }
+        requires node { MayBegin (G.lists graph.now) self.old.visits.items self.old.path.items node }
+        ensures knows { OnOk result (Knows (G.lists graph.now) self.new) }
         ensures goes { OnOk result (Goes self.old self.new) }
         ensures path { OnOk result (self.new.path.items ≡ self.old.path.items ++ node ∷ []) }
     {
@@ -116,11 +110,11 @@ impl Search {
     }
 
     // Takes the last node from the path, since all that it refers to is done.
-    fn close(&mut self, graph: &[Vec<u32>], node: u32) -> Result<(), NoMemory>
-        requires knows { Knows (numbers graph.now) self.old }
+    fn close<G: Graph>(&mut self, graph: &G, node: u32) -> Result<(), NoMemory>
+        requires knows { Knows (G.lists graph.now) self.old }
         requires last { EndsIn self.old.path.items node }
         requires all_met { slice_index self.old.left.items node ≡ 0 }
-        ensures knows { OnOk result (Knows (numbers graph.now) self.new) }
+        ensures knows { OnOk result (Knows (G.lists graph.now) self.new) }
         ensures goes { OnOk result (Goes self.old self.new) }
     {
         self.order.push(node)?;
@@ -130,11 +124,11 @@ impl Search {
     }
 
     // Goes past the first of the references that a node has to look at.
-    fn pass(&mut self, graph: &[Vec<u32>], node: u32)
-        requires knows { Knows (numbers graph.now) self.old }
+    fn pass<G: Graph>(&mut self, graph: &G, node: u32)
+        requires knows { Knows (G.lists graph.now) self.old }
         requires some { 0 < slice_index self.old.left.items node }
-        requires met { IsMet (numbers graph.now) self.old.visits.items node (slice_index self.old.left.items node) }
-        ensures knows { Knows (numbers graph.now) self.new }
+        requires met { IsMet (G.lists graph.now) self.old.visits.items node (slice_index self.old.left.items node) }
+        ensures knows { Knows (G.lists graph.now) self.new }
         ensures goes { Goes self.old self.new }
     {
         self.left[node as usize] -= 1;
@@ -143,12 +137,12 @@ impl Search {
     // Goes on at the last node of the path.
     //
     // `Fault` gives a cycle.
-    fn turn(&mut self, alloc: Global, graph: &[Vec<u32>], node: u32) -> Result<(), Or<Vec<u32>>>
-        requires knows { Knows (numbers graph.now) self.old }
+    fn turn<G: Graph>(&mut self, alloc: Global, graph: &G, node: u32) -> Result<(), Or<Vec<u32>>>
+        requires knows { Knows (G.lists graph.now) self.old }
         requires last { EndsIn self.old.path.items node }
-        ensures knows { OnOk result (Knows (numbers graph.now) self.new) }
+        ensures knows { OnOk result (Knows (G.lists graph.now) self.new) }
         ensures goes { OnOk result (Goes self.old self.new) }
-        ensures cycle { IfFault result (λ nodes. IsCycle (numbers graph.now) nodes.items) }
+        ensures cycle { IfFault result (λ nodes. IsCycle (G.lists graph.now) nodes.items) }
         ensures least { IfFault result (λ nodes. LeastFirst nodes.items) }
     {
         let left = self.left[node as usize];
@@ -165,12 +159,12 @@ impl Search {
     }
 
     // Goes on until no node is on the path.
-    fn run(&mut self, alloc: Global, graph: &[Vec<u32>]) -> Result<(), Or<Vec<u32>>>
-        requires knows { Knows (numbers graph.now) self.old }
-        ensures knows { OnOk result (Knows (numbers graph.now) self.new) }
+    fn run<G: Graph>(&mut self, alloc: Global, graph: &G) -> Result<(), Or<Vec<u32>>>
+        requires knows { Knows (G.lists graph.now) self.old }
+        ensures knows { OnOk result (Knows (G.lists graph.now) self.new) }
         ensures ended { OnOk result (self.new.path.items ≡ []) }
         ensures stayed { OnOk result (Stayed self.old.visits.items self.new.visits.items) }
-        ensures cycle { IfFault result (λ nodes. IsCycle (numbers graph.now) nodes.items) }
+        ensures cycle { IfFault result (λ nodes. IsCycle (G.lists graph.now) nodes.items) }
         ensures least { IfFault result (λ nodes. LeastFirst nodes.items) }
     {
         while let Some(node) = last_node(&self.path) {
@@ -182,20 +176,20 @@ impl Search {
     /// Does this node and all that it refers to.
     ///
     /// `Fault` gives a cycle.
-    pub(crate) fn visit(
+    pub(crate) fn visit<G: Graph>(
         &mut self,
         alloc: Global,
-        graph: &[Vec<u32>],
+        graph: &G,
         node: u32,
     ) -> Result<(), Or<Vec<u32>>>
-        requires knows { Knows (numbers graph.now) self.old }
+        requires knows { Knows (G.lists graph.now) self.old }
         requires start { self.old.path.items ≡ [] }
-        requires node { node < length graph.now }
-        ensures knows { OnOk result (Knows (numbers graph.now) self.new) }
+        requires node { node < length (G.lists graph.now) }
+        ensures knows { OnOk result (Knows (G.lists graph.now) self.new) }
         ensures ended { OnOk result (self.new.path.items ≡ []) }
         ensures stayed { OnOk result (Stayed self.old.visits.items self.new.visits.items) }
         ensures done { OnOk result (visit_at self.new.visits.items node ≡ Done) }
-        ensures cycle { IfFault result (λ nodes. IsCycle (numbers graph.now) nodes.items) }
+        ensures cycle { IfFault result (λ nodes. IsCycle (G.lists graph.now) nodes.items) }
         ensures least { IfFault result (λ nodes. LeastFirst nodes.items) }
     {
         match self.visits[node as usize] {

@@ -1,35 +1,15 @@
 //! Chains of wires.
-ghost use Rattle.std.specs.Prelude.{◌≡◌, ◌<◌, ◌≤◌, length, map, replicate, [], ◌∷◌, IfOk, Some};
+ghost use Rattle.std.specs.Prelude.{◌≡◌, ◌<◌, ◌≤◌, replicate, IfOk, Some};
 ghost use Rattle.chw_base.specs.declared.limits.TheConstants.{FLAT_WIRES};
 ghost use Rattle.netlist.specs.Feeds.{target};
 ghost use Rattle.netlist.specs.Flattened.{IsFlatOf, IsPlain, flat_widths};
 ghost use Rattle.netlist.specs.Sound.{FitsCell, Sound};
 ghost use Rattle.netlist.specs.declared.net.Flat.{Flat};
 
-use chw_base::{DomId, NoMemory, Seq, WireId};
-use chw_clock::{Port, Ports};
+use chw_base::{NoMemory, Seq, WireId};
+use netlist::samples::one_input;
 use netlist::{Cell, Module, Net, laws};
 use std::alloc::Global;
-
-// The ports of a net with an input of 8 bits, and no output.
-fn one_input(alloc: Global) -> Result<Ports, NoMemory>
-    ensures domains { IfOk result (λ p. length p.domains ≡ 1) }
-    ensures inputs { IfOk result (λ p. map (λ port. port.width) p.inputs ≡ 8 ∷ []) }
-    ensures outputs { IfOk result (λ p. p.outputs ≡ []) }
-{
-    let domain = Seq::from(Vec::from_slice(alloc, b"Sys")?);
-    let name = Seq::from(Vec::from_slice(alloc, b"x")?);
-    let input = Port {
-        name,
-        dom: DomId { number: 0 },
-        width: 8,
-    };
-    Ok(Ports {
-        domains: Seq::from(vec![in alloc; domain]?),
-        inputs: Seq::from(vec![in alloc; input]?),
-        outputs: Seq::from(Vec::new(alloc)),
-    })
-}
 
 // The cell of a chain that drives this wire: it copies the next one, and the last copies the input.
 fn link(wires: u32, to: u32) -> Cell

@@ -1,11 +1,10 @@
 pub mod Before
-pub mod Ends
 pub mod Exclusion
 pub mod Lists
-pub mod Loops
 pub mod OneValue
-pub mod Samples
-pub mod Searching
+pub mod Placing
+pub mod Rounds
+pub mod SmallNets
 pub mod Tables
-pub mod Turning
 pub mod Values
+pub mod Waiting

@@ -8,7 +8,7 @@ use Rattle.std.proofs.lemmas.List.Sums.{count_by-le-length, sum_by-set}
 use Rattle.std.proofs.lemmas.Option.{same_Some, slice_get_within}
 use Rattle.chw_base.specs.declared.index.WireId.{WireId}
 use Rattle.netlist.specs.Feeds.{target, target_at}
-use Rattle.netlist.specs.Searches.{IsTable}
+use Rattle.netlist.specs.Drivers.{IsTable}
 use Rattle.netlist.specs.Sound.{DrivenOnce, DrivesFrom, Fits1, Fits2, FitsCell, HasWidth}
 use Rattle.netlist.specs.declared.net.Cell.{Cell}
 use Rattle.netlist.specs.declared.net.Cell.TheVariants.{Const, Copy, Join, Cut, Un, Bin, Mux, Reg, Ram, Use}

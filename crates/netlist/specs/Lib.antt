@@ -1,9 +1,9 @@
+pub mod Drivers
 pub mod Feeds
 pub mod Flattened
 pub mod Names
 pub mod NetValue
 pub mod Orders
-pub mod Searches
 pub mod Sound
 pub mod Text
 pub mod Wires

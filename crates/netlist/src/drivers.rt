@@ -1,7 +1,7 @@
 //! Which cell drives a wire.
 ghost use Rattle.std.specs.Prelude.{◌≡◌, Option, Some, None, IfOk, length, option_map, slice_index_or};
 ghost use Rattle.netlist.specs.Feeds.{target_at};
-ghost use Rattle.netlist.specs.Searches.{IsTable};
+ghost use Rattle.netlist.specs.Drivers.{IsTable};
 ghost use Rattle.netlist.specs.Sound.{Sound};
 
 use crate::net::{Cell, Flat};

@@ -3,13 +3,13 @@
 
 pub mod cell;
 mod copies;
-mod cycle;
 mod drivers;
 pub mod flatten;
 pub mod laws;
 pub mod net;
 pub mod ordering;
-mod search;
+pub mod samples;
+mod waits;
 
 pub use flatten::TooLarge;
 pub use net::{Cell, Flat, Loop, Module, Net, Op1, Op2, Order, RamIn};

@@ -1,14 +1,63 @@
 //! An order of the cells of a flat net, or a loop.
-ghost use Rattle.std.specs.Prelude.{IfOk};
+ghost use Rattle.std.specs.Prelude.{◌≡◌, ◌<◌, ◌++◌, length, drop, take, reverse, IfOk};
 ghost use Rattle.chw_base.specs.Outcome.{IfFault};
-ghost use Rattle.netlist.specs.Orders.{IsLoop, IsOrder};
+ghost use Rattle.graph_order.specs.Orders.{IsOrder as OrdersNodes};
+ghost use Rattle.netlist.specs.Drivers.{IsTable, waits};
+ghost use Rattle.netlist.specs.Orders.{IsLoop, IsOrder, OrdersCells, wire_numbers};
 ghost use Rattle.netlist.specs.Sound.{Sound};
 
-use crate::drivers::{drivers, wire_driven};
+use crate::drivers::{driver_of, drivers};
 use crate::net::{Flat, Loop, Order};
-use crate::search::{Search, Step};
-use chw_base::{Or, Seq, WireId};
+use crate::waits::Waits;
+use chw_base::{NoMemory, Or, Seq, WireId};
+use graph_order::{Ordering, order_of};
 use std::alloc::Global;
+
+// The cells that drive these wires, in the order of the wires. An order of all wires gives one of all cells.
+fn cells_along(
+    alloc: Global,
+    flat: &Flat,
+    drivers: &[Option<u32>],
+    wires: &[u32],
+) -> Result<Order, NoMemory>
+    requires sound { Sound flat.now }
+    requires table { IsTable (length flat.now.widths) flat.now.cells drivers.now }
+    requires order { OrdersNodes (waits flat.now.cells drivers.now) wires.now }
+    ensures { IfOk result (λ o. IsOrder flat.now o.cells) }
+{
+    let mut places = Vec::new(alloc);
+    for wire in wires {
+        if let Some(place) = driver_of(drivers, WireId { number: *wire }) {
+            places.push(place)?;
+        }
+    }
+    Ok(Order {
+        cells: Seq::from(places),
+    })
+}
+
+// The wires of these numbers.
+fn wires_of(alloc: Global, numbers: &[u32]) -> Result<Vec<WireId>, NoMemory>
+    ensures { IfOk result (λ wires. wire_numbers wires.items ≡ numbers.now) }
+{
+    let mut wires = Vec::new(alloc);
+    for number in numbers {
+        wires.push(WireId { number: *number })?;
+    }
+    Ok(wires)
+}
+
+// A cycle of wires in which each waits for the next, turned round, so that each feeds the next. The first stays the first.
+fn turned_round(alloc: Global, wires: Vec<u32>) -> Result<Seq<WireId>, NoMemory>
+    requires { 0 < length wires.items }
+    ensures { IfOk result (λ cycle. wire_numbers cycle ≡ reverse (drop 1 wires.items ++ take 1 wires.items)) }
+{
+    let mut wires = wires;
+    wires.rotate_left(1);
+    wires.reverse();
+    let cycle = wires_of(alloc, &wires)?;
+    Ok(Seq::from(cycle))
+}
 
 /// An order of the cells of a flat net, or a loop of its wires. A net that has one hasn't the other.
 pub fn order(alloc: Global, flat: &Flat) -> Result<Order, Or<Loop>>
@@ -16,23 +65,15 @@ pub fn order(alloc: Global, flat: &Flat) -> Result<Order, Or<Loop>>
     ensures order { IfOk result (λ o. IsOrder flat.now o.cells) }
     ensures loop_ { IfFault result (λ l. IsLoop flat.now l.cycle) }
 {
-    let cells = flat.cells.as_slice();
     let drivers = drivers(alloc, flat)?;
-    let mut search = Search::new(alloc, cells)?;
-    for place in 0..cells.len() {
-        if let Some(wire) = wire_driven(cells, place) {
-            let step = Step {
-                place: place as u32,
-                wire,
-            };
-            match search.visit(alloc, cells, &drivers, step) {
-                Ok(()) => {}
-                Err(Or::Memory) => return Err(Or::Memory),
-                Err(Or::Fault(cycle)) => return Err(Or::Fault(Loop { cycle })),
-            }
-        }
+    let graph = Waits {
+        cells: flat.cells.as_slice(),
+        drivers: &drivers,
+    };
+    match order_of(alloc, &graph)? {
+        Ordering::Order(wires) => Ok(cells_along(alloc, flat, &drivers, &wires)?),
+        Ordering::Cycle(wires) => Err(Or::Fault(Loop {
+            cycle: turned_round(alloc, wires)?,
+        })),
     }
-    Ok(Order {
-        cells: Seq::from(search.places),
-    })
 }

@@ -1,35 +1,16 @@
 //! Small flat nets, with orders and loops worked by hand.
-ghost use Rattle.std.specs.Prelude.{◌≡◌, ◌<◌, [], ◌∷◌, length, map, IfOk, Some};
+ghost use Rattle.std.specs.Prelude.{◌≡◌, ◌<◌, [], ◌∷◌, length, IfOk, Some};
 ghost use Rattle.netlist.specs.Feeds.{target};
 ghost use Rattle.netlist.specs.Sound.{DrivesFrom, FitsCell, Sound};
 
 use crate::flatten::flatten;
 use crate::ordering::order;
+use crate::samples::one_input;
 use crate::{Cell, Flat, Loop, Module, Net, Op2, laws};
 use chw_base::{DomId, NoMemory, Or, Seq, WireId};
-use chw_clock::{Bits, Port, Ports};
+use chw_clock::Bits;
 use std::alloc::Global;
 use std::test::Fail;
-
-// The ports of nets with an input of 8 bits, and no output.
-fn one_input(alloc: Global) -> Result<Ports, NoMemory>
-    ensures domains { IfOk result (λ p. length p.domains ≡ 1) }
-    ensures inputs { IfOk result (λ p. map (λ port. port.width) p.inputs ≡ 8 ∷ []) }
-    ensures outputs { IfOk result (λ p. p.outputs ≡ []) }
-{
-    let domain = Seq::from(Vec::from_slice(alloc, b"Sys")?);
-    let name = Seq::from(Vec::from_slice(alloc, b"x")?);
-    let input = Port {
-        name,
-        dom: DomId { number: 0 },
-        width: 8,
-    };
-    Ok(Ports {
-        domains: Seq::from(vec![in alloc; domain]?),
-        inputs: Seq::from(vec![in alloc; input]?),
-        outputs: Seq::from(Vec::new(alloc)),
-    })
-}
 
 // A flat net of an input, wire 0, and these three cells, all 8 bits wide.
 fn three_cells(alloc: Global, a: Cell, b: Cell, c: Cell) -> Result<Flat, NoMemory>

@@ -1,12 +1,13 @@
 //! A table of small nets on which `order` answers as a plain search does.
-ghost use Rattle.std.specs.Prelude.{◌≡◌, ◌+◌, ◌<◌, ◌≤◌, ℕ, length, map, replicate, [], ◌∷◌, IfOk, Some};
+ghost use Rattle.std.specs.Prelude.{◌≡◌, ◌<◌, length, replicate, IfOk, Some};
 ghost use Rattle.netlist.specs.Feeds.{target};
 ghost use Rattle.netlist.specs.Sound.{FitsCell, Sound};
 
 use crate::slow::{is_loop, is_order, slow_order};
 use chw_base::{DomId, NoMemory, Or, Seq, WireId};
-use chw_clock::{Bits, Port, Ports};
+use chw_clock::Bits;
 use netlist::ordering::order;
+use netlist::samples::one_input;
 use netlist::{Cell, Flat, Op2};
 use std::alloc::Global;
 use std::test::Fail;
@@ -26,26 +27,6 @@ enum Has {
     Loop,
     /// Two searches that differ, or an answer that is none.
     Wrong,
-}
-
-// The ports of nets with an input of 8 bits, and no output.
-fn one_input(alloc: Global) -> Result<Ports, NoMemory>
-    ensures domains { IfOk result (λ p. length p.domains ≡ 1) }
-    ensures inputs { IfOk result (λ p. map (λ port. port.width) p.inputs ≡ 8 ∷ []) }
-    ensures outputs { IfOk result (λ p. p.outputs ≡ []) }
-{
-    let domain = Seq::from(Vec::from_slice(alloc, b"Sys")?);
-    let name = Seq::from(Vec::from_slice(alloc, b"x")?);
-    let input = Port {
-        name,
-        dom: DomId { number: 0 },
-        width: 8,
-    };
-    Ok(Ports {
-        domains: Seq::from(vec![in alloc; domain]?),
-        inputs: Seq::from(vec![in alloc; input]?),
-        outputs: Seq::from(Vec::new(alloc)),
-    })
 }
 
 // A wire, where there are as many.

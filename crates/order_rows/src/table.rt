@@ -87,7 +87,8 @@ fn small_graphs(rt: HostRuntime) -> Result<(), Fail> {
 /// A graph without nodes has the empty order.
 #[test]
 fn no_nodes(rt: HostRuntime) -> Result<(), Fail> {
-    let ordering = order_of(rt.alloc(), &[]).expect(&rt, "memory");
+    let graph: Vec<Vec<u32>> = Vec::new(rt.alloc());
+    let ordering = order_of(rt.alloc(), &graph).expect(&rt, "memory");
     assert_eq!(rt; shown(rt.alloc(), &ordering)?.as_str(), "order");
     Ok(())
 }

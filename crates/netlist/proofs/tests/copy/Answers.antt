@@ -1,5 +1,5 @@
 use Rattle.std.proofs.Common.{refl}
-use Rattle.netlist.proofs.Samples.{width_of_four}
+use Rattle.netlist.proofs.SmallNets.{width_of_four}
 use Rattle.netlist.proofs.tests.copy.Goals as goal
 
 pub returns : goal.returns

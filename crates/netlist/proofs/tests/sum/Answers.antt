@@ -1,5 +1,5 @@
 use Rattle.std.proofs.Common.{refl, arith}
-use Rattle.netlist.proofs.Samples.{width_of_four}
+use Rattle.netlist.proofs.SmallNets.{width_of_four}
 use Rattle.netlist.proofs.tests.sum.Goals as goal
 
 pub returns : goal.returns

@@ -1,5 +1,5 @@
 use Rattle.std.proofs.Common.{◌∙◌}
-use Rattle.netlist.proofs.Samples.{sound_of_three}
+use Rattle.netlist.proofs.SmallNets.{sound_of_three}
 use Rattle.netlist.proofs.tests.three_cells.Goals as goal
 
 pub returns-clause-sound : goal.returns-clause-sound

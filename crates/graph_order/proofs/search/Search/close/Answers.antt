@@ -1,14 +1,13 @@
 use Rattle.std.proofs.Common.{◌≡◌, ◌∙◌, ◌++◌, length, List, ℕ, [], ◌∷◌, arith, subst, vec_len}
-use Rattle.graph_order.specs.Orders.{numbers}
 use Rattle.graph_order.specs.Searches.{IsSearch}
 use Rattle.graph_order.proofs.Lists.{rest_of_push}
 use Rattle.graph_order.proofs.Searching.{close_keeps, close_goes}
 use Rattle.graph_order.proofs.search.Search.close.Goals as goal
 
 pub returns : goal.returns
-returns c =
+returns g c =
     let self = c.args.self.now in
-    let graph = numbers c.args.graph.now in
+    let graph = g.G.Graph.lists c.args.graph.now in
     let front = c.requires.last.0 in
     let is : self.path.items ≡ front ++ c.args.node ∷ [] = c.requires.last.1 in
     let n : vec_len self.path ≡ length self.path.items = omega (arith, self.path.ok.0) in
