@@ -6,13 +6,15 @@ use Rattle.chw_types.specs.declared.declarations.Data.{Data}
 use Rattle.chw_types.specs.TypeTree.{TypeTree, ty_var, nat_lit, nat_sum, nat_product, domain, scalar, vector, data_of, fun, signal, for_all, TypeTrees, no_types, type_and}
 use Rattle.chw_types.specs.Arguments.{all_fields}
 use Rattle.chw_types.specs.References.{Mentions, MentionsAny, MentionedIn, Refers, HasNoCycle as HasOrder}
-use Rattle.chw_terms.specs.References.{names_data, any_names_data, DataRefers, HasNoCycle}
-use Rattle.chw_check.proofs.Reaching.{or_cases, or_first, or_second, place_of, place_within, place_earlier}
+use Rattle.chw_terms.specs.References.{names_data, any_names_data, DataRefers}
+use Rattle.graph_order.specs.References.{HasNoCycle}
+use Rattle.std.proofs.lemmas.Bool.{or_cases, or_left, or_right}
+use Rattle.chw_check.proofs.Reaching.{place_of, place_within, place_earlier}
 
 -- either of two is named
 either : {A B : Type 0} (a b : Bool) → (A → a ≡ true) → (B → b ≡ true) → A ⊎ B → (a || b) ≡ true
-either a b f g (inl x) = or_first a b (f x)
-either a b f g (inr y) = or_second a b (g y)
+either a b f g (inl x) = or_left a b (f x)
+either a b f g (inr y) = or_right a b (g y)
 
 mutual
   mentioned_named : (t : TypeTree) (e : ℕ) → Mentions t e → names_data t e ≡ true
@@ -48,16 +50,16 @@ data_names (Some it) e = cons_name it.cons e
 fields_named : (ts us : List TypeTree) (e : ℕ) → MentionedIn (ts ++ us) e → (fields_name ts e ≡ true) ⊎ MentionedIn us e
 unfolding fields_name
 fields_named [] us e m = inr m
-fields_named (t ∷ ts) us e (inl m) = inl (or_first (names_data t e) (fields_name ts e) (mentioned_named t e m))
-fields_named (t ∷ ts) us e (inr m) = elim (fields_named ts us e m) [ inl h ↦ inl (or_second (names_data t e) (fields_name ts e) h) | inr h ↦ inr h ]
+fields_named (t ∷ ts) us e (inl m) = inl (or_left (names_data t e) (fields_name ts e) (mentioned_named t e m))
+fields_named (t ∷ ts) us e (inr m) = elim (fields_named ts us e m) [ inl h ↦ inl (or_right (names_data t e) (fields_name ts e) h) | inr h ↦ inr h ]
 
 cons_named : (cs : List ConDecl) (e : ℕ) → MentionedIn (all_fields cs) e → cons_name cs e ≡ true
 unfolding cons_name
 cons_named [] e m = absurd m
 cons_named (c ∷ cs) e m =
     elim (fields_named c.fields (all_fields cs) e m) [
-      | inl h ↦ or_first (fields_name c.fields e) (cons_name cs e) h
-      | inr h ↦ or_second (fields_name c.fields e) (cons_name cs e) (cons_named cs e h)
+      | inl h ↦ or_left (fields_name c.fields e) (cons_name cs e) h
+      | inr h ↦ or_right (fields_name c.fields e) (cons_name cs e) (cons_named cs e h)
     ]
 
 -- a type among others that names a data type

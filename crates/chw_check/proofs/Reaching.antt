@@ -1,34 +1,8 @@
 -- Which numbers steps lead to, found by a test of single steps.
 use Rattle.std.proofs.Common.{◌≡◌, ℕ, suc, zero, ◌<◌, Bool, true, false, ◌||◌, ◌&&◌, ◌⊎◌, inl, inr, refl, ap, subst, arith}
-use Rattle.chw_terms.specs.References.{Leads, step, step_and, HasNoCycle}
+use Rattle.std.proofs.lemmas.Bool.{and_from, and_parts, false_from_ne_true, or_cases, or_left, or_right}
+use Rattle.graph_order.specs.References.{Leads, step, step_and, HasNoCycle}
 use Rattle.chw_check.proofs.TestCounts.{count_below, count_misses, count_exceeds, below_or_last}
-
-pub or_cases : (a b : Bool) → (a || b) ≡ true → (a ≡ true) ⊎ (b ≡ true)
-or_cases true b h = inl refl
-or_cases false b h = inr h
-
-pub or_first : (a b : Bool) → a ≡ true → (a || b) ≡ true
-or_first a b h = ap (λ x. x || b) h
-
-pub or_second : (a b : Bool) → b ≡ true → (a || b) ≡ true
-or_second true b h = refl
-or_second false b h = h
-
-and_first : (a b : Bool) → (a && b) ≡ true → a ≡ true
-and_first true b h = refl
-and_first false b h = h
-
-and_second : (a b : Bool) → (a && b) ≡ true → b ≡ true
-and_second true b h = h
-and_second false b h = absurd (cc)
-
-and_both : (a b : Bool) → a ≡ true → b ≡ true → (a && b) ≡ true
-and_both true b h k = k
-and_both false b h k = h
-
-not_true : (b : Bool) → (b ≡ true → ⊥) → b ≡ false
-not_true true h = absurd (h refl)
-not_true false h = refl
 
 leads_on : {Step : ℕ → ℕ → Type 0} {a b c : ℕ} → Leads Step a b → Leads Step b c → Leads Step a c
 leads_on (step s) more = step_and s more
@@ -42,24 +16,24 @@ module _ (goes : ℕ → ℕ → Bool) where
 
   reach_step : (n a b : ℕ) → goes a b ≡ true → reach n a b ≡ true
   reach_step zero a b h = h
-  reach_step (suc n) a b h = or_first (reach n a b) _ (reach_step n a b h)
+  reach_step (suc n) a b h = or_left (reach n a b) _ (reach_step n a b h)
 
   reach_by : (k a b : ℕ) → reach k a k ≡ true → reach k k b ≡ true → reach (suc k) a b ≡ true
-  reach_by k a b h g = or_second (reach k a b) _ (and_both (reach k a k) (reach k k b) h g)
+  reach_by k a b h g = or_right (reach k a b) _ (and_from (reach k a k) (reach k k b) h g)
 
   reach_to_last : (k a : ℕ) → reach (suc k) a k ≡ true → reach k a k ≡ true
-  reach_to_last k a h = elim (or_cases (reach k a k) (reach k a k && reach k k k) h) [ inl g ↦ g | inr g ↦ and_first (reach k a k) (reach k k k) g ]
+  reach_to_last k a h = elim (or_cases (reach k a k) (reach k a k && reach k k k) h) [ inl g ↦ g | inr g ↦ (and_parts (reach k a k) (reach k k k) g).0 ]
 
   reach_from_last : (k b : ℕ) → reach (suc k) k b ≡ true → reach k k b ≡ true
-  reach_from_last k b h = elim (or_cases (reach k k b) (reach k k k && reach k k b) h) [ inl g ↦ g | inr g ↦ and_second (reach k k k) (reach k k b) g ]
+  reach_from_last k b h = elim (or_cases (reach k k b) (reach k k k && reach k k b) h) [ inl g ↦ g | inr g ↦ (and_parts (reach k k k) (reach k k b) g).1 ]
 
   -- steps that meet in b, each with or without the last number between its ends
   reach_around : (k a b c : ℕ) → ((x y : ℕ) → reach k x b ≡ true → reach k b y ≡ true → reach k x y ≡ true)
       → (reach k a b ≡ true) ⊎ ((reach k a k && reach k k b) ≡ true) → (reach k b c ≡ true) ⊎ ((reach k b k && reach k k c) ≡ true) → reach (suc k) a c ≡ true
-  reach_around k a b c on (inl p) (inl q) = or_first (reach k a c) _ (on a c p q)
-  reach_around k a b c on (inl p) (inr q) = reach_by k a c (on a k p (and_first (reach k b k) (reach k k c) q)) (and_second (reach k b k) (reach k k c) q)
-  reach_around k a b c on (inr p) (inl q) = reach_by k a c (and_first (reach k a k) (reach k k b) p) (on k c (and_second (reach k a k) (reach k k b) p) q)
-  reach_around k a b c on (inr p) (inr q) = reach_by k a c (and_first (reach k a k) (reach k k b) p) (and_second (reach k b k) (reach k k c) q)
+  reach_around k a b c on (inl p) (inl q) = or_left (reach k a c) _ (on a c p q)
+  reach_around k a b c on (inl p) (inr q) = reach_by k a c (on a k p (and_parts (reach k b k) (reach k k c) q).0) (and_parts (reach k b k) (reach k k c) q).1
+  reach_around k a b c on (inr p) (inl q) = reach_by k a c (and_parts (reach k a k) (reach k k b) p).0 (on k c (and_parts (reach k a k) (reach k k b) p).1 q)
+  reach_around k a b c on (inr p) (inr q) = reach_by k a c (and_parts (reach k a k) (reach k k b) p).0 (and_parts (reach k b k) (reach k k c) q).1
 
   -- steps that go on from a number below the bound
   reach_on : (k a b c : ℕ) → b < k → reach k a b ≡ true → reach k b c ≡ true → reach k a c ≡ true
@@ -76,12 +50,12 @@ module _ (goes : ℕ → ℕ → Bool) where
     reach_leads (suc k) a b h =
         elim (or_cases (reach k a b) _ h) as (λ _. Leads Step a b) [
           | inl p ↦ reach_leads k a b p
-          | inr p ↦ leads_on (reach_leads k a k (and_first (reach k a k) (reach k k b) p)) (reach_leads k k b (and_second (reach k a k) (reach k k b) p))
+          | inr p ↦ leads_on (reach_leads k a k (and_parts (reach k a k) (reach k k b) p).0) (reach_leads k k b (and_parts (reach k a k) (reach k k b) p).1)
         ]
 
     module _ (none : HasNoCycle Step) (n : ℕ) where
       not_back : (a : ℕ) → reach n a a ≡ false
-      not_back a = not_true (reach n a a) (λ h. none a (reach_leads n a a h))
+      not_back a = false_from_ne_true (reach n a a) (λ h. none a (reach_leads n a a h))
 
       -- how many numbers are led to: this falls along each step
       pub place_of : ℕ → ℕ

@@ -15,7 +15,7 @@ use crate::names::{con_name, data_name, def_name};
 use crate::ports::leads_to_port;
 use case_checks::laws::typed_terms_are_complete;
 use case_checks::{Lacks, first_incomplete};
-use chw_base::{NoMemory, Or};
+use chw_base::{Name, NoMemory, Or};
 use chw_terms::Program;
 use chw_types::type_text;
 use con_places::Constructors;

@@ -94,7 +94,7 @@ pub data Asks {S : Type 0} (gives : S → List ℕ → ℕ → Result Fetched (O
     (words : List (List ℕ)) (s t : S) : Source → Type 0 where
   uncalled : t ≡ s → Asks gives told faults words s t nothing
   called : (command : Command) (answer : Result Fetched (Or ShelfFault)) (bytes : List ℕ) → IsCommand words command
-      → gives s (file_read command) DESCRIPTION_BYTES answer bytes t
+      → gives s (file_read command) DESCRIPTION_BYTES answer bytes t → told t ≡ told s
       → Fetches (told s) (file_read command) DESCRIPTION_BYTES (faults s) (faults t) answer bytes
       → Asks gives told faults words s t (fetched answer bytes)
 

@@ -21,10 +21,11 @@ module _ {S : Type 0} (gives : S → List ℕ → Result (Unit {0}) (Or SinkFaul
     none : (s : S) → PutsFirst bytes zero s s
     more : (k : ℕ) (s t u : S) → PutsFirst bytes k s t → gives t (piece bytes k) (Ok tt) u → PutsFirst bytes (suc k) s u
 
-  -- the whole answer was written
-  pub record WritesAll (written : S → Option (List ℕ)) (bytes : List ℕ) (s t : S) : Type 0 where
+  -- the whole answer was written, with no fault
+  pub record WritesAll (written : S → Option (List ℕ)) (faults : S → ℕ) (bytes : List ℕ) (s t : S) : Type 0 where
     pub puts : PutsFirst bytes (pieces bytes) s t
     pub grew : GrewBy bytes (written s) (written t)
+    pub faults_same : faults t ≡ faults s
 
   -- the call for some piece gave this answer, after those before it were taken whole; so some first part of the answer was written,
   -- which is whole pieces where memory was wanting
@@ -43,7 +44,8 @@ module _ {S : Type 0} (gives : S → List ℕ → Result (Unit {0}) (Or SinkFaul
     pub memory : answer ≢ Err Memory
     pub writes : Writes line (written s) (written t) (faults s) (faults t) answer
 
-  -- where memory was wanting: nothing was put, or a line in one call that found no memory
-  pub data TellsNothing : S → S → Type 0 where
-    silent : (s : S) → TellsNothing s s
-    failed : (s t : S) (line : List ℕ) → gives s line (Err Memory) t → TellsNothing s t
+  -- where memory was wanting: nothing was put, which happens to lines that take memory to make alone; or the line was put in one call,
+  -- which found no memory
+  pub data TellsNothing (line : List ℕ) (Takes : Type 0) : S → S → Type 0 where
+    silent : (s : S) → Takes → TellsNothing line Takes s s
+    failed : (s t : S) → gives s line (Err Memory) t → TellsNothing line Takes s t

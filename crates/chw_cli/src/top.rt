@@ -17,8 +17,8 @@ use chw_lexer::laws::{no_fault, one_splitting};
 use chw_parser::laws::one_tree;
 use chw_resolve::laws::well_named_has_no_fault;
 use chw_words::laws::words_are_one_command;
-use flat_form::one_description;
 use data_kinds::kind_laws::one_program;
+use flat_form::one_description;
 use std::alloc::Global;
 
 /// Does what the words ask for: reads the file from the shelf, and writes the answer to `out`, or one line to `err`.
@@ -34,7 +34,7 @@ pub fn top<F: Shelf, K: Sink, E: Sink>(
 ) -> Status
     ensures outcome { Outcome (Asks F.fetch_gives F.told F.faults words.now shelf.old shelf.new) words.now (Rose (K.faults out.old) (K.faults out.new))
         (out.new ≡ out.old) (err.new ≡ err.old)
-        (λ bytes. WritesAll K.put_gives K.written bytes out.old out.new)
+        (λ bytes. WritesAll K.put_gives K.written K.faults bytes out.old out.new)
         (λ answer bytes. StopsAt K.put_gives K.written answer bytes out.old out.new)
         (λ refusal status. Told E.put_gives E.written E.faults refusal err.old err.new status)
         result }

@@ -3,6 +3,7 @@ use Rattle.std.proofs.Common.{◌≡◌, ℕ, suc, zero, ◌+◌, ◌-◌, ◌*�
 use Rattle.std.specs.Prelude.{Some, replicate}
 use Rattle.std.specs.List.{slice_get}
 use Rattle.std.proofs.lemmas.List.{length-replicate}
+use Rattle.chw_base.specs.declared.limits.TheConstants.{DATA_BITS}
 use Rattle.chw_bits.specs.Bits.{number_of, bits_of}
 use Rattle.chw_types.specs.declared.declarations.ConDecl.{ConDecl}
 use Rattle.chw_types.specs.declared.declarations.Data.{Data}
@@ -54,7 +55,7 @@ mutual
   elements_length {w = w} h (element_bits {vs = vs} {bits = bits} {more = more} e es) d =
       length-append bits more ∙ (λ i. encoded_length h e d i + elements_length h es d i) ∙ one_more (count_of vs) w
 
-  pub fields_length : {datas : List Data} {fs : List TypeTree} {σ : Substitution} {vs : Datums} {bits : List Bool} {s : ℕ} → BitsAreAsMany → EncodesFields datas fs σ vs bits → MeasuredFields datas fs σ (fits s) → s ≤ 1024 → length bits ≡ s
+  pub fields_length : {datas : List Data} {fs : List TypeTree} {σ : Substitution} {vs : Datums} {bits : List Bool} {s : ℕ} → BitsAreAsMany → EncodesFields datas fs σ vs bits → MeasuredFields datas fs σ (fits s) → s ≤ DATA_BITS → length bits ≡ s
   fields_length h no_field_bits d l = no_width d
   fields_length h (field_bits {bits = bits} {more = more} e es) d l =
       let x = field_width l d in
@@ -90,7 +91,7 @@ mutual
   elements_encoded no_elements d = ([], no_element_bits)
   elements_encoded (element_and v vs) d = let e = value_encoded v d in let es = elements_encoded vs d in (e.0 ++ es.0, element_bits e.1 es.1)
 
-  pub fields_encoded : {datas : List Data} {fs : List TypeTree} {σ : Substitution} {vs : Datums} {s : ℕ} → AreFields datas fs σ vs → MeasuredFields datas fs σ (fits s) → s ≤ 1024 → (bits : List Bool) × EncodesFields datas fs σ vs bits
+  pub fields_encoded : {datas : List Data} {fs : List TypeTree} {σ : Substitution} {vs : Datums} {s : ℕ} → AreFields datas fs σ vs → MeasuredFields datas fs σ (fits s) → s ≤ DATA_BITS → (bits : List Bool) × EncodesFields datas fs σ vs bits
   fields_encoded no_fields d l = ([], no_field_bits)
   fields_encoded (field_and v vs) d l =
       let x = field_width l d in
@@ -184,7 +185,7 @@ mutual
       let same_i = same_tag m (length it.cons) i p.i (at_below it.cons i c at) (at_below it.cons p.i p.c p.at) parts.0 in
       let same_c : p.c ≡ c = sym (same_at it.cons i p.i c p.c same_i at p.at) in
       let fs = fields_along p.c c same_c p.fields in
-      let small : y.s ≤ 1024 = let q = x.is in let r = x.within in let z = y.within in omega arith in
+      let small : y.s ≤ DATA_BITS = let q = x.is in let r = x.within in let z = y.within in omega arith in
       let inner = append_split bits p.bits _ _ (fields_length h es y.fields small ∙ sym (fields_length h fs y.fields small)) parts.1 in
       let same_vs = fields_same h m es fs y.fields small inner.0 in
       let same_n : n ≡ p.n = number ∙ ap (λ j. first_constructor datas d + j) same_i ∙ sym p.number in
@@ -199,7 +200,7 @@ mutual
       let n : count_of vs ≡ count_of us = omega arith in
       λ i. datum_and (encoded_same h m g k d w.0 i) (elements_same h m gs ks d n w.1 i)
 
-  pub fields_same : {datas : List Data} {ts : List TypeTree} {σ : Substitution} {vs us : Datums} {b more : List Bool} {s : ℕ} → BitsAreAsMany → BitsMean → EncodesFields datas ts σ vs b → EncodesFields datas ts σ us more → MeasuredFields datas ts σ (fits s) → s ≤ 1024 → b ≡ more → vs ≡ us
+  pub fields_same : {datas : List Data} {ts : List TypeTree} {σ : Substitution} {vs us : Datums} {b more : List Bool} {s : ℕ} → BitsAreAsMany → BitsMean → EncodesFields datas ts σ vs b → EncodesFields datas ts σ us more → MeasuredFields datas ts σ (fits s) → s ≤ DATA_BITS → b ≡ more → vs ≡ us
   fields_same h m no_field_bits no_field_bits d l e = refl
   fields_same h m (field_bits {bits = b} {more = bs} g gs) (field_bits {bits = f} {more = fs} k ks) d l e =
       let x = field_width l d in

@@ -3,6 +3,7 @@ use Rattle.std.proofs.Common.{◌≡◌, ℕ, suc, zero, ◌+◌, ◌*◌, ◌�
 use Rattle.std.specs.Prelude.{if◌then◌else◌, nat_le, max, Some}
 use Rattle.std.specs.List.{slice_get}
 use Rattle.std.proofs.lemmas.Bool.{leb-true}
+use Rattle.chw_base.specs.declared.limits.TheConstants.{DATA_BITS, SCALAR_BITS, VECTOR_LENGTH}
 use Rattle.chw_types.specs.declared.kind.Scalar.{Scalar}
 use Rattle.chw_types.specs.declared.declarations.ConDecl.{ConDecl}
 use Rattle.chw_types.specs.declared.declarations.Data.{Data}
@@ -43,7 +44,7 @@ or_fits (fits a) (fits b) s e = record { a = a; b = b; one = refl; others = refl
 or_fits (fits a) (too_wide x) s e = absurd (cc)
 or_fits (too_wide x) n s e = absurd (cc)
 
-if_data : (x w : ℕ) (b : Bool) → (b ≡ true → x ≤ 1024) → fits w ≡ (if b then fits x else too_wide (OverData x)) → (w ≡ x) × (x ≤ 1024)
+if_data : (x w : ℕ) (b : Bool) → (b ≡ true → x ≤ DATA_BITS) → fits w ≡ (if b then fits x else too_wide (OverData x)) → (w ≡ x) × (x ≤ DATA_BITS)
 if_data x w true h e = (fits_same w x e, h refl)
 if_data x w false h e = absurd (cc)
 
@@ -51,8 +52,8 @@ pub if_scalar : (x w : ℕ) (b : Bool) → fits w ≡ (if b then fits x else too
 if_scalar x w true e = fits_same w x e
 if_scalar x w false e = absurd (cc)
 
-if_length : (x n w : ℕ) (b : Bool) → fits w ≡ (if b then data_measure x else too_wide (OverLength n)) → (w ≡ x) × (x ≤ 1024)
-if_length x n w true e = if_data x w (nat_le x 1024) (leb-true x 1024) e
+if_length : (x n w : ℕ) (b : Bool) → fits w ≡ (if b then data_measure x else too_wide (OverLength n)) → (w ≡ x) × (x ≤ DATA_BITS)
+if_length x n w true e = if_data x w (nat_le x DATA_BITS) (leb-true x DATA_BITS) e
 if_length x n w false e = absurd (cc)
 
 -- the widest constructor has a width
@@ -60,11 +61,11 @@ pub record Tagged (tag : ℕ) (m : Measure) (w : ℕ) : Type 0 where
   pub a : ℕ
   pub inner : m ≡ fits a
   pub is : w ≡ tag + a
-  pub within : w ≤ 1024
+  pub within : w ≤ DATA_BITS
 
 pub tagged_fits : (tag : ℕ) (m : Measure) (w : ℕ) → fits w ≡ tagged_measure tag m → Tagged tag m w
 tagged_fits tag (fits a) w e =
-    let h = if_data (ended (tag + a)) w (nat_le (ended (tag + a)) 1024) (leb-true (ended (tag + a)) 1024) e in
+    let h = if_data (ended (tag + a)) w (nat_le (ended (tag + a)) DATA_BITS) (leb-true (ended (tag + a)) DATA_BITS) e in
     record { a = a; inner = refl; is = omega (arith, h.0, h.1); within = omega (arith, h.0, h.1) }
 tagged_fits tag (too_wide x) w e = absurd (cc)
 
@@ -73,19 +74,19 @@ pub record Repeated (n : ℕ) (m : Measure) (w : ℕ) : Type 0 where
   pub a : ℕ
   pub inner : m ≡ fits a
   pub is : w ≡ n * a
-  pub within : w ≤ 1024
+  pub within : w ≤ DATA_BITS
 
-pub not_ended : (x w : ℕ) → w ≡ ended x → ended x ≤ 1024 → w ≡ x
+pub not_ended : (x w : ℕ) → w ≡ ended x → ended x ≤ DATA_BITS → w ≡ x
 not_ended x w e l = omega arith
 
 pub vector_fits : (n : ℕ) (m : Measure) (w : ℕ) → fits w ≡ vector_measure n m → Repeated n m w
 vector_fits n (fits a) w e =
-    let h = if_length (ended (n * a)) n w (nat_le n 256) e in
+    let h = if_length (ended (n * a)) n w (nat_le n VECTOR_LENGTH) e in
     record { a = a; inner = refl; is = not_ended (n * a) w h.0 h.1; within = omega (arith, h.0, h.1) }
 vector_fits n (too_wide x) w e = absurd (cc)
 
 pub scalar_width : {datas : List Data} {s : Scalar} {x : TypeTree} {w : ℕ} → HasWidth datas (scalar s x) w → w ≡ closed_value x
-scalar_width {x = x} {w = w} d = if_scalar (closed_value x) w (nat_le (closed_value x) 128) (scalar_measured d)
+scalar_width {x = x} {w = w} d = if_scalar (closed_value x) w (nat_le (closed_value x) SCALAR_BITS) (scalar_measured d)
 
 -- the elements' width
 pub record ElementWidth (datas : List Data) (n t : TypeTree) (w : ℕ) : Type 0 where
@@ -104,7 +105,7 @@ pub record ConsWidth (datas : List Data) (it : Data) (ts : TypeTrees) (w : ℕ) 
   pub a : ℕ
   pub cons : MeasuredCons datas it.cons (arguments ts) (fits a)
   pub is : w ≡ tag_width (length it.cons) + a
-  pub within : w ≤ 1024
+  pub within : w ≤ DATA_BITS
 
 pub cons_width : {datas : List Data} {d : ℕ} {ts : TypeTrees} {w : ℕ} (it : Data) → slice_get datas d ≡ Some it → HasWidth datas (data_of d ts) w → ConsWidth datas it ts w
 cons_width {datas} {d} {ts} {w} it known e =
@@ -139,8 +140,8 @@ pub record FirstWidth (datas : List Data) (f : TypeTree) (fs : List TypeTree) (�
   pub rest : MeasuredFields datas fs σ (fits b)
   pub is : s ≡ a + b
 
-pub field_width : {datas : List Data} {f : TypeTree} {fs : List TypeTree} {σ : Substitution} {s : ℕ} → s ≤ 1024 → MeasuredFields datas (f ∷ fs) σ (fits s) → FirstWidth datas f fs σ s
+pub field_width : {datas : List Data} {f : TypeTree} {fs : List TypeTree} {σ : Substitution} {s : ℕ} → s ≤ DATA_BITS → MeasuredFields datas (f ∷ fs) σ (fits s) → FirstWidth datas f fs σ s
 field_width {datas} {f} {fs} {σ} {s} l d =
     let v = next_field d in
     let h = then_fits v.one v.others s v.is in
-    record { a = h.a; b = h.b; first = subst (Measured datas (sub f σ)) h.one v.first; rest = subst (MeasuredFields datas fs σ) h.others v.rest; is = not_ended (h.a + h.b) s h.is (subst (λ x. x ≤ 1024) h.is l) }
+    record { a = h.a; b = h.b; first = subst (Measured datas (sub f σ)) h.one v.first; rest = subst (MeasuredFields datas fs σ) h.others v.rest; is = not_ended (h.a + h.b) s h.is (subst (λ x. x ≤ DATA_BITS) h.is l) }

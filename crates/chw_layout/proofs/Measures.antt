@@ -3,6 +3,7 @@ use Rattle.std.proofs.Common.{◌≡◌, ℕ, ◌+◌, ◌*◌, ◌≤◌, Bool,
 use Rattle.std.specs.Prelude.{if◌then◌else◌, nat_le, Some}
 use Rattle.std.specs.List.{slice_get}
 use Rattle.std.proofs.lemmas.Bool.{leb-true}
+use Rattle.chw_base.specs.declared.limits.TheConstants.{DATA_BITS, SCALAR_BITS, VECTOR_LENGTH}
 use Rattle.chw_types.specs.declared.kind.Scalar.{Scalar}
 use Rattle.chw_types.specs.declared.declarations.ConDecl.{ConDecl}
 use Rattle.chw_types.specs.declared.declarations.Data.{Data}
@@ -163,15 +164,15 @@ data_limit w true = tt
 data_limit w false = tt
 
 length_limit : (w n : ℕ) (b : Bool) → IsLimit (if b then data_measure w else too_wide (OverLength n))
-length_limit w n true = data_limit w (nat_le w 1024)
+length_limit w n true = data_limit w (nat_le w DATA_BITS)
 length_limit w n false = tt
 
 vector_limit : (n : ℕ) (m : Measure) → IsLimit m → IsLimit (vector_measure n m)
-vector_limit n (fits w) h = length_limit (ended (n * w)) n (nat_le n 256)
+vector_limit n (fits w) h = length_limit (ended (n * w)) n (nat_le n VECTOR_LENGTH)
 vector_limit n (too_wide e) h = h
 
 tagged_limit : (n : ℕ) (m : Measure) → IsLimit m → IsLimit (tagged_measure n m)
-tagged_limit n (fits w) h = data_limit (ended (n + w)) (nat_le (ended (n + w)) 1024)
+tagged_limit n (fits w) h = data_limit (ended (n + w)) (nat_le (ended (n + w)) DATA_BITS)
 tagged_limit n (too_wide e) h = h
 
 then_limit : (m n : Measure) → IsLimit m → IsLimit n → IsLimit (then_measure m n)
@@ -186,7 +187,7 @@ or_limit (too_wide e) n h k = h
 
 mutual
   pub measured_limit : {datas : List Data} {t : TypeTree} {m : Measure} → Measured datas t m → IsLimit m
-  measured_limit (measured_scalar {w = w}) = scalar_limit (closed_value w) (nat_le (closed_value w) 128)
+  measured_limit (measured_scalar {w = w}) = scalar_limit (closed_value w) (nat_le (closed_value w) SCALAR_BITS)
   measured_limit (measured_vector {n = n} {m = m} a) = vector_limit (closed_value n) m (measured_limit a)
   measured_limit (measured_data {it = it} {m = m} known as_many a) = tagged_limit (tag_width (length it.cons)) m (cons_limit a)
 
@@ -203,28 +204,28 @@ abbrev pub IsWithin : ℕ → Measure → Type 0
 IsWithin most (fits w) = w ≤ most
 IsWithin most (too_wide e) = Unit {0}
 
-scalar_within : (w : ℕ) (b : Bool) → (b ≡ true → w ≤ 128) → IsWithin 1024 (if b then fits w else too_wide (OverScalar w))
+scalar_within : (w : ℕ) (b : Bool) → (b ≡ true → w ≤ SCALAR_BITS) → IsWithin DATA_BITS (if b then fits w else too_wide (OverScalar w))
 scalar_within w true h = let k = h refl in omega arith
 scalar_within w false h = tt
 
-data_within : (w : ℕ) (b : Bool) → (b ≡ true → w ≤ 1024) → IsWithin 1024 (if b then fits w else too_wide (OverData w))
+data_within : (w : ℕ) (b : Bool) → (b ≡ true → w ≤ DATA_BITS) → IsWithin DATA_BITS (if b then fits w else too_wide (OverData w))
 data_within w true h = h refl
 data_within w false h = tt
 
-length_within : (w n : ℕ) (b : Bool) → IsWithin 1024 (if b then data_measure w else too_wide (OverLength n))
-length_within w n true = data_within w (nat_le w 1024) (leb-true w 1024)
+length_within : (w n : ℕ) (b : Bool) → IsWithin DATA_BITS (if b then data_measure w else too_wide (OverLength n))
+length_within w n true = data_within w (nat_le w DATA_BITS) (leb-true w DATA_BITS)
 length_within w n false = tt
 
-vector_within : (n : ℕ) (m : Measure) → IsWithin 1024 (vector_measure n m)
-vector_within n (fits w) = length_within (ended (n * w)) n (nat_le n 256)
+vector_within : (n : ℕ) (m : Measure) → IsWithin DATA_BITS (vector_measure n m)
+vector_within n (fits w) = length_within (ended (n * w)) n (nat_le n VECTOR_LENGTH)
 vector_within n (too_wide e) = tt
 
-tagged_within : (n : ℕ) (m : Measure) → IsWithin 1024 (tagged_measure n m)
-tagged_within n (fits w) = data_within (ended (n + w)) (nat_le (ended (n + w)) 1024) (leb-true (ended (n + w)) 1024)
+tagged_within : (n : ℕ) (m : Measure) → IsWithin DATA_BITS (tagged_measure n m)
+tagged_within n (fits w) = data_within (ended (n + w)) (nat_le (ended (n + w)) DATA_BITS) (leb-true (ended (n + w)) DATA_BITS)
 tagged_within n (too_wide e) = tt
 
-pub measured_within : {datas : List Data} {t : TypeTree} {m : Measure} → Measured datas t m → IsWithin 1024 m
-measured_within (measured_scalar {w = w}) = scalar_within (closed_value w) (nat_le (closed_value w) 128) (leb-true (closed_value w) 128)
+pub measured_within : {datas : List Data} {t : TypeTree} {m : Measure} → Measured datas t m → IsWithin DATA_BITS m
+measured_within (measured_scalar {w = w}) = scalar_within (closed_value w) (nat_le (closed_value w) SCALAR_BITS) (leb-true (closed_value w) SCALAR_BITS)
 measured_within (measured_vector {n = n} {m = m} a) = vector_within (closed_value n) m
 measured_within (measured_data {it = it} {m = m} known as_many a) = tagged_within (tag_width (length it.cons)) m
 
@@ -234,7 +235,7 @@ then_within (fits a) (fits b) h k = omega arith
 then_within (fits a) (too_wide e) h k = tt
 then_within (too_wide e) n h k = tt
 
-within_more : (m : Measure) → IsWithin 1024 m → IsWithin greatest m
+within_more : (m : Measure) → IsWithin DATA_BITS m → IsWithin greatest m
 within_more (fits w) h = omega arith
 within_more (too_wide e) h = tt
 

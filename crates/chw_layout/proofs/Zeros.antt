@@ -3,6 +3,7 @@ use Rattle.std.proofs.Common.{◌≡◌, ℕ, suc, zero, ◌+◌, ◌-◌, ◌*�
 use Rattle.std.specs.Prelude.{Some, replicate, nat_le}
 use Rattle.std.specs.List.{slice_get}
 use Rattle.std.proofs.lemmas.List.{length-replicate}
+use Rattle.chw_base.specs.declared.limits.TheConstants.{DATA_BITS, SCALAR_BITS}
 use Rattle.chw_bits.specs.Bits.{number_of, bits_of}
 use Rattle.chw_types.specs.declared.declarations.ConDecl.{ConDecl}
 use Rattle.chw_types.specs.declared.declarations.Data.{Data}
@@ -62,7 +63,7 @@ record ZeroCon (datas : List Data) (cs : List ConDecl) (σ : Substitution) (s : 
 mutual
   zero_of : {datas : List Data} {t : TypeTree} {m : Measure} → BitsBack → HaveConstructors datas → Measured datas t m → (w : ℕ) → fits w ≡ m → (v : Datum) × Encodes datas t v (replicate w false)
   zero_of h some (measured_scalar {w = x}) w e =
-      (word (replicate w false), scalar_bits (length-replicate w false ∙ if_scalar (closed_value x) w (nat_le (closed_value x) 128) e))
+      (word (replicate w false), scalar_bits (length-replicate w false ∙ if_scalar (closed_value x) w (nat_le (closed_value x) SCALAR_BITS) e))
   zero_of {datas} h some (measured_vector {n = n} {t = t} {m = m} a) w e =
       let f = vector_fits (closed_value n) m w e in
       let z = zero_of h some a f.a (sym f.inner) in (
@@ -79,7 +80,7 @@ mutual
             (data_bits 0 w it z.c (replicate z.a false) known refl z.at z.fields (subst (Measured datas (data_of d ts)) (sym e) (measured_data known as_many a))),
       )
 
-  zero_con : {datas : List Data} {cs : List ConDecl} {σ : Substitution} {m : Measure} → BitsBack → HaveConstructors datas → MeasuredCons datas cs σ m → (s : ℕ) → fits s ≡ m → 0 < length cs → s ≤ 1024 → ZeroCon datas cs σ s
+  zero_con : {datas : List Data} {cs : List ConDecl} {σ : Substitution} {m : Measure} → BitsBack → HaveConstructors datas → MeasuredCons datas cs σ m → (s : ℕ) → fits s ≡ m → 0 < length cs → s ≤ DATA_BITS → ZeroCon datas cs σ s
   zero_con h some no_cons_measured s e l k = absurd (omega arith)
   zero_con h some (con_measured {c = c} {m = m} {n = n} a b) s e l k =
       let f = or_fits m n s e in
@@ -87,11 +88,11 @@ mutual
       let z = zero_fields h some a f.a (sym f.one) (omega arith) in
       record { c = c; vs = z.0; a = f.a; at = refl; fields = z.1; within = small }
 
-  zero_fields : {datas : List Data} {fs : List TypeTree} {σ : Substitution} {m : Measure} → BitsBack → HaveConstructors datas → MeasuredFields datas fs σ m → (s : ℕ) → fits s ≡ m → s ≤ 1024 → (vs : Datums) × EncodesFields datas fs σ vs (replicate s false)
+  zero_fields : {datas : List Data} {fs : List TypeTree} {σ : Substitution} {m : Measure} → BitsBack → HaveConstructors datas → MeasuredFields datas fs σ m → (s : ℕ) → fits s ≡ m → s ≤ DATA_BITS → (vs : Datums) × EncodesFields datas fs σ vs (replicate s false)
   zero_fields {datas} {σ = σ} h some no_fields_measured s e l = let p : 0 ≡ s = cc in (no_data, subst (λ k. EncodesFields datas [] σ no_data (replicate k false)) p no_field_bits)
   zero_fields {datas} {σ = σ} h some (field_measured {f = f} {fs = fs} {m = m} {n = n} a b) s e l =
       let p = then_fits m n s e in
-      let q : s ≡ p.a + p.b = not_ended (p.a + p.b) s p.is (subst (λ x. x ≤ 1024) p.is l) in
+      let q : s ≡ p.a + p.b = not_ended (p.a + p.b) s p.is (subst (λ x. x ≤ DATA_BITS) p.is l) in
       let z = zero_of h some a p.a (sym p.one) in
       let zs = zero_fields h some b p.b (sym p.others) (omega arith) in (
         datum_and z.0 zs.0,

@@ -1,34 +1,11 @@
 -- How the logic stores a value: as a tree of numbers, which gives it back.
-use Rattle.std.specs.Prelude.{◌≡◌, ℕ, suc, zero, Bool, true, false, List, [], ◌∷◌, refl}
+use Rattle.std.specs.Prelude.{◌≡◌, ℕ, suc, zero, Bool, List, [], refl}
 use Rattle.std.proofs.Common.{sym, ap, ◌∙◌}
 use Rattle.std.specs.Coded.{Coded}
 use base.Stored.{Gv, gnil, gnum, gcons}
+use Rattle.chw_bits.specs.BitsCode.{bits_code, bits_back, bits_same}
 use Rattle.chw_types.specs.TypeCode.{number_in, node}
 use Rattle.chw_layout.specs.Datum.{Datum, word, built, elements, Datums, no_data, datum_and}
-
-abbrev pub bit_code : Bool → Gv
-bit_code true = gnum 1
-bit_code false = gnum 0
-
-abbrev pub bit_at : ℕ → Bool
-bit_at zero = false
-bit_at (suc n) = true
-
-abbrev pub bits_code : List Bool → Gv
-bits_code [] = gnil
-bits_code (b ∷ bs) = gcons (bit_code b) (bits_code bs)
-
-abbrev pub bits_back : Gv → List Bool
-bits_back (gcons b bs) = bit_at (number_in b) ∷ bits_back bs
-bits_back _ = []
-
-pub bit_same : (b : Bool) → bit_at (number_in (bit_code b)) ≡ b
-bit_same true = refl
-bit_same false = refl
-
-pub bits_same : (bs : List Bool) → bits_back (bits_code bs) ≡ bs
-bits_same [] = refl
-bits_same (b ∷ bs) = λ i. bit_same b i ∷ bits_same bs i
 
 abbrev mutual
   pub datum_code : Datum → Gv

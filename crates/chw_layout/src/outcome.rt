@@ -15,10 +15,10 @@ pub enum NoLayout {
     /// A scalar has this width, over 128 bits.
     #[error("a scalar of {0} bits")]
     Scalar(u32),
-    /// Data or a vector has this width, over 1,024 bits. Widths end at 4,294,967,295.
+    /// Data or a vector has this width, over 4,096 bits. Widths end at 4,294,967,295.
     #[error("data of {0} bits")]
     Data(u32),
-    /// A vector has this length, over 256 elements.
+    /// A vector has this length, over 1,024 elements.
     #[error("a vector of {0} elements")]
     Length(u32),
 }

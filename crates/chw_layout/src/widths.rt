@@ -14,7 +14,7 @@ use std::alloc::Global;
 /// How many bits each value of a closed type has.
 ///
 /// `NotRepresentable` comes where the type isn't representable. Else the first of these comes: a scalar of over 128 bits, a vector of
-/// over 256 elements, data or a vector of over 1,024 bits. The element type counts before its vector, at one vector the length before
+/// over 1,024 elements, data or a vector of over 4,096 bits. The element type counts before its vector, at one vector the length before
 /// the width, and of data the fields with the arguments put in, constructor by constructor and from left to right, before the data
 /// type itself.
 ///

@@ -3,7 +3,8 @@ use Rattle.std.proofs.Common.{◌≡◌, ℕ, List, [], ◌∷◌, map, refl, sy
 use Rattle.chw_types.specs.declared.kind.Kind.TheVariants.{Val}
 use Rattle.chw_types.specs.declared.declarations.Data.{Data}
 use Rattle.chw_terms.specs.declared.program.Def.{Def}
-use Rattle.chw_terms.specs.References.{Leads, step, step_and, HasNoCycle, DataRefers}
+use Rattle.chw_terms.specs.References.{DataRefers}
+use Rattle.graph_order.specs.References.{Leads, step, step_and, HasNoCycle}
 use Rattle.chw_resolve.specs.Faults.{IsCircle, of_datas, of_defs, data_name, def_name, names_at}
 use Rattle.chw_resolve.specs.declared.fault.NameFault.{NameFault}
 use Rattle.chw_resolve.specs.declared.fault.NameFault.TheVariants.{DataCycle, DefCycle}

@@ -3,12 +3,12 @@ use Rattle.std.proofs.Common.{◌≡◌, ℕ, ◌+◌, Bool, true, false, cond, 
 use Rattle.std.specs.List.{list_any}
 use Rattle.std.specs.Option.{is_some, option_map}
 use Rattle.std.specs.Str.{bytes_eq}
-use Rattle.std.proofs.lemmas.Bool.{false≢true}
+use Rattle.std.proofs.lemmas.Bool.{false≢true, false_from_ne_true, or_left, or_right}
 use Rattle.std.proofs.lemmas.List.Folds.{list_any-append}
 use Rattle.std.proofs.lemmas.Slice.Eq.{bytes_eq-Decides}
 use Rattle.chw_grammar.specs.declared.word.Word.{Word}
 use Rattle.chw_names.specs.Words.{when, names_of, seconds}
-use Rattle.chw_resolve.proofs.Empty.{left_nil, right_nil, when_nil, is_false}
+use Rattle.chw_resolve.proofs.Empty.{left_nil, right_nil, when_nil}
 use Rattle.chw_resolve.proofs.Shaped.{HaveForm}
 use Rattle.chw_terms.specs.Names.{AreNames}
 use Rattle.name_tables.specs.Names.{place_of, is_among, with_name}
@@ -22,22 +22,15 @@ among_is (n ∷ names) name = by (bytes_eq name n) (place_of names name) ∙ ap 
     by false None = refl
     by false (Some p) = refl
 
-one_of_them : (a b : Bool) → b ≡ true → (a || b) ≡ true
-one_of_them true b h = refl
-one_of_them false b h = h
-
-first_of_them : (a b : Bool) → a ≡ true → (a || b) ≡ true
-first_of_them a b h = ap (λ x. x || b) h
-
 among_last : (names : List (List ℕ)) (name : List ℕ) → is_among (names ++ name ∷ []) name ≡ true
 among_last names name =
     among_is (names ++ name ∷ []) name ∙ list_any-append (bytes_eq name) names (name ∷ [])
-    ∙ one_of_them (list_any (bytes_eq name) names) (list_any (bytes_eq name) (name ∷ [])) (first_of_them (bytes_eq name name) false ((bytes_eq-Decides name name).1 refl))
+    ∙ or_right (list_any (bytes_eq name) names) (list_any (bytes_eq name) (name ∷ [])) (or_left (bytes_eq name name) false ((bytes_eq-Decides name name).1 refl))
 
 among_before : (names : List (List ℕ)) (new name : List ℕ) → is_among names name ≡ true → is_among (names ++ new ∷ []) name ≡ true
 among_before names new name h =
     among_is (names ++ new ∷ []) name ∙ list_any-append (bytes_eq name) names (new ∷ [])
-    ∙ first_of_them (list_any (bytes_eq name) names) (list_any (bytes_eq name) (new ∷ [])) (sym (among_is names name) ∙ h)
+    ∙ or_left (list_any (bytes_eq name) names) (list_any (bytes_eq name) (new ∷ [])) (sym (among_is names name) ∙ h)
 
 -- a name that is added is among the names, and those before it still are
 added : (names : List (List ℕ)) (name : List ℕ) → is_among (with_name names name) name ≡ true
@@ -66,7 +59,7 @@ apart : (known : List (List ℕ)) (name : List ℕ) (ws : List Word) → is_amon
 apart known name [] h once = refl
 apart known name (w ∷ ws) h once =
     let differ : bytes_eq name w.bytes ≡ false =
-    is_false (bytes_eq name w.bytes) (λ t. false≢true (sym (is_new known w ws once) ∙ ap (λ (n : List ℕ). is_among known n) (sym ((bytes_eq-Decides name w.bytes).0 t)) ∙ h)) in
+    false_from_ne_true (bytes_eq name w.bytes) (λ t. false≢true (sym (is_new known w ws once) ∙ ap (λ (n : List ℕ). is_among known n) (sym ((bytes_eq-Decides name w.bytes).0 t)) ∙ h)) in
     let later = apart (with_name known w.bytes) name ws (kept known w.bytes name h) (later_once known w ws once) in
     (λ i. differ i || later i)
 

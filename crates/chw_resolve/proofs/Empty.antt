@@ -1,5 +1,5 @@
--- Lists that are empty, and tests that fail.
-use Rattle.std.proofs.Common.{◌≡◌, Bool, true, false, ◌||◌, List, [], ◌∷◌, ◌++◌, Contains, refl, arith}
+-- Lists that are empty.
+use Rattle.std.proofs.Common.{◌≡◌, Bool, true, false, List, [], ◌∷◌, ◌++◌, Contains, refl, arith}
 use Rattle.chw_grammar.specs.declared.word.Word.{Word}
 use Rattle.chw_names.specs.Words.{when}
 
@@ -18,11 +18,3 @@ when_nil false w e = refl
 pub none_in : {X : Type 0} (xs : List X) (x : X) → xs ≡ [] → Contains xs x → ⊥
 none_in [] x e c = omega (arith, c.1)
 none_in (y ∷ ys) x e c = cc
-
-pub neither : (a b : Bool) → (a || b) ≡ false → (a ≡ false) × (b ≡ false)
-neither true b e = absurd (cc)
-neither false b e = (refl, e)
-
-pub is_false : (b : Bool) → (b ≡ true → ⊥) → b ≡ false
-is_false true never = absurd (never refl)
-is_false false _ = refl

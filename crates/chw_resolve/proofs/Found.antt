@@ -5,7 +5,8 @@ use Rattle.chw_resolve.specs.Faults.{IsCircle, of_datas, of_defs, data_name, def
 use Rattle.chw_resolve.specs.Kinds.{GetsKinds}
 use Rattle.chw_resolve.specs.declared.fault.NameFault.TheVariants.{DataCycle, DefCycle}
 use Rattle.chw_resolve.proofs.Carried.{no_cycle_carried}
-use Rattle.chw_terms.specs.References.{DataRefers, DefRefers, HasNoCycle}
+use Rattle.chw_terms.specs.References.{DataRefers, DefRefers}
+use Rattle.graph_order.specs.References.{HasNoCycle}
 use Rattle.chw_terms.specs.declared.program.Def.{Def}
 use Rattle.chw_terms.specs.declared.program.Program.{Program}
 use Rattle.chw_types.specs.declared.declarations.Data.{Data}

@@ -5,6 +5,7 @@ use Rattle.std.specs.Option.{is_some, option_map, unwrap_or}
 use Rattle.std.specs.Str.{bytes_eq}
 use Rattle.std.proofs.lemmas.List.{append_assoc, append-nil, length-map, length-append}
 use Rattle.std.proofs.lemmas.Option.{none-some, same_Some}
+use Rattle.std.proofs.lemmas.Bool.{or_parts}
 use Rattle.chw_grammar.specs.declared.program.Declaration.{Declaration}
 use Rattle.chw_grammar.specs.declared.program.Declaration.TheVariants as declaration
 use Rattle.chw_grammar.specs.declared.program.Tree.{Tree}
@@ -14,7 +15,7 @@ use Rattle.chw_names.specs.Globals.{words_in, globals_of}
 use Rattle.chw_names.specs.Unknowns.{declaration_unknowns, top_unknowns, unknowns}
 use Rattle.chw_names.specs.Words.{names_of, with_names}
 use Rattle.chw_resolve.specs.Faults.{definitions_of}
-use Rattle.chw_resolve.proofs.Empty.{right_nil, when_nil, neither}
+use Rattle.chw_resolve.proofs.Empty.{right_nil, when_nil}
 use Rattle.name_tables.specs.Names.{place_of, is_among}
 use Rattle.chw_prims.specs.declared.names.TheConstants.{ALL}
 use Rattle.chw_prims.specs.Names.{primitive_names, name_of}
@@ -96,7 +97,7 @@ top_below tree known =
     let name = tree.top.definition.bytes in
     let words = names_of (flat_map (words_in Definitions) tree.declarations) in
     let top : top_unknowns g tree.top ≡ [] = right_nil (flat_map (declaration_unknowns g) tree.declarations) (top_unknowns g tree.top) known in
-    let tests = neither (is_among primitive_names name) (not (is_among g.definitions name)) (when_nil _ tree.top.definition top) in
+    let tests = or_parts (is_among primitive_names name) (not (is_among g.definitions name)) (when_nil _ tree.top.definition top) in
     subst (λ (n : ℕ). (top_in g tree.top).«def».number < n) (words_counted g tree.declarations)
     (counted_behind primitive_names words name primitives primitives_counted tests.0 (denied (is_among g.definitions name) tests.1))
   where

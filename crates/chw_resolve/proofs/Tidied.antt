@@ -14,7 +14,8 @@ use Rattle.chw_terms.specs.declared.program.Program.{Program}
 use Rattle.chw_terms.specs.declared.program.Top.{Top}
 use Rattle.chw_base.specs.Names.{IsUpper, IsLower}
 use Rattle.chw_terms.specs.Names.{AreNames}
-use Rattle.chw_terms.specs.References.{DefRefers, HasNoCycle}
+use Rattle.chw_terms.specs.References.{DefRefers}
+use Rattle.graph_order.specs.References.{HasNoCycle}
 use Rattle.chw_terms.specs.Tidy.{IsTidy}
 use Rattle.chw_resolve.specs.Faults.{HasNames, IsWellNamed, data_types_of}
 use Rattle.chw_resolve.specs.Kinds.{GetsKinds}

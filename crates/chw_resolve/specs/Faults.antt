@@ -11,7 +11,8 @@ use Rattle.chw_names.specs.Unknowns.{unknowns}
 use Rattle.chw_names.specs.Words.{IsLeast}
 use Rattle.chw_resolve.specs.declared.fault.NameFault.{NameFault}
 use Rattle.chw_resolve.specs.declared.fault.NameFault.TheVariants.{Limit, Twice, Unknown, DataCycle, DefCycle}
-use Rattle.chw_terms.specs.References.{DataRefers, DefRefers, HasNoCycle}
+use Rattle.chw_terms.specs.References.{DataRefers, DefRefers}
+use Rattle.graph_order.specs.References.{HasNoCycle}
 use Rattle.chw_terms.specs.declared.program.Def.{Def}
 use Rattle.chw_types.specs.BuiltIn.{built_in}
 use Rattle.chw_types.specs.declared.declarations.Data.{Data}

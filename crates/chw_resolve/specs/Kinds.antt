@@ -1,6 +1,7 @@
 -- Programs whose data types got their kinds.
 use Rattle.std.specs.Prelude.{◌≡◌, length}
-use Rattle.chw_terms.specs.References.{DataRefers, DefRefers, HasNoCycle}
+use Rattle.chw_terms.specs.References.{DataRefers, DefRefers}
+use Rattle.graph_order.specs.References.{HasNoCycle}
 use Rattle.chw_terms.specs.declared.program.Program.{Program}
 use Rattle.data_kinds.specs.Kinds.{HaveTheirKinds, SameButKinds}
 

@@ -2,20 +2,20 @@
 ghost use Rattle.std.specs.Prelude.{IfOk, OnOk};
 ghost use Rattle.chw_base.specs.Outcome.{IfFault};
 ghost use Rattle.chw_resolve.specs.Faults.{HasNames, IsNameFault, IsWellNamed};
+ghost use Rattle.chw_resolve.specs.Programs.{IsProgramOf};
 ghost use Rattle.chw_resolve.specs.Written.{WasRead};
 ghost use Rattle.chw_terms.specs.Tidy.{IsTidy};
-ghost use Rattle.chw_resolve.specs.Programs.{IsProgramOf};
 
 use crate::cycles::with_kinds;
 use crate::fault::NameFault;
-use chw_base::{NoMemory, Or};
+use crate::programs::program_of;
+use chw_base::{Name, NoMemory, Or};
 use chw_grammar::Tree;
 use chw_limits::first_passed;
 use chw_names::least::Least;
 use chw_names::{Globals, twice, unknown};
 use chw_terms::Program;
 use std::alloc::Global;
-use crate::program_of;
 
 /// The program of a description: its names are numbers, and it is tidy. Or the first fault of the description, in this order: a limit is
 /// passed, a name is declared twice, a name is declared nowhere, data types refer to each other in a circle, definitions do. Each is

@@ -10,9 +10,9 @@ use crate::types::{kind_in, type_in};
 use chw_base::{ConId, DefId, NoMemory, VarIx};
 use chw_grammar::{Argument, Pattern as WrittenPattern, TermNode, TermTree, read_literal};
 use chw_names::Globals;
+use chw_prims::ALL;
 use chw_terms::{Alt, Arg, Binding, Pattern, Term};
 use name_tables::Scope;
-use chw_prims::ALL;
 use std::alloc::Global;
 
 /// The term of a tree, where these type variables and these variables are in scope.

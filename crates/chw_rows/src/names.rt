@@ -170,8 +170,8 @@ fn long_chains(rt: HostRuntime) -> Result<(), Fail> {
 
 #[test]
 fn written_vectors_are_limited(rt: HostRuntime) -> Result<(), Fail> {
-    for (commas, line) in [(255, ""), (256, "chw: E03 limit vector 256\n")] {
-        let mut text = b"def f : Vec 256 Bool = vec @Bool [True".to_vec(rt.alloc())?;
+    for (commas, line) in [(1_023, ""), (1_024, "chw: E03 limit vector 1024\n")] {
+        let mut text = b"def f : Vec 1024 Bool = vec @Bool [True".to_vec(rt.alloc())?;
         for _ in 0..commas {
             text.extend_from_slice(b", True")?;
         }

@@ -1,6 +1,7 @@
 -- Only what is put for the variables that occur matters.
 use Rattle.std.proofs.Common.{◌≡◌, ℕ, suc, zero, ◌+◌, Bool, true, false, ◌||◌, ◌==◌, refl, sym, ap, ◌∙◌, arith, subst}
 use Rattle.std.proofs.Math.Dec.{eqb-suc-suc}
+use Rattle.std.proofs.lemmas.Bool.{or_left, or_right}
 use Rattle.chw_types.specs.TypeMoves.{lift, raised}
 use Rattle.chw_terms.specs.TermTree.{TermTree, var, global, made, lam, app, ty_lam, ty_app, letrec, con, prim, lit, vec_lit, case_of, Terms, no_terms, term_and, Group, no_bindings, bind, Alts, no_alts, alt, binders, size_of}
 use Rattle.chw_terms.specs.TypesMoved.{rename_types}
@@ -12,14 +13,6 @@ use Rattle.chw_terms.proofs.TermsPut.{sub_rename, sub_ids}
 eq_self : (x : ℕ) → (x == x) ≡ true
 eq_self zero = refl
 eq_self (suc x) = eqb-suc-suc x x ∙ eq_self x
-
-or_left : (a b : Bool) → a ≡ true → (a || b) ≡ true
-or_left true b h = refl
-or_left false b h = cc
-
-or_right : (a b : Bool) → b ≡ true → (a || b) ≡ true
-or_right true b h = refl
-or_right false b h = h
 
 -- two puttings agree where the test holds
 abbrev pub Agree : (ℕ → Bool) → Substitution → Substitution → Type 0

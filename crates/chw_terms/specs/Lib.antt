@@ -4,6 +4,7 @@ pub mod Depth
 pub mod Evaluated
 pub mod Names
 pub mod Occurs
+pub mod PartsFall
 pub mod PrimCode
 pub mod Raised
 pub mod References

@@ -71,12 +71,3 @@ DataRefers datas from to =
 -- one definition stands in the body of another
 abbrev pub DefRefers : List Def → ℕ → ℕ → Type 0
 DefRefers defs from to = (it : Def) × (slice_get defs from ≡ Some it) × (names_def it.body to ≡ true)
-
--- one or more steps lead from one to the other
-pub data Leads (Step : ℕ → ℕ → Type 0) : ℕ → ℕ → Type 0 where
-  step : {a b : ℕ} → Step a b → Leads Step a b
-  step_and : {a b c : ℕ} → Step a b → Leads Step b c → Leads Step a c
-
--- no steps lead from anywhere back to it
-abbrev pub HasNoCycle : (ℕ → ℕ → Type 0) → Type 0
-HasNoCycle Step = (a : ℕ) → Leads Step a a → ⊥

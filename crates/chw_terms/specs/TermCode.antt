@@ -1,38 +1,15 @@
 -- How the logic stores a term: as a tree of numbers, which gives it back.
-use Rattle.std.specs.Prelude.{◌≡◌, ℕ, suc, zero, Bool, true, false, List, [], ◌∷◌, refl}
+use Rattle.std.specs.Prelude.{◌≡◌, ℕ, suc, zero, Bool, List, [], refl}
 use Rattle.std.proofs.Common.{sym, ap, ◌∙◌}
 use Rattle.std.specs.Coded.{Coded}
 use base.Stored.{Gv, gnil, gnum, gcons}
+use Rattle.chw_bits.specs.BitsCode.{bits_code, bits_back, bits_same}
 use Rattle.chw_types.specs.TypeTree.{TypeTree}
 use Rattle.chw_types.specs.TypeCode.{kind_number, kind_at, kind_back, scalar_number, scalar_at, scalar_back, number_in, node, tree_code as type_code, tree_back as type_back, tree_same as type_same}
 use Rattle.chw_terms.specs.PrimCode.{prim_number, prim_at, prim_back}
 use Rattle.chw_terms.specs.TermTree.{TermTree, var, global, made, lam, app, ty_lam, ty_app, letrec, con, prim, lit, vec_lit, case_of, Terms, no_terms, term_and, Group, no_bindings, bind, Alts, no_alts, alt}
 use Rattle.chw_terms.specs.declared.term.Pattern.{Pattern}
 use Rattle.chw_terms.specs.declared.term.Pattern.TheVariants.{OfCon, OfLit, Default}
-
-abbrev pub bit_code : Bool → Gv
-bit_code true = gnum 1
-bit_code false = gnum 0
-
-abbrev pub bit_at : ℕ → Bool
-bit_at zero = false
-bit_at (suc n) = true
-
-abbrev pub bits_code : List Bool → Gv
-bits_code [] = gnil
-bits_code (b ∷ bs) = gcons (bit_code b) (bits_code bs)
-
-abbrev pub bits_back : Gv → List Bool
-bits_back (gcons b bs) = bit_at (number_in b) ∷ bits_back bs
-bits_back _ = []
-
-pub bit_same : (b : Bool) → bit_at (number_in (bit_code b)) ≡ b
-bit_same true = refl
-bit_same false = refl
-
-pub bits_same : (bs : List Bool) → bits_back (bits_code bs) ≡ bs
-bits_same [] = refl
-bits_same (b ∷ bs) = λ i. bit_same b i ∷ bits_same bs i
 
 abbrev pub pattern_code : Pattern → Gv
 pattern_code (OfCon c n) = node 0 (gnum c.number) (gnum n)

@@ -7,7 +7,8 @@ use Rattle.chw_types.specs.TypeTree.{TypeTree}
 use Rattle.chw_types.specs.Kinds.{KindOf}
 use Rattle.chw_types.specs.BuiltIn.{built_in}
 use Rattle.chw_terms.specs.declared.program.Program.{Program}
-use Rattle.chw_terms.specs.References.{IsField, DataRefers, DefRefers, HasNoCycle}
+use Rattle.chw_terms.specs.References.{IsField, DataRefers, DefRefers}
+use Rattle.graph_order.specs.References.{HasNoCycle}
 use Rattle.chw_base.specs.Names.{IsUpper, IsLower}
 use Rattle.chw_terms.specs.Names.{AreNames}
 

@@ -1,6 +1,6 @@
-//! Terms of the core language and whole programs, by typed indices: their types, raising variables and putting terms and types for
-//! them, where variables occur, how deep terms nest, and the laws of these. Contracts see a term as a plain tree, and all later promises
-//! about terms are made over these trees.
+//! Terms of the core language and whole programs, by typed indices: raising variables and putting terms and types for them, where
+//! variables occur, how deep terms nest, and the laws of these. Contracts see a term as a plain tree, and all later promises about terms
+//! are made over these trees.
 #![tactic(auto)]
 
 pub mod depths;

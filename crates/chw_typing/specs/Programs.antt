@@ -9,7 +9,8 @@ use Rattle.chw_types.specs.Ports.{Leaves}
 use Rattle.chw_terms.specs.declared.program.Def.{Def}
 use Rattle.chw_terms.specs.declared.program.Program.{Program}
 use Rattle.chw_terms.specs.TermTree.{TermTree, lam, app, ty_lam, ty_app, letrec, vec_lit, case_of, Terms, no_terms, term_and, Group, no_bindings, bind, Alts, no_alts, alt}
-use Rattle.chw_terms.specs.References.{IsField, DataRefers, DefRefers, HasNoCycle}
+use Rattle.chw_terms.specs.References.{IsField, DataRefers, DefRefers}
+use Rattle.graph_order.specs.References.{HasNoCycle}
 use Rattle.chw_terms.specs.Tidy.{HasItsKind}
 use Rattle.chw_typing.specs.Scopes.{Setting, IsTermType}
 use Rattle.chw_typing.specs.Alternatives.{IsCovered}

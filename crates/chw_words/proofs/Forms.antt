@@ -3,7 +3,7 @@ use Rattle.std.proofs.Common.{◌≡◌, ◌∙◌, sym, refl, ap, ℕ, ◌+◌,
 use Rattle.std.specs.Prelude.{count_by, nat_le, nat_eq}
 use Rattle.std.specs.List.{AllByRecursion, list_all, starts_with}
 use Rattle.std.specs.Str.{bytes_eq}
-use Rattle.std.proofs.lemmas.Bool.{le-leb, leb-true}
+use Rattle.std.proofs.lemmas.Bool.{and_parts, le-leb, leb-true}
 use Rattle.std.proofs.lemmas.List.{take-append-drop}
 use Rattle.std.proofs.lemmas.List.Sums.{sum_by-cons}
 use Rattle.std.proofs.lemmas.Slice.Eq.{bytes_eq-Decides}
@@ -14,10 +14,6 @@ use Rattle.chw_words.proofs.Shapes.{Form, IsBudgetWord, IsPlain}
 pub is_or_not : (b : Bool) → (b ≡ true) ⊎ (b ≡ false)
 is_or_not true = inl refl
 is_or_not false = inr refl
-
-both_of : (a b : Bool) → (a && b) ≡ true → (a ≡ true) × (b ≡ true)
-both_of true b e = (refl, e)
-both_of false b e = absurd (true≢false (sym e))
 
 -- the word is no option but a budget's
 abbrev may_stand : List ℕ → Bool
@@ -53,7 +49,7 @@ form_of : (words : List (List ℕ)) → option_count words ≤ 1 → list_all ma
 form_of [] few all = tt
 form_of (word ∷ words) few all =
     let n = count-cons word words in
-    let parts = both_of (may_stand word) (list_all may_stand words) all in
+    let parts = and_parts (may_stand word) (list_all may_stand words) all in
     ⊎_elim
     (λ is.
     let one : one_if (is_option word) ≡ 1 = ap one_if is in
@@ -65,7 +61,7 @@ form_of (word ∷ words) few all =
 -- words that pass the test have the form
 pub form_from : (words : List (List ℕ)) → has_form words ≡ true → Form words
 form_from words e =
-    let parts = both_of (nat_le (option_count words) 1) (list_all may_stand words) e in
+    let parts = and_parts (nat_le (option_count words) 1) (list_all may_stand words) e in
     form_of words (leb-true (option_count words) 1 (parts.0)) (parts.1)
 
 plain_count : (words : List (List ℕ)) → AllByRecursion IsPlain words → (option_count words ≡ 0) × (list_all may_stand words ≡ true)

@@ -66,6 +66,13 @@ fn parser<'a>(alloc: Global) -> Result<clap::Command<'a>, AllocError>
         .subcommand(check_parser(alloc)?)
 }
 
+// A name of its own.
+fn name(alloc: Global, text: &str) -> Result<Name, NoMemory>
+    ensures { IfOk result (λ name. name ≡ text.now) }
+{
+    Name::copy_of(alloc, text.as_bytes())
+}
+
 // The budget that was said, or the default.
 fn budget(said: Option<&str>) -> Option<u32>
     ensures { MatchOption result ((n : ℕ) → BudgetIs (option_map (λ s. s.now) said.entry) n → ⊥) (BudgetIs (option_map (λ s. s.now) said.entry)) }
@@ -98,7 +105,7 @@ fn emit(alloc: Global, matches: &ArgMatches) -> Result<Command, Or<WordsFault>>
         return Err(Or::Fault(WordsFault));
     };
     Ok(Command::Emit {
-        file: Name::copy_of(alloc, file)?,
+        file: name(alloc, file)?,
         budget,
     })
 }
@@ -112,7 +119,7 @@ fn check(alloc: Global, matches: &ArgMatches) -> Result<Command, Or<WordsFault>>
         return Err(Or::Fault(WordsFault));
     };
     Ok(Command::Check {
-        file: Name::copy_of(alloc, file)?,
+        file: name(alloc, file)?,
     })
 }
 

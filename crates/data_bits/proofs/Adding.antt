@@ -1,6 +1,7 @@
 -- What the loops that encode keep.
 use Rattle.std.proofs.Common.{◌≡◌, ℕ, suc, zero, ◌+◌, ◌<◌, ◌≤◌, Bool, refl, sym, ap, subst, ◌∙◌, List, [], ◌∷◌, ◌++◌, length, get_or, take, arith, append_assoc}
 use Rattle.std.proofs.lemmas.List.{take_more, take-append-drop, drop_all, append-nil}
+use Rattle.chw_base.specs.declared.limits.TheConstants.{DATA_BITS}
 use Rattle.chw_types.specs.declared.declarations.Data.{Data}
 use Rattle.chw_types.specs.TypeTree.{TypeTree}
 use Rattle.chw_types.specs.TypeMoves.{Substitution, sub}
@@ -69,7 +70,7 @@ as_many_fields datas [] σ (v ∷ vs) a = elim a [ ]
 as_many_fields datas (f ∷ fs) σ [] a = elim a [ ]
 as_many_fields datas (f ∷ fs) σ (v ∷ vs) (field_and x xs) = ap suc (as_many_fields datas fs σ vs xs)
 
-field_fits_at : (datas : List Data) (fs : List TypeTree) (σ : Substitution) (i : ℕ) (f : TypeTree) (s : ℕ) → i < length fs → f ≡ get_or fs i f → s ≤ 1024 → MeasuredFields datas fs σ (fits s) → Fits datas (sub f σ)
+field_fits_at : (datas : List Data) (fs : List TypeTree) (σ : Substitution) (i : ℕ) (f : TypeTree) (s : ℕ) → i < length fs → f ≡ get_or fs i f → s ≤ DATA_BITS → MeasuredFields datas fs σ (fits s) → Fits datas (sub f σ)
 field_fits_at datas [] σ i f s k d l m = absurd (omega arith)
 field_fits_at datas (g ∷ fs) σ zero f s k d l m = let w = field_width l m in (w.a, subst (λ h. HasWidth datas (sub h σ) w.a) (sym d) w.first)
 field_fits_at datas (g ∷ fs) σ (suc i) f s k d l m = let w = field_width l m in field_fits_at datas fs σ i f w.b (omega arith) d (let p = w.is in omega arith) w.rest

@@ -4,6 +4,7 @@ use Rattle.std.specs.Prelude.{Option, None, Some, IfSome, IfNone, IsTrue, replic
 use Rattle.std.proofs.Math.Nat.{mod-eq_of_lt}
 use Rattle.std.specs.List.{slice_get}
 use Rattle.std.proofs.lemmas.List.{take_more, drop_more, take-append-drop, drop_all, append-nil, length-replicate}
+use Rattle.chw_base.specs.declared.limits.TheConstants.{DATA_BITS}
 use Rattle.chw_bits.specs.Bits.{number_of, bits_of}
 use Rattle.chw_bits.proofs.Numbers.{length-bits_of}
 use Rattle.chw_bits.proofs.RoundTrips.{number_of-bits_of, bits_of-number_of}
@@ -80,7 +81,7 @@ scalar_decoded datas (Signal x y) bits m e f g d = elim d [ ]
 scalar_decoded datas (Forall x y) bits m e f g d = elim d [ ]
 
 -- a type's width is small
-pub width_small : {datas : List Data} {t : TypeTree} (w : ℕ) → HasWidth datas t w → w ≤ 1024
+pub width_small : {datas : List Data} {t : TypeTree} (w : ℕ) → HasWidth datas t w → w ≤ DATA_BITS
 width_small w d = measured_within d
 
 -- a list is its first part and what is after it
@@ -239,13 +240,13 @@ record NextField (datas : List Data) (f : TypeTree) (fs : List TypeTree) (σ : S
   first : HasWidth datas (sub f σ) a
   rest : MeasuredFields datas fs σ (fits b)
   within : a + b ≤ most
-  small : most ≤ 1024
+  small : most ≤ DATA_BITS
 
 next : (datas : List Data) (fs : List TypeTree) (σ : Substitution) (i : ℕ) (f : TypeTree) (most : ℕ) → i < length fs → f ≡ get_or fs i f → FieldsWithin datas (drop i fs) σ most → NextField datas f (drop (i + 1) fs) σ most
 next datas fs σ i f most l e w =
     let p = w.within in
     let q = w.small in
-    let x = field_width (let k : w.width ≤ 1024 = omega arith in k) (subst (λ gs. MeasuredFields datas gs σ (fits w.width)) (here fs i f l e) w.measured) in
+    let x = field_width (let k : w.width ≤ DATA_BITS = omega arith in k) (subst (λ gs. MeasuredFields datas gs σ (fits w.width)) (here fs i f l e) w.measured) in
     record { a = x.a; b = x.b; first = x.first; rest = x.rest; within = let r = x.is in omega arith; small = w.small }
 
 pub field_has_width : (datas : List Data) (fs : List TypeTree) (σ : Substitution) (bits : List Bool) (i : ℕ) (values : List Datum) (rest : List Bool) (f : TypeTree) → i < length fs → f ≡ get_or fs i f → FieldsRead datas fs σ bits i values rest → Fits datas (sub f σ)

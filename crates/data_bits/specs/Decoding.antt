@@ -1,5 +1,6 @@
 -- What bits say of the value that they are.
 use Rattle.std.specs.Prelude.{◌≡◌, ℕ, ◌≤◌, Bool, List, length}
+use Rattle.chw_base.specs.declared.limits.TheConstants.{DATA_BITS}
 use Rattle.chw_types.specs.declared.declarations.Data.{Data}
 use Rattle.chw_types.specs.TypeTree.{TypeTree}
 use Rattle.chw_types.specs.TypeMoves.{Substitution}
@@ -23,4 +24,4 @@ pub record FieldsWithin (datas : List Data) (fs : List TypeTree) (σ : Substitut
   pub width : ℕ
   pub measured : MeasuredFields datas fs σ (fits width)
   pub within : width ≤ most
-  pub small : most ≤ 1024
+  pub small : most ≤ DATA_BITS

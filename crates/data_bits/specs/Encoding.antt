@@ -1,6 +1,7 @@
 -- What the code does on the way to an encoding. The relation is `Encodes`.
 use Rattle.std.specs.Prelude.{◌≡◌, ℕ, ◌+◌, ◌≤◌, Bool, List, ◌++◌, length, Some}
 use Rattle.std.specs.List.{slice_get}
+use Rattle.chw_base.specs.declared.limits.TheConstants.{DATA_BITS}
 use Rattle.chw_types.specs.declared.declarations.ConDecl.{ConDecl}
 use Rattle.chw_types.specs.declared.declarations.Data.{Data}
 use Rattle.chw_types.specs.TypeTree.{TypeTree}
@@ -20,7 +21,7 @@ Fits datas t = (w : ℕ) × HasWidth datas t w
 pub record FieldsFit (datas : List Data) (fs : List TypeTree) (σ : Substitution) : Type 0 where
   pub width : ℕ
   pub measured : MeasuredFields datas fs σ (fits width)
-  pub within : width ≤ 1024
+  pub within : width ≤ DATA_BITS
 
 -- the constructor of this number is that of this tag in the data type, with these fields and a tag of this width
 pub record IsChosen (datas : List Data) (d n tag width : ℕ) (fields : List TypeTree) : Type 0 where

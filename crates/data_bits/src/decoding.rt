@@ -1,5 +1,6 @@
 //! Bits as values.
 ghost use Rattle.std.specs.Prelude.{◌≡◌, ◌*◌, ◌↔◌, ◌≤◌, false, length, drop, replicate, IsTrue, IfOk, IfSome, IfNone};
+ghost use Rattle.chw_base.specs.declared.limits.TheConstants.{DATA_BITS};
 ghost use Rattle.chw_bits.specs.Bits.{number_of};
 ghost use Rattle.chw_types.specs.References.{HasNoCycle};
 ghost use Rattle.chw_types.specs.Arguments.{arguments};
@@ -180,7 +181,7 @@ fn all_zero(bits: &[bool]) -> bool
 }
 
 fn bits_of_slice(alloc: Global, bits: &[bool]) -> Result<Bits, NoMemory>
-    requires { length bits.now ≤ 1024 }
+    requires { length bits.now ≤ DATA_BITS }
     ensures { IfOk result (λ b. b ≡ bits.now) }
 {
     Ok(Bits::of_list(Vec::from_slice(alloc, bits)?))

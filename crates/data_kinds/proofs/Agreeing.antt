@@ -1,5 +1,6 @@
 -- Kinds depend on the data types that stand in a type, and on no others.
 use Rattle.std.proofs.Common.{◌≡◌, ℕ, Bool, true, false, ◌||◌, ◌==◌, List, slice_get, refl, sym, ap, ◌∙◌, subst, eq-eqb, reverse}
+use Rattle.std.proofs.lemmas.Bool.{or_left, or_right}
 use Rattle.chw_types.specs.declared.kind.Kind.{Kind}
 use Rattle.chw_types.specs.declared.kind.Kind.TheVariants.{Val, Cir}
 use Rattle.chw_types.specs.declared.declarations.ConDecl.{ConDecl}
@@ -13,19 +14,12 @@ use Rattle.chw_terms.specs.Tidy.{HasCircuit, HasItsKind}
 abbrev pub Agree : List Data → List Data → (ℕ → Bool) → Type 0
 Agree datas datas' named = (d : ℕ) → named d ≡ true → slice_get datas' d ≡ slice_get datas d
 
-first : (a b : Bool) → a ≡ true → (a || b) ≡ true
-first a b h = ap (λ x. x || b) h
-
-second : (a b : Bool) → b ≡ true → (a || b) ≡ true
-second true b h = refl
-second false b h = h
-
 module _ (datas datas' : List Data) where
   one : (f g : ℕ → Bool) → Agree datas datas' (λ d. f d || g d) → Agree datas datas' f
-  one f g h d n = h d (first (f d) (g d) n)
+  one f g h d n = h d (or_left (f d) (g d) n)
 
   other : (f g : ℕ → Bool) → Agree datas datas' (λ d. f d || g d) → Agree datas datas' g
-  other f g h d n = h d (second (f d) (g d) n)
+  other f g h d n = h d (or_right (f d) (g d) n)
 
   mutual
     pub kind_stays : {domains : ℕ} {scope : List Kind} {t : TypeTree} {k : Kind} → KindOf datas domains scope t k → Agree datas datas' (names_data t) → KindOf datas' domains scope t k
@@ -37,7 +31,7 @@ module _ (datas datas' : List Data) where
     kind_stays (kind_scalar k) h = kind_scalar (kind_stays k h)
     kind_stays (kind_vector {n = n} {t = t} j k o) h = kind_vector (kind_stays j (one (names_data n) (names_data t) h)) (kind_stays k (other (names_data n) (names_data t) h)) o
     kind_stays (kind_data {d = d} {ts = ts} e ks) h =
-        kind_data (h d (first (d == d) (any_names_data ts d) (eq-eqb d d refl)) ∙ e) (kinds_stay ks (other (λ x. d == x) (any_names_data ts) h))
+        kind_data (h d (or_left (d == d) (any_names_data ts d) (eq-eqb d d refl)) ∙ e) (kinds_stay ks (other (λ x. d == x) (any_names_data ts) h))
     kind_stays (kind_fun {a = a} {b = b} j k o) h = kind_fun (kind_stays j (one (names_data a) (names_data b) h)) (kind_stays k (other (names_data a) (names_data b) h)) o
     kind_stays (kind_signal {d = d} {t = t} j k) h = kind_signal (kind_stays j (one (names_data d) (names_data t) h)) (kind_stays k (other (names_data d) (names_data t) h))
     kind_stays (kind_for_all k o) h = kind_for_all (kind_stays k h) o

@@ -1,6 +1,6 @@
 -- Cycles of steps lead back.
 use Rattle.std.proofs.Common.{◌≡◌, ℕ, zero, suc, ◌+◌, ◌-◌, List, length, get_or, arith}
-use Rattle.chw_terms.specs.References.{Leads, HasNoCycle, step, step_and}
+use Rattle.graph_order.specs.References.{Leads, HasNoCycle, step, step_and}
 use Rattle.data_kinds.specs.Cycles.{IsCycleOf}
 
 module _ (Step : ℕ → ℕ → Type 0) (nodes : List ℕ) (c : IsCycleOf Step nodes) where

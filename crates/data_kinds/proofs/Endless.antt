@@ -1,7 +1,7 @@
 -- Without a cycle, no steps among finitely many nodes go on for ever.
 use Rattle.std.proofs.Common.{◌≡◌, ℕ, zero, suc, ◌<◌, ◌⊎◌, inl, inr, arith, subst}
 use Rattle.std.proofs.lemmas.Bool.{cases_lt}
-use Rattle.chw_terms.specs.References.{Leads, HasNoCycle, step, step_and}
+use Rattle.graph_order.specs.References.{Leads, HasNoCycle, step, step_and}
 
 -- from each node of which this holds, a step can't fail to lead to another
 abbrev pub HandedOn : (ℕ → ℕ → Type 0) → (ℕ → Type 0) → Type 0

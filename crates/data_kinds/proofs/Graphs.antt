@@ -6,8 +6,8 @@ use Rattle.chw_base.specs.declared.outcome.NoMemory.{NoMemory}
 use Rattle.chw_types.specs.declared.declarations.Data.{Data}
 use Rattle.chw_types.specs.TypeTree.{TypeTree}
 use Rattle.chw_terms.specs.declared.program.Def.{Def}
-use Rattle.chw_terms.specs.References.{Leads, HasNoCycle, step, step_and, DataRefers, DefRefers, IsField, names_data}
-use Rattle.graph_order.specs.References.{Refers, Leads as GraphLeads, HasNoCycle as GraphHasNoCycle, step as graph_step, step_and as graph_step_and}
+use Rattle.chw_terms.specs.References.{DataRefers, DefRefers, IsField, names_data}
+use Rattle.graph_order.specs.References.{Refers, Leads, HasNoCycle, step, step_and}
 use Rattle.graph_order.specs.Orders.{IsCycle, IsOrder, OfOrder, OfCycle}
 use Rattle.graph_order.specs.declared.ordering.Ordering.{Ordering}
 use Rattle.graph_order.specs.declared.ordering.Ordering.TheVariants.{Order, Cycle}
@@ -26,18 +26,18 @@ module _ {graph : List (List ℕ)} {Step : ℕ → ℕ → Type 0} (g : HasSteps
   start (step {a} {b} s) = g.begins a b s
   start (step_and {a} {b} {c} s more) = g.begins a b s
 
-  in_graph : {a b : ℕ} → b < length graph → Leads Step a b → GraphLeads (Refers graph) a b
-  in_graph l (step {a} {b} s) = graph_step (g.from_step a b l s)
-  in_graph l (step_and {a} {b} {c} s more) = graph_step_and (g.from_step a b (start more) s) (in_graph l more)
+  in_graph : {a b : ℕ} → b < length graph → Leads Step a b → Leads (Refers graph) a b
+  in_graph l (step {a} {b} s) = step (g.from_step a b l s)
+  in_graph l (step_and {a} {b} {c} s more) = step_and (g.from_step a b (start more) s) (in_graph l more)
 
-  out_of_graph : {a b : ℕ} → GraphLeads (Refers graph) a b → Leads Step a b
-  out_of_graph (graph_step {a} {b} r) = step (g.to_step a b r)
-  out_of_graph (graph_step_and {a} {b} {c} r more) = step_and (g.to_step a b r) (out_of_graph more)
+  out_of_graph : {a b : ℕ} → Leads (Refers graph) a b → Leads Step a b
+  out_of_graph (step {a} {b} r) = step (g.to_step a b r)
+  out_of_graph (step_and {a} {b} {c} r more) = step_and (g.to_step a b r) (out_of_graph more)
 
-  pub no_cycle : GraphHasNoCycle (Refers graph) → HasNoCycle Step
+  pub no_cycle : HasNoCycle (Refers graph) → HasNoCycle Step
   no_cycle none a l = none a (in_graph (start l) l)
 
-  pub some_cycle : (GraphHasNoCycle (Refers graph) → ⊥) → HasNoCycle Step → ⊥
+  pub some_cycle : (HasNoCycle (Refers graph) → ⊥) → HasNoCycle Step → ⊥
   some_cycle some none = some (λ a l. none a (out_of_graph l))
 
   pub cycle : (nodes : List ℕ) → IsCycle graph nodes → IsCycleOf Step nodes
@@ -55,8 +55,8 @@ module _ {graph graph' : List (List ℕ)} {Step : ℕ → ℕ → Type 0} (g : H
   order_told (Ok (Cycle v)) h = tt
   order_told (Err e) h = tt
 
-  pub no_cycle_told : (a : Result Ordering NoMemory) → IfOk a (λ r. OfOrder r (λ _. GraphHasNoCycle (Refers graph'))) → IfOk a (λ r. OfOrder r (λ _. HasNoCycle Step))
-  no_cycle_told (Ok (Order v)) h = no_cycle g (subst (λ (gr : List (List ℕ)). GraphHasNoCycle (Refers gr)) same h)
+  pub no_cycle_told : (a : Result Ordering NoMemory) → IfOk a (λ r. OfOrder r (λ _. HasNoCycle (Refers graph'))) → IfOk a (λ r. OfOrder r (λ _. HasNoCycle Step))
+  no_cycle_told (Ok (Order v)) h = no_cycle g (subst (λ (gr : List (List ℕ)). HasNoCycle (Refers gr)) same h)
   no_cycle_told (Ok (Cycle v)) h = tt
   no_cycle_told (Err e) h = tt
 
@@ -65,9 +65,9 @@ module _ {graph graph' : List (List ℕ)} {Step : ℕ → ℕ → Type 0} (g : H
   cycle_told (Ok (Cycle v)) h = cycle g v.items (subst (λ (gr : List (List ℕ)). IsCycle gr v.items) same h)
   cycle_told (Err e) h = tt
 
-  pub some_cycle_told : (a : Result Ordering NoMemory) → IfOk a (λ r. OfCycle r (λ _. GraphHasNoCycle (Refers graph') → ⊥)) → IfOk a (λ r. OfCycle r (λ _. HasNoCycle Step → ⊥))
+  pub some_cycle_told : (a : Result Ordering NoMemory) → IfOk a (λ r. OfCycle r (λ _. HasNoCycle (Refers graph') → ⊥)) → IfOk a (λ r. OfCycle r (λ _. HasNoCycle Step → ⊥))
   some_cycle_told (Ok (Order v)) h = tt
-  some_cycle_told (Ok (Cycle v)) h = some_cycle g (subst (λ (gr : List (List ℕ)). GraphHasNoCycle (Refers gr) → ⊥) same h)
+  some_cycle_told (Ok (Cycle v)) h = some_cycle g (subst (λ (gr : List (List ℕ)). HasNoCycle (Refers gr) → ⊥) same h)
   some_cycle_told (Err e) h = tt
 
 -- by what is listed of each item

@@ -7,7 +7,8 @@ use Rattle.chw_types.specs.declared.kind.Kind.TheVariants.{Val}
 use Rattle.chw_types.specs.declared.declarations.Data.{Data}
 use Rattle.chw_types.specs.TypeTree.{TypeTree}
 use Rattle.chw_terms.specs.declared.program.Program.{Program}
-use Rattle.chw_terms.specs.References.{DataRefers, HasNoCycle, IsField, names_data}
+use Rattle.chw_terms.specs.References.{DataRefers, IsField, names_data}
+use Rattle.graph_order.specs.References.{HasNoCycle}
 use Rattle.chw_terms.specs.Tidy.{HasCircuit, HasItsKind, IsTidy}
 use Rattle.data_kinds.specs.Kinds.{HaveTheirKinds, of_kind, SameButKinds}
 use Rattle.data_kinds.proofs.Agreeing.{Agree, field_stays, circuit_stays}

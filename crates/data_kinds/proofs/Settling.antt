@@ -8,12 +8,12 @@ use Rattle.chw_types.specs.declared.kind.Kind.{Kind}
 use Rattle.chw_types.specs.declared.kind.Kind.TheVariants.{Val, Cir}
 use Rattle.chw_types.specs.declared.declarations.Data.{Data}
 use Rattle.chw_types.specs.TypeTree.{TypeTree}
-use Rattle.chw_terms.specs.References.{DataRefers, IsField, names_data, Leads, HasNoCycle, step, step_and}
+use Rattle.chw_terms.specs.References.{DataRefers, IsField, names_data}
 use Rattle.chw_terms.specs.Tidy.{HasCircuit, HasItsKind}
 use Rattle.graph_order.specs.Orders.{IsOrder, OfOrder}
 use Rattle.graph_order.specs.declared.ordering.Ordering.{Ordering}
 use Rattle.graph_order.specs.declared.ordering.Ordering.TheVariants.{Order}
-use Rattle.graph_order.specs.References.{Refers}
+use Rattle.graph_order.specs.References.{Refers, Leads, HasNoCycle, step, step_and}
 use Rattle.data_kinds.specs.Kinds.{HaveTheirKinds, of_kind, SameButKinds, SetsKind}
 use Rattle.data_kinds.specs.Named.{field_datas}
 use Rattle.data_kinds.proofs.Agreeing.{Agree, field_stays, kind_moves}

@@ -2,7 +2,8 @@
 use Rattle.std.specs.Prelude.{◌≡◌, ℕ, List}
 use Rattle.chw_types.specs.declared.declarations.Data.{Data}
 use Rattle.chw_terms.specs.declared.program.Program.{Program}
-use Rattle.chw_terms.specs.References.{DataRefers, HasNoCycle}
+use Rattle.chw_terms.specs.References.{DataRefers}
+use Rattle.graph_order.specs.References.{HasNoCycle}
 use Rattle.chw_terms.specs.Tidy.{IsTidy}
 use Rattle.data_kinds.specs.Kinds.{HaveTheirKinds, SameButKinds}
 

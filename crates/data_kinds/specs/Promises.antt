@@ -2,7 +2,8 @@
 use Rattle.std.specs.Prelude.{ℕ, List}
 use Rattle.chw_types.specs.declared.declarations.Data.{Data}
 use Rattle.chw_terms.specs.declared.program.Def.{Def}
-use Rattle.chw_terms.specs.References.{DataRefers, DefRefers, HasNoCycle}
+use Rattle.chw_terms.specs.References.{DataRefers, DefRefers}
+use Rattle.graph_order.specs.References.{HasNoCycle}
 use Rattle.data_kinds.specs.Cycles.{IsCycleOf}
 use Rattle.data_kinds.specs.Kinds.{SameButKinds}
 

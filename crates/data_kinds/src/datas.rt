@@ -1,6 +1,7 @@
 //! The data types that stand in types, and an order of them or a cycle.
 ghost use Rattle.std.specs.Prelude.{◌≡◌, ◌<◌, ◌^◌, ◌++◌, length, map, IfOk, OnOk};
-ghost use Rattle.chw_terms.specs.References.{DataRefers, HasNoCycle};
+ghost use Rattle.chw_terms.specs.References.{DataRefers};
+ghost use Rattle.graph_order.specs.References.{HasNoCycle};
 ghost use Rattle.graph_order.specs.Orders.{IsOrder, LeastFirst, OfCycle, OfOrder, numbers};
 ghost use Rattle.data_kinds.specs.Cycles.{IsCycleOf};
 ghost use Rattle.data_kinds.specs.Named.{datas_in, con_datas, field_datas};

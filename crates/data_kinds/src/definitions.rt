@@ -1,6 +1,7 @@
 //! Cycles of definitions.
 ghost use Rattle.std.specs.Prelude.{◌<◌, ◌^◌, length, IfOk, IfSome, IfNone};
-ghost use Rattle.chw_terms.specs.References.{DefRefers, HasNoCycle};
+ghost use Rattle.chw_terms.specs.References.{DefRefers};
+ghost use Rattle.graph_order.specs.References.{HasNoCycle};
 ghost use Rattle.graph_order.specs.Orders.{LeastFirst};
 ghost use Rattle.data_kinds.specs.Cycles.{IsCycleOf};
 

@@ -1,6 +1,7 @@
 //! The definitions that stand in terms, and an order of them or a cycle.
 ghost use Rattle.std.specs.Prelude.{◌≡◌, ◌<◌, ◌^◌, ◌++◌, length, map, IfOk, OnOk};
-ghost use Rattle.chw_terms.specs.References.{DefRefers, HasNoCycle};
+ghost use Rattle.chw_terms.specs.References.{DefRefers};
+ghost use Rattle.graph_order.specs.References.{HasNoCycle};
 ghost use Rattle.chw_terms.specs.TermView.{tree_of};
 ghost use Rattle.graph_order.specs.Orders.{LeastFirst, OfCycle, OfOrder, numbers};
 ghost use Rattle.data_kinds.specs.Cycles.{IsCycleOf};

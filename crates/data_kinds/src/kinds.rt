@@ -1,7 +1,8 @@
 //! The kinds of data types, each found when those in its fields have theirs.
 ghost use Rattle.std.specs.Prelude.{◌≡◌, ◌<◌, ◌^◌, length, map, IfOk, IfSome, IfNone, OnErr};
 ghost use Rattle.std.specs.List.{slice_get};
-ghost use Rattle.chw_terms.specs.References.{DataRefers, HasNoCycle};
+ghost use Rattle.chw_terms.specs.References.{DataRefers};
+ghost use Rattle.graph_order.specs.References.{HasNoCycle};
 ghost use Rattle.graph_order.specs.Orders.{IsOrder, LeastFirst};
 ghost use Rattle.data_kinds.specs.Cycles.{IsCycleOf};
 ghost use Rattle.data_kinds.specs.Kinds.{HaveTheirKinds, IsKindOfFields, SameButKinds, SetsKind};

@@ -1,5 +1,4 @@
 pub mod EachItem
 pub mod Found
 pub mod Parts
-pub mod Smaller
 pub mod TypedFits

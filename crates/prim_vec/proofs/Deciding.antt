@@ -3,6 +3,7 @@ use Rattle.std.proofs.Common.{◌≡◌, ℕ, Bool, true, ◌&&◌, List, [], �
 use Rattle.std.specs.Prelude.{is_some, ◌==◌}
 use Rattle.std.specs.List.{list_all, AllByRecursion}
 use Rattle.std.proofs.lemmas.Bool.{and_parts, and_from, leb-true, le-leb, eqb-true, eq-eqb}
+use Rattle.chw_base.specs.declared.limits.TheConstants.{SCALAR_BITS, VECTOR_LENGTH}
 use Rattle.chw_types.specs.TypeTree.{TypeTree, nat_lit}
 use Rattle.chw_prims.specs.Schemas.{row_of, schema_type}
 use Rattle.chw_prims.specs.declared.prim.Primitive.{Primitive as Prim}
@@ -34,21 +35,21 @@ tells p types args e =
     let whole = schema_type p in
     let body = is_some (body_of (row_of p) (map evaluated types)) in
     let count = length args == length (parameters whole) in
-    let short = list_all (λ n. is_up_to 256 (at_types types n)) (lengths_in whole) in
-    let narrow = list_all (λ k. is_up_to 128 (at_types types k)) (widths_in whole) in
+    let short = list_all (λ n. is_up_to VECTOR_LENGTH (at_types types n)) (lengths_in whole) in
+    let narrow = list_all (λ k. is_up_to SCALAR_BITS (at_types types k)) (widths_in whole) in
     let v = and_parts body (count && (short && narrow)) e in
     let w = and_parts count (short && narrow) v.1 in
     let x = and_parts short narrow w.1 in
     record {
       on_types = v.0;
       on_terms = eqb-true (length args) (length (parameters whole)) w.0;
-      short = all_tell (λ n. is_up_to 256 (at_types types n)) (λ n. IsUpTo 256 (at_types types n)) (λ n. up_to_tells 256 (at_types types n)) (lengths_in whole) x.0;
-      narrow = all_tell (λ k. is_up_to 128 (at_types types k)) (λ k. IsUpTo 128 (at_types types k)) (λ k. up_to_tells 128 (at_types types k)) (widths_in whole) x.1;
+      short = all_tell (λ n. is_up_to VECTOR_LENGTH (at_types types n)) (λ n. IsUpTo VECTOR_LENGTH (at_types types n)) (λ n. up_to_tells VECTOR_LENGTH (at_types types n)) (lengths_in whole) x.0;
+      narrow = all_tell (λ k. is_up_to SCALAR_BITS (at_types types k)) (λ k. IsUpTo SCALAR_BITS (at_types types k)) (λ k. up_to_tells SCALAR_BITS (at_types types k)) (widths_in whole) x.1;
     }
 
 pub told : (p : Prim) (types : List TypeTree) (args : List TermTree) → CanUnroll p types args → can_unroll p types args ≡ true
 told p types args c =
     let whole = schema_type p in
-    let short = all_told (λ n. is_up_to 256 (at_types types n)) (λ n. IsUpTo 256 (at_types types n)) (λ n. up_to_told 256 (at_types types n)) (lengths_in whole) c.short in
-    let narrow = all_told (λ k. is_up_to 128 (at_types types k)) (λ k. IsUpTo 128 (at_types types k)) (λ k. up_to_told 128 (at_types types k)) (widths_in whole) c.narrow in
+    let short = all_told (λ n. is_up_to VECTOR_LENGTH (at_types types n)) (λ n. IsUpTo VECTOR_LENGTH (at_types types n)) (λ n. up_to_told VECTOR_LENGTH (at_types types n)) (lengths_in whole) c.short in
+    let narrow = all_told (λ k. is_up_to SCALAR_BITS (at_types types k)) (λ k. IsUpTo SCALAR_BITS (at_types types k)) (λ k. up_to_told SCALAR_BITS (at_types types k)) (widths_in whole) c.narrow in
     and_from _ _ c.on_types (and_from _ _ (eq-eqb (length args) (length (parameters whole)) c.on_terms) (and_from _ _ short narrow))

@@ -15,7 +15,7 @@ use std::alloc::Global;
 
 /// Whether a primitive at these types and on these arguments can be unrolled: it is a primitive on vectors other than one that takes an
 /// element by a number of its type; it has all its type arguments, the naturals among them closed, and all its arguments; each vector
-/// in its own type has at most 256 elements, and an index at most 128 bits.
+/// in its own type has at most 1,024 elements, and an index at most 128 bits.
 pub fn can_unroll(alloc: Global, p: Prim, types: &[Ty], args: &[Term]) -> Result<bool, NoMemory>
     ensures { IfOk result (λ b. IsTrue b ↔ CanUnroll p types.now args.now) }
 {

@@ -13,7 +13,6 @@ pub mod PatternKeys
 pub mod Plain
 pub mod Ready
 pub mod Settled
-pub mod Smaller
 pub mod Told
 pub mod VarsFound
 pub mod Walked

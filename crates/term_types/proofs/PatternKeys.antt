@@ -3,7 +3,7 @@ use Rattle.std.proofs.Common.{◌≡◌, ℕ, ◌+◌, ◌<◌, Bool, true, fals
 use Rattle.std.specs.List.{list_any}
 use Rattle.std.specs.Bool.{beq}
 use Rattle.std.specs.Cmp.Lexicographic.{pointwise}
-use Rattle.std.proofs.lemmas.Bool.{false≢true}
+use Rattle.std.proofs.lemmas.Bool.{and_from, and_parts, false≢true}
 use Rattle.std.proofs.lemmas.Bool.Decides.{Decides-eqb}
 use Rattle.std.proofs.lemmas.Slice.Eq.{slice_eq-Decides}
 use Rattle.indexmap.specs.IndexSet.{insert_key}
@@ -45,14 +45,6 @@ bits_Decide false false = (λ e. refl, λ e. refl)
 bits_Decide true false = (λ e. absurd (false≢true e), λ e. absurd (cc))
 bits_Decide false true = (λ e. absurd (false≢true e), λ e. absurd (cc))
 
-both : (p q : Bool) → (p && q) ≡ true → (p ≡ true) × (q ≡ true)
-both true q e = (refl, e)
-both false q e = absurd (cc)
-
-and : (p q : Bool) → p ≡ true → q ≡ true → (p && q) ≡ true
-and true q e f = f
-and false q e f = absurd (cc)
-
 number_told : (c d : ℕ) → eq-value.it (Constructor c) (Constructor d) ≡ true → c ≡ d
 number_told c d e = eqb-true c d (sym (test_of_numbers c d) ∙ e)
 
@@ -61,12 +53,12 @@ number_apart c d e is = false≢true (sym e ∙ test_of_numbers c d ∙ (Decides
 
 literal_told : (s r : Scalar) (x y : Bor (List Bool)) → eq-value.it (Literal s x) (Literal r y) ≡ true → (s ≡ r) × (x.now ≡ y.now)
 literal_told s r x y e =
-    let parts = both (sameb the_type s r) (pointwise beq x.now y.now) (sym (test_of_literals s r x y) ∙ e) in
+    let parts = and_parts (sameb the_type s r) (pointwise beq x.now y.now) (sym (test_of_literals s r x y) ∙ e) in
     ((sorts_Decides s r).0 parts.0, (slice_eq-Decides bits_Decide x.now y.now (pointwise beq x.now y.now) refl).0 parts.1)
 
 literal_apart : (s r : Scalar) (x y : Bor (List Bool)) → eq-value.it (Literal s x) (Literal r y) ≡ false → s ≡ r → x.now ≡ y.now → ⊥
 literal_apart s r x y e f g =
-    let is = and (sameb the_type s r) (pointwise beq x.now y.now) ((sorts_Decides s r).1 f) ((slice_eq-Decides bits_Decide x.now y.now (pointwise beq x.now y.now) refl).1 g) in
+    let is = and_from (sameb the_type s r) (pointwise beq x.now y.now) ((sorts_Decides s r).1 f) ((slice_eq-Decides bits_Decide x.now y.now (pointwise beq x.now y.now) refl).1 g) in
     false≢true (sym e ∙ test_of_literals s r x y ∙ is)
 
 pub keys_hide : (k l : Key) (p q : Pattern) → IsFor k p → IsFor l q → eq-value.it k l ≡ true → Hides q p

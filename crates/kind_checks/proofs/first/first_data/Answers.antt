@@ -10,7 +10,7 @@ returns-then-not-data_fits c =
     let p = c.args.program.now in
     let l = c.loop-place in
     let here = item_at c.as_slice-datas.result.now p.datas l.place c.index-datas-place.result _ c.as_slice-datas.ensures c.loop-place-test.true c.index-datas-place.is in
-    data_found p (record { number = c.in_ok-number.number }) l.place c.index-datas-place.result c.in_ok-number.ensures here (not_from_Decides c.data_fits.result c.data_fits.ensures c.if-not-data_fits.true) l.invariant
+    data_found p (record { number = c.in_ok-number.number }) l.place c.index-datas-place.result c.in_ok-number.ensures.narrow here (not_from_Decides c.data_fits.result c.data_fits.ensures c.if-not-data_fits.true) l.invariant
 
 pub loop-place-preserved : goal.loop-place-preserved
 loop-place-preserved c =

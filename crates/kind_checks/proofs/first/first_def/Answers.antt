@@ -10,7 +10,7 @@ returns-then-not-branch c =
     let p = c.args.program.now in
     let l = c.loop-place in
     let here = item_at c.as_slice-defs.result.now p.defs l.place c.index-defs-place.result _ c.as_slice-defs.ensures c.loop-place-test.true c.index-defs-place.is in
-    def_found p (record { number = c.in_ok-number.number }) l.place c.index-defs-place.result c.in_ok-number.ensures here (not_from_Decides c.in_ok-def_fits.field-0 c.in_ok-def_fits.ensures c.if-not-branch.true) l.invariant
+    def_found p (record { number = c.in_ok-number.number }) l.place c.index-defs-place.result c.in_ok-number.ensures.narrow here (not_from_Decides c.in_ok-def_fits.field-0 c.in_ok-def_fits.ensures c.if-not-branch.true) l.invariant
 
 pub loop-place-preserved : goal.loop-place-preserved
 loop-place-preserved c =

@@ -3,6 +3,7 @@ use Rattle.std.specs.Bool.{Decides}
 use Rattle.std.specs.Prelude.{IfOk}
 use Rattle.std.proofs.lemmas.Bool.Decides.{Decides-like, not_from_Decides}
 use Rattle.std.proofs.lemmas.Result.{IfOk-weaker}
+use Rattle.chw_terms.specs.PartsFall.{alt_smaller, arg_smaller, binding_smaller, term_smaller}
 use Rattle.chw_terms.specs.TermFalls.{applied_size}
 use Rattle.chw_terms.specs.TermSize.{tree_size, args_size}
 use Rattle.chw_terms.specs.TermTree.{lam, ty_lam, letrec}
@@ -14,7 +15,6 @@ use Rattle.kind_checks.specs.Fits.{GroupFits, TypesFit}
 use Rattle.kind_checks.specs.Parts.{ArgFits}
 use Rattle.kind_checks.proofs.EachItem.{beside, decided, refused, before_next, before_all, item_at, not_each}
 use Rattle.kind_checks.proofs.Parts.{AltFits, BindingFits, each_alt, each_binding, each_element, alts_fit, elements_fit, group_fits, parts_fit, spine_fits}
-use Rattle.kind_checks.proofs.Smaller.{alt_smaller, arg_smaller, binding_smaller, term_smaller}
 use Rattle.kind_checks.proofs.terms.+types_fit.Goals as goal
 
 -- a head at arguments

@@ -3,6 +3,7 @@ use Rattle.std.specs.Prelude.{IfOk, MatchOption, reverse}
 use Rattle.std.proofs.lemmas.Bool.{false≢true}
 use Rattle.chw_types.specs.TypeTree.{TypeTree, fun, vector}
 use Rattle.chw_terms.specs.declared.term.Binding.{Binding}
+use Rattle.chw_terms.specs.PartsFall.{arg_smaller, term_smaller, binding_smaller, alt_smaller}
 use Rattle.chw_terms.specs.TermFalls.{applied_size}
 use Rattle.chw_terms.specs.TermSize.{tree_size, terms_size, group_size, alts_size, args_size}
 use Rattle.chw_terms.specs.TermTree.{TermTree, lam, ty_lam, letrec, vec_lit, case_of}
@@ -25,7 +26,6 @@ use Rattle.term_types.proofs.Lambdas.{lam_ready, lam_typed, lam_parameter, lam_b
 use Rattle.term_types.proofs.Lets.{let_typed, let_group, let_body, let_kind, let_types, vec_element, vec_elements, vec_typed}
 use Rattle.term_types.proofs.Matched.{of_some, of_none, ok_more, not_true}
 use Rattle.term_types.proofs.Ready.{inner_kinds, ready_as, ready_more, ready_under}
-use Rattle.term_types.proofs.Smaller.{arg_smaller, term_smaller, binding_smaller, alt_smaller}
 use Rattle.term_types.proofs.Told.{up_to_told, up_to_none}
 use Rattle.term_types.proofs.VarsFound.{types_of}
 use Rattle.term_types.proofs.Walked.{answer_some, answer_none, answer_is_none, app_told, ty_app_told}
@@ -411,7 +411,7 @@ infer_vector-loop-e-preserved t c =
 pub infer_vector-returns : goal.infer_vector-returns
 infer_vector-returns t c =
     let P = λ (e : TermTree). HasTypeUpTo (setting_in c.args.scene.now) (reverse c.args.kinds.now) c.args.vars.now.vars e c.args.ty.now in
-    let count : c.in_ok-len.len ≡ length c.args.elements.now = omega (arith, c.in_ok-len.ensures) in
+    let count : c.in_ok-len.len ≡ length c.args.elements.now = omega (arith, c.in_ok-len.ensures.narrow) in
     vec_typed c.args.ty.now c.in-Some.kind c.args.elements.now c.in_ok-len.len _ c.in-Some.ensures
     (each_all P c.args.elements.now c.loop-e.e-index (omega (arith, c.loop-e-test.false)) c.loop-e.invariant) count
     (c.in_ok-ty.ensures ∙ (λ i. vector (c.nat.ensures i) (c.in_ok-copy.ensures i))) refl

@@ -12,7 +12,7 @@ loop-number-preserved c =
     let datas = c.args.datas.now in
     let places = c.loop-number.places.items in
     let it = c.index-datas-number.result in
-    let count = c.in_ok-narrow-2.ensures ∙ c.len.ensures in
+    let count = c.in_ok-narrow-2.ensures.narrow ∙ c.len.ensures in
     more_placed datas c.loop-number.number it places c.push_places.new.places.items
     (slice_get_read datas (length datas) c.loop-number.number it refl (omega arith) c.index-datas-number.is) c.loop-number.invariant
-    (c.in_ok-push_places.ensures ∙ (λ k. places ++ places_of (c.in_ok-narrow.ensures k) (count k)))
+    (c.in_ok-push_places.ensures ∙ (λ k. places ++ places_of (c.in_ok-narrow.ensures.narrow k) (count k)))

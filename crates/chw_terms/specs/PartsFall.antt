@@ -1,5 +1,6 @@
--- Parts of terms are smaller, so that the walk over a term ends.
-use Rattle.std.proofs.Common.{◌≡◌, ℕ, suc, zero, ◌+◌, ◌<◌, ◌≤◌, subst, sym, List, [], ◌∷◌, length, get_or, arith}
+-- An argument of a spine, and each part of a head, is smaller than the whole, so that a walk over a term ends.
+use Rattle.std.specs.Prelude.{◌≡◌, ℕ, suc, zero, ◌+◌, ◌<◌, ◌≤◌, List, [], ◌∷◌, length}
+use Rattle.std.proofs.Common.{subst, sym, get_or, arith}
 use Rattle.chw_terms.specs.TermTree.{TermTree}
 use Rattle.chw_terms.specs.TermSize.{tree_size, terms_size, group_size, alts_size, args_size}
 use Rattle.chw_terms.specs.TermView.{terms_of, group_of, alts_of}
