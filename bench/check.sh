@@ -7,7 +7,8 @@ top=$(cd "$(dirname "$0")/.." && pwd)
 form=${1:-definitions}
 work=$(mktemp -d)
 trap 'rm -rf "$work"' EXIT
-"$top/chw" >/dev/null 2>&1 || true  # builds the program where it isn't built
+# Builds the program where it isn't built. With no words it ends with status 2.
+"$top/chw" >/dev/null 2>"$work/log" || [ $? = 2 ] || { cat "$work/log" >&2; exit 1; }
 program=$top/crates/chw/out/chw
 
 # A description of about this many bytes, and a Python text of the same shape.

@@ -50,7 +50,7 @@ least() {
 # Flattens and orders nets, beside tsort on the same graph as a text: each wire is read by the cell that drives the one before it.
 if [ "$form" = order ]; then
   times=40
-  (cd "$top/crates/net_speed" && rt run -- 25000) >"$work/log" 2>&1 || { cat "$work/log"; exit 1; }
+  "$top/tools/build-program" net_speed
   program=$top/crates/net_speed/out/net_speed
   printf '%10s %12s %12s %10s %12s %8s\n' wires 'net_speed us' 'ns a wire' 'to first' 'tsort us' ratio
   first=
@@ -66,7 +66,8 @@ if [ "$form" = order ]; then
   exit
 fi
 
-"$top/chw" >/dev/null 2>&1 || true  # builds the program where it isn't built
+# Builds the program where it isn't built. With no words it ends with status 2.
+"$top/chw" >/dev/null 2>"$work/log" || [ $? = 2 ] || { cat "$work/log" >&2; exit 1; }
 program=$top/crates/chw/out/chw
 
 printf '%10s %9s %12s %12s %12s %8s\n' bytes bindings 'chw us' 'ns a byte' 'yosys us' ratio
