@@ -47,7 +47,7 @@ fetch_says told file before after (Err (Fault f)) bytes h = h.2
 pub ask_says : {S : Type 0} (gives : S → List ℕ → ℕ → Result Fetched (Or ShelfFault) → List ℕ → S → Type 0) (told : S → Option Files) (faults : S → ℕ)
     (words : List (List ℕ)) (s t : S) (source : Source) → Asks gives told faults words s t source → AskSays (told s) (Rose (faults s) (faults t)) words source
 ask_says gives told faults words s t _ (uncalled e) = tt
-ask_says gives told faults words s t _ (called command answer bytes is g same f) =
+ask_says gives told faults words s t _ (called command answer bytes is g f) =
     record { command = command; is = is; says = fetch_says (told s) (file_read command) (faults s) (faults t) answer bytes f }
 
 -- the file of a command is text
@@ -58,9 +58,9 @@ file_is_text _ _ (check file is) = is.text
 -- the shelf was asked for the file of the command
 pub asked : {S : Type 0} (gives : S → List ℕ → ℕ → Result Fetched (Or ShelfFault) → List ℕ → S → Type 0) (told : S → Option Files) (faults : S → ℕ)
     (words : List (List ℕ)) (s t : S) (command : Command) (file : List ℕ) (answer wanted : Result Fetched (Or ShelfFault)) (bytes : List ℕ)
-    → IsCommand words command → file ≡ file_read command → answer ≡ wanted → gives s file DESCRIPTION_BYTES answer bytes t → told t ≡ told s
+    → IsCommand words command → file ≡ file_read command → answer ≡ wanted → gives s file DESCRIPTION_BYTES answer bytes t
     → Fetches (told s) file DESCRIPTION_BYTES (faults s) (faults t) answer bytes → Asks gives told faults words s t (fetched wanted bytes)
-asked gives told faults words s t command file answer wanted bytes is same e g files f =
+asked gives told faults words s t command file answer wanted bytes is same e g f =
     subst (λ a. Asks gives told faults words s t (fetched a bytes)) e
-    (called command answer bytes is (subst (λ n. gives s n DESCRIPTION_BYTES answer bytes t) same g) files
+    (called command answer bytes is (subst (λ n. gives s n DESCRIPTION_BYTES answer bytes t) same g)
     (subst (λ n. Fetches (told s) n DESCRIPTION_BYTES (faults s) (faults t) answer bytes) same f))

@@ -101,7 +101,7 @@ module _ {S : Type 0} (gives : S → List ℕ → Result (Unit {0}) (Or SinkFaul
         faults_same = writes.1 ∙ p.faults_same;
       }
 
-  pub ends : (bytes rest : List ℕ) (s t : S) → Progress bytes rest s t → length rest ≡ 0 → WritesAll gives written faults bytes s t
+  pub ends : (bytes rest : List ℕ) (s t : S) → Progress bytes rest s t → length rest ≡ 0 → WritesAll gives written bytes s t
   ends bytes rest s t p e =
       let over : length bytes ≤ PIECE_BYTES * p.k = omega (arith, ap length p.rest_is, length-drop (PIECE_BYTES * p.k) bytes) in
       let last : PIECE_BYTES * p.k < length bytes + PIECE_BYTES = p.last in
@@ -109,7 +109,6 @@ module _ {S : Type 0} (gives : S → List ℕ → Result (Unit {0}) (Or SinkFaul
       record {
         puts = subst (λ k. PutsFirst gives bytes k s t) count p.puts;
         grew = subst (λ b. GrewBy b (written s) (written t)) (take_all (PIECE_BYTES * p.k) bytes over) p.grew;
-        faultless = p.faults_same;
       }
 
   pub stops : (bytes rest : List ℕ) (s t u : S) (answer : Or SinkFault) → Progress bytes rest s t → length rest ≢ 0

@@ -95,7 +95,6 @@ pub data Asks {S : Type 0} (gives : S → List ℕ → ℕ → Result Fetched (O
   uncalled : t ≡ s → Asks gives told faults words s t nothing
   called : (command : Command) (answer : Result Fetched (Or ShelfFault)) (bytes : List ℕ) → IsCommand words command
       → gives s (file_read command) DESCRIPTION_BYTES answer bytes t
-      → told t ≡ told s
       → Fetches (told s) (file_read command) DESCRIPTION_BYTES (faults s) (faults t) answer bytes
       → Asks gives told faults words s t (fetched answer bytes)
 

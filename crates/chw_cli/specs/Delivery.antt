@@ -21,11 +21,10 @@ module _ {S : Type 0} (gives : S → List ℕ → Result (Unit {0}) (Or SinkFaul
     none : (s : S) → PutsFirst bytes zero s s
     more : (k : ℕ) (s t u : S) → PutsFirst bytes k s t → gives t (piece bytes k) (Ok tt) u → PutsFirst bytes (suc k) s u
 
-  -- the whole answer was written, and no call of `put` was a fault
-  pub record WritesAll (written : S → Option (List ℕ)) (faults : S → ℕ) (bytes : List ℕ) (s t : S) : Type 0 where
+  -- the whole answer was written
+  pub record WritesAll (written : S → Option (List ℕ)) (bytes : List ℕ) (s t : S) : Type 0 where
     pub puts : PutsFirst bytes (pieces bytes) s t
     pub grew : GrewBy bytes (written s) (written t)
-    pub faultless : faults t ≡ faults s
 
   -- the call for some piece gave this answer, after those before it were taken whole; so some first part of the answer was written,
   -- which is whole pieces where memory was wanting
@@ -44,7 +43,7 @@ module _ {S : Type 0} (gives : S → List ℕ → Result (Unit {0}) (Or SinkFaul
     pub memory : answer ≢ Err Memory
     pub writes : Writes line (written s) (written t) (faults s) (faults t) answer
 
-  -- memory was wanting: for the line, where it takes memory to make, and nothing was put; or for the one call that put the line
-  pub data TellsNothing (TakesMemory : Type 0) (line : List ℕ) : S → S → Type 0 where
-    silent : (s : S) → TakesMemory → TellsNothing TakesMemory line s s
-    failed : (s t : S) → gives s line (Err Memory) t → TellsNothing TakesMemory line s t
+  -- where memory was wanting: nothing was put, or a line in one call that found no memory
+  pub data TellsNothing : S → S → Type 0 where
+    silent : (s : S) → TellsNothing s s
+    failed : (s t : S) (line : List ℕ) → gives s line (Err Memory) t → TellsNothing s t

@@ -2,7 +2,6 @@
 use Rattle.std.specs.Prelude.{ℕ, List, ◌++◌, codes, decimal}
 use Rattle.std.specs.List.{flat_map}
 use Rattle.chw_base.specs.declared.index.WireId.{WireId}
-use Rattle.chw_base.specs.declared.limits.TheConstants.{DESCRIPTION_BYTES, FLAT_WIRES, NESTING}
 use Rattle.chw_cli.specs.declared.refusal.Refusal.{Refusal}
 use Rattle.chw_cli.specs.declared.refusal.Refusal.TheVariants.{Words, Read, LongText, Lex, Syntax, Depth, Names, Types, Form, TooLarge, Loop, Write, Memory}
 use Rattle.chw_cli.specs.declared.status.Status.{Status}
@@ -79,24 +78,14 @@ type_line (NotPorts ty) = words_line (codes "chw: E11 top ") ty
 abbrev pub line_of : Refusal → List ℕ
 line_of Words = codes "chw: words\n"
 line_of (Read name) = codes "chw: read " ++ name ++ codes "\n"
-line_of LongText = codes "chw: E03 limit text " ++ decimal DESCRIPTION_BYTES ++ codes "\n"
+line_of LongText = codes "chw: E03 limit text 1048576\n"
 line_of (Lex at) = codes "chw: E01 lex at " ++ decimal at ++ codes "\n"
 line_of (Syntax at) = codes "chw: E02 syntax at " ++ decimal at ++ codes "\n"
-line_of Depth = codes "chw: E03 limit depth " ++ decimal NESTING ++ codes "\n"
+line_of Depth = codes "chw: E03 limit depth 200\n"
 line_of (Names fault) = fault_line fault
 line_of (Types fault) = type_line fault
 line_of Form = codes "chw: E20 form at 0\n"
-line_of TooLarge = codes "chw: E17 size wires " ++ decimal FLAT_WIRES ++ codes "\n"
+line_of TooLarge = codes "chw: E17 size wires 200000\n"
 line_of (Loop cycle) = codes "chw: E16 loop" ++ wire_texts cycle ++ codes "\n"
 line_of Write = codes "chw: write\n"
 line_of Memory = codes "chw: memory\n"
-
--- the line takes memory to make, since it shows a place, a file's name, names, a type or wires
-abbrev pub TakesMemory : Refusal → Type 0
-TakesMemory (Read name) = Unit {0}
-TakesMemory (Lex at) = Unit {0}
-TakesMemory (Syntax at) = Unit {0}
-TakesMemory (Names fault) = Unit {0}
-TakesMemory (Types fault) = Unit {0}
-TakesMemory (Loop cycle) = Unit {0}
-TakesMemory _ = ⊥

@@ -6,7 +6,7 @@ use Rattle.chw_base.specs.declared.outcome.Or.TheVariants.{Memory, Fault}
 use Rattle.chw_base.specs.declared.sink.SinkFault.{SinkFault}
 use Rattle.chw_cli.specs.Answer.{Answer, Source}
 use Rattle.chw_cli.specs.Delivery.{TellsLine, TellsNothing}
-use Rattle.chw_cli.specs.Lines.{TakesMemory, line_of, status_of}
+use Rattle.chw_cli.specs.Lines.{line_of, status_of}
 use Rattle.chw_cli.specs.declared.refusal.Refusal.{Refusal}
 use Rattle.chw_cli.specs.declared.refusal.Refusal.TheVariants as refusal
 use Rattle.chw_cli.specs.declared.status.Status.{Status}
@@ -32,7 +32,7 @@ stopped (Fault f) = refusal.Write
 pub data Told {S : Type 0} (gives : S → List ℕ → Result (Unit {0}) (Or SinkFault) → S → Type 0) (written : S → Option (List ℕ)) (faults : S → ℕ)
     (r : Refusal) (s t : S) : Status → Type 0 where
   told : TellsLine gives written faults (line_of r) s t → Told gives written faults r s t (status_of r)
-  untold : TellsNothing gives (TakesMemory r) (line_of r) s t → Told gives written faults r s t status.Memory
+  untold : TellsNothing gives s t → Told gives written faults r s t status.Memory
 
 -- the end of a run, by what the shelf was asked, the words, whether the faults of `out` rose, and what became of `out` (the same as before;
 -- all of these bytes were written; a part of them, up to a call that gave this answer) and of `err` (the same as before; this refusal

@@ -6,11 +6,11 @@ use Rattle.chw_cli.specs.Delivery.{TellsLine, TellsNothing}
 use Rattle.chw_cli.specs.declared.status.Status.{Status}
 use Rattle.chw_cli.specs.declared.status.Status.TheVariants.{Memory}
 
--- the line was put in one call, and the status is this one; or memory was wanting
+-- the line was put in one call, and the status is this one; or that call found no memory
 pub data Puts {S : Type 0} (gives : S → List ℕ → Result (Unit {0}) (Or SinkFault) → S → Type 0) (written : S → Option (List ℕ)) (faults : S → ℕ)
-    (Takes : Type 0) (line : List ℕ) (status : Status) (s t : S) : Status → Type 0 where
-  put : TellsLine gives written faults line s t → Puts gives written faults Takes line status s t status
-  no_memory : TellsNothing gives Takes line s t → Puts gives written faults Takes line status s t Memory
+    (line : List ℕ) (status : Status) (s t : S) : Status → Type 0 where
+  put : TellsLine gives written faults line s t → Puts gives written faults line status s t status
+  no_memory : TellsNothing gives s t → Puts gives written faults line status s t Memory
 
 -- words, a place, and a line feed
 abbrev pub place_line : List ℕ → ℕ → List ℕ

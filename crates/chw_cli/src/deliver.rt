@@ -14,7 +14,7 @@ pub(crate) fn deliver<K: Sink>(
     bytes: &[u8],
     out: &mut K,
 ) -> Result<(), Or<SinkFault>>
-    ensures all { OnOk result (WritesAll K.put_gives K.written K.faults bytes.now out.old out.new) }
+    ensures all { OnOk result (WritesAll K.put_gives K.written bytes.now out.old out.new) }
     ensures stops { IfErr result (λ answer. StopsAt K.put_gives K.written answer bytes.now out.old out.new) }
     ensures fault { IfFault result (λ _. Rose (K.faults out.old) (K.faults out.new)) }
 {

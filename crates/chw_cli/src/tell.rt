@@ -23,7 +23,7 @@ pub(crate) fn tell<E: Sink>(alloc: Global, refusal: &Refusal, err: &mut E) -> St
     match refusal {
         Refusal::Words => put_line(alloc, "chw: words\n", Status::Words, err),
         Refusal::Read(file) => tell_unread(alloc, file, err),
-        Refusal::LongText => put_line(alloc, "chw: E03 limit text 4194304\n", Status::Refused, err),
+        Refusal::LongText => put_line(alloc, "chw: E03 limit text 1048576\n", Status::Refused, err),
         Refusal::Lex(at) => tell_place(alloc, "chw: E01 lex at ", *at, err),
         Refusal::Syntax(at) => tell_place(alloc, "chw: E02 syntax at ", *at, err),
         Refusal::Depth => put_line(alloc, "chw: E03 limit depth 200\n", Status::Refused, err),
@@ -69,7 +69,7 @@ fn tell_types<E: Sink>(alloc: Global, fault: &TypeFault, err: &mut E) -> Status
 
 /// Puts the line of a place in the text.
 fn tell_place<E: Sink>(alloc: Global, text: &str, at: u32, err: &mut E) -> Status
-    ensures { Puts E.put_gives E.written E.faults (Unit {0}) (place_line text.now at) Refused err.old err.new result }
+    ensures { Puts E.put_gives E.written E.faults (place_line text.now at) Refused err.old err.new result }
 {
     match place_line(alloc, text, at) {
         Ok(line) => put_bytes(alloc, line.as_slice(), Status::Refused, err),
@@ -124,14 +124,14 @@ fn unread_line(alloc: Global, file: &Name) -> Result<Vec<u8>, NoMemory>
 
 /// Puts a line in one call. The status is the given one, if that found memory.
 fn put_line<E: Sink>(alloc: Global, line: &str, status: Status, err: &mut E) -> Status
-    ensures { Puts E.put_gives E.written E.faults ⊥ line.now status err.old err.new result }
+    ensures { Puts E.put_gives E.written E.faults line.now status err.old err.new result }
 {
     put_bytes(alloc, line.as_bytes(), status, err)
 }
 
 /// Puts the bytes of a line in one call. The status is the given one, if that found memory.
 fn put_bytes<E: Sink>(alloc: Global, line: &[u8], status: Status, err: &mut E) -> Status
-    ensures { Puts E.put_gives E.written E.faults ⊥ line.now status err.old err.new result }
+    ensures { Puts E.put_gives E.written E.faults line.now status err.old err.new result }
 {
     match err.put(alloc, line) {
         Ok(()) => status,

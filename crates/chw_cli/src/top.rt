@@ -34,7 +34,7 @@ pub fn top<F: Shelf, K: Sink, E: Sink>(
 ) -> Status
     ensures outcome { Outcome (Asks F.fetch_gives F.told F.faults words.now shelf.old shelf.new) words.now (Rose (K.faults out.old) (K.faults out.new))
         (out.new ≡ out.old) (err.new ≡ err.old)
-        (λ bytes. WritesAll K.put_gives K.written K.faults bytes out.old out.new)
+        (λ bytes. WritesAll K.put_gives K.written bytes out.old out.new)
         (λ answer bytes. StopsAt K.put_gives K.written answer bytes out.old out.new)
         (λ refusal status. Told E.put_gives E.written E.faults refusal err.old err.new status)
         result }

@@ -140,7 +140,7 @@ fn padded(rt: &HostRuntime, length: usize) -> Result<Vec<u8>, Fail> {
 
 #[test]
 fn longest_text_is_read(rt: HostRuntime) -> Result<(), Fail> {
-    let text = padded(&rt, 4_194_304)?;
+    let text = padded(&rt, 1_048_576)?;
     let ran = run(rt.alloc(), EMIT, &Given::file("a.chw", text.as_slice()))?;
     expect(&rt, &ran, Status::Ok, ACCUMULATOR_TEXT, "");
     Ok(())
@@ -148,14 +148,14 @@ fn longest_text_is_read(rt: HostRuntime) -> Result<(), Fail> {
 
 #[test]
 fn longer_text_is_refused(rt: HostRuntime) -> Result<(), Fail> {
-    let text = padded(&rt, 4_194_305)?;
+    let text = padded(&rt, 1_048_577)?;
     let ran = run(rt.alloc(), EMIT, &Given::file("a.chw", text.as_slice()))?;
     expect(
         &rt,
         &ran,
         Status::Refused,
         "",
-        "chw: E03 limit text 4194304\n",
+        "chw: E03 limit text 1048576\n",
     );
     Ok(())
 }

@@ -18,5 +18,5 @@ returns-in-Err-Fault g c =
 
 pub returns-in-Err-Memory : goal.returns-in-Err-Memory
 returns-in-Err-Memory g c =
-    no_memory (failed c.args.err.now c.put.new.self
+    no_memory (failed c.args.err.now c.put.new.self c.args.line.now
     (subst (λ e. g.E.Sink.put_gives c.args.err.now c.args.line.now (Err e) c.put.new.self) c.in-Err-Memory.field-0-is c.in-Err-Memory.ensures.gives))

@@ -1,40 +1,40 @@
-use Rattle.std.proofs.Common.{ap, subst, sym}
-use Rattle.chw_cli.specs.Lines.{TakesMemory, line_of, status_of}
+use Rattle.std.proofs.Common.{ap, sym}
+use Rattle.chw_cli.specs.Lines.{line_of, status_of}
 use Rattle.chw_cli.proofs.Telling.{told_by}
 use Rattle.chw_cli.proofs.tell.tell.Goals as goal
 
 pub returns-in-Words : goal.returns-in-Words
 returns-in-Words g c =
-    told_by g.E.Sink.put_gives g.E.Sink.written g.E.Sink.faults _ c.args.refusal.now _ _ _ _ _ (ap line_of (sym c.in-Words.is)) (ap status_of (sym c.in-Words.is)) (λ f. absurd f) c.put_line.ensures
+    told_by g.E.Sink.put_gives g.E.Sink.written g.E.Sink.faults c.args.refusal.now _ _ _ _ _ (ap line_of (sym c.in-Words.is)) (ap status_of (sym c.in-Words.is)) c.put_line.ensures
 
 pub returns-in-LongText : goal.returns-in-LongText
 returns-in-LongText g c =
-    told_by g.E.Sink.put_gives g.E.Sink.written g.E.Sink.faults _ c.args.refusal.now _ _ _ _ _ (ap line_of (sym c.in-LongText.is)) (ap status_of (sym c.in-LongText.is)) (λ f. absurd f) c.put_line-in-LongText.ensures
+    told_by g.E.Sink.put_gives g.E.Sink.written g.E.Sink.faults c.args.refusal.now _ _ _ _ _ (ap line_of (sym c.in-LongText.is)) (ap status_of (sym c.in-LongText.is)) c.put_line-in-LongText.ensures
 
 pub returns-in-Form : goal.returns-in-Form
 returns-in-Form g c =
-    told_by g.E.Sink.put_gives g.E.Sink.written g.E.Sink.faults _ c.args.refusal.now _ _ _ _ _ (ap line_of (sym c.in-Form.is)) (ap status_of (sym c.in-Form.is)) (λ f. absurd f) c.put_line-in-Form.ensures
+    told_by g.E.Sink.put_gives g.E.Sink.written g.E.Sink.faults c.args.refusal.now _ _ _ _ _ (ap line_of (sym c.in-Form.is)) (ap status_of (sym c.in-Form.is)) c.put_line-in-Form.ensures
 
 pub returns-in-TooLarge : goal.returns-in-TooLarge
 returns-in-TooLarge g c =
-    told_by g.E.Sink.put_gives g.E.Sink.written g.E.Sink.faults _ c.args.refusal.now _ _ _ _ _ (ap line_of (sym c.in-TooLarge.is)) (ap status_of (sym c.in-TooLarge.is)) (λ f. absurd f) c.put_line-in-TooLarge.ensures
+    told_by g.E.Sink.put_gives g.E.Sink.written g.E.Sink.faults c.args.refusal.now _ _ _ _ _ (ap line_of (sym c.in-TooLarge.is)) (ap status_of (sym c.in-TooLarge.is)) c.put_line-in-TooLarge.ensures
 
 pub returns-in-Write : goal.returns-in-Write
 returns-in-Write g c =
-    told_by g.E.Sink.put_gives g.E.Sink.written g.E.Sink.faults _ c.args.refusal.now _ _ _ _ _ (ap line_of (sym c.in-Write.is)) (ap status_of (sym c.in-Write.is)) (λ f. absurd f) c.put_line-in-Write.ensures
+    told_by g.E.Sink.put_gives g.E.Sink.written g.E.Sink.faults c.args.refusal.now _ _ _ _ _ (ap line_of (sym c.in-Write.is)) (ap status_of (sym c.in-Write.is)) c.put_line-in-Write.ensures
 
 pub returns-in-Memory : goal.returns-in-Memory
 returns-in-Memory g c =
-    told_by g.E.Sink.put_gives g.E.Sink.written g.E.Sink.faults _ c.args.refusal.now _ _ _ _ _ (ap line_of (sym c.in-Memory.is)) (ap status_of (sym c.in-Memory.is)) (λ f. absurd f) c.put_line-in-Memory.ensures
+    told_by g.E.Sink.put_gives g.E.Sink.written g.E.Sink.faults c.args.refusal.now _ _ _ _ _ (ap line_of (sym c.in-Memory.is)) (ap status_of (sym c.in-Memory.is)) c.put_line-in-Memory.ensures
 
 pub returns-in-Lex : goal.returns-in-Lex
 returns-in-Lex g c =
-    told_by g.E.Sink.put_gives g.E.Sink.written g.E.Sink.faults _ c.args.refusal.now _ _ _ _ _ (ap line_of (sym c.in-Lex.is)) (ap status_of (sym c.in-Lex.is)) (λ _. subst TakesMemory (sym c.in-Lex.is) tt) c.tell_place.ensures
+    told_by g.E.Sink.put_gives g.E.Sink.written g.E.Sink.faults c.args.refusal.now _ _ _ _ _ (ap line_of (sym c.in-Lex.is)) (ap status_of (sym c.in-Lex.is)) c.tell_place.ensures
 
 pub returns-in-Syntax : goal.returns-in-Syntax
 returns-in-Syntax g c =
-    told_by g.E.Sink.put_gives g.E.Sink.written g.E.Sink.faults _ c.args.refusal.now _ _ _ _ _ (ap line_of (sym c.in-Syntax.is)) (ap status_of (sym c.in-Syntax.is)) (λ _. subst TakesMemory (sym c.in-Syntax.is) tt) c.tell_place-in-Syntax.ensures
+    told_by g.E.Sink.put_gives g.E.Sink.written g.E.Sink.faults c.args.refusal.now _ _ _ _ _ (ap line_of (sym c.in-Syntax.is)) (ap status_of (sym c.in-Syntax.is)) c.tell_place-in-Syntax.ensures
 
 pub returns-in-Depth : goal.returns-in-Depth
 returns-in-Depth g c =
-    told_by g.E.Sink.put_gives g.E.Sink.written g.E.Sink.faults _ c.args.refusal.now _ _ _ _ _ (ap line_of (sym c.in-Depth.is)) (ap status_of (sym c.in-Depth.is)) (λ f. absurd f) c.put_line-in-Depth.ensures
+    told_by g.E.Sink.put_gives g.E.Sink.written g.E.Sink.faults c.args.refusal.now _ _ _ _ _ (ap line_of (sym c.in-Depth.is)) (ap status_of (sym c.in-Depth.is)) c.put_line-in-Depth.ensures

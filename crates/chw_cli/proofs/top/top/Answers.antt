@@ -10,7 +10,7 @@ use Rattle.chw_cli.proofs.top.top.Goals as goal
 pub returns-in-Ok-deliver-clause-outcome : goal.returns-in-Ok-deliver-clause-outcome
 returns-in-Ok-deliver-clause-outcome g c =
     answered c.in-Ok.bytes.items c.in-Ok.ensures.answers
-    (subst (λ b. WritesAll g.K.Sink.put_gives g.K.Sink.written g.K.Sink.faults b c.args.out.now c.deliver.new.out) c.as_slice.ensures.value c.in-Ok-deliver.ensures.all)
+    (subst (λ b. WritesAll g.K.Sink.put_gives g.K.Sink.written b c.args.out.now c.deliver.new.out) c.as_slice.ensures.value c.in-Ok-deliver.ensures.all)
     refl
 
 pub returns-in-Err-Fault-clause-outcome : goal.returns-in-Err-Fault-clause-outcome
