@@ -3,7 +3,7 @@ use Rattle.std.proofs.Common.{refl}
 use Rattle.chw_types.specs.TypeMoves.{rename, up, sub}
 use Rattle.chw_types.specs.SamePromises.{natural_value}
 use Rattle.chw_meaning.specs.Run.{zero_by, eval}
-use Rattle.chw_meaning.specs.Shown.{CounterShown, AccumulatorShown, SumsShown, MemoryShown, CrossingShown, SwappingShown, PairShown, SignedShown, FilterShown}
+use Rattle.chw_meaning.specs.Shown.{CounterShown, AccumulatorShown, SumsShown, MemoryShown, CrossingShown, SwappingShown, PairShown, SignedShown, FilterShown, OneResetShown, MoreResetsShown, OtherResetShown, ResetMemoryShown}
 
 pub counter_shown : CounterShown
 unfolding eval zero_by sub rename up natural_value
@@ -40,3 +40,19 @@ signed_shown = (refl, refl, refl, refl)
 pub filter_shown : FilterShown
 unfolding eval zero_by sub rename up natural_value
 filter_shown = (refl, refl, refl, refl, refl)
+
+pub one_reset_shown : OneResetShown
+unfolding eval zero_by sub rename up natural_value
+one_reset_shown = (refl, refl, refl)
+
+pub more_resets_shown : MoreResetsShown
+unfolding eval zero_by sub rename up natural_value
+more_resets_shown = (refl, refl, refl)
+
+pub other_reset_shown : OtherResetShown
+unfolding eval zero_by sub rename up natural_value
+other_reset_shown = (refl, refl, refl)
+
+pub reset_memory_shown : ResetMemoryShown
+unfolding eval zero_by sub rename up natural_value
+reset_memory_shown = (refl, refl)

@@ -3,7 +3,7 @@ use Rattle.std.specs.Prelude.{min, reverse, slice_get, nat_lt, nat_eq, ◌<◌, 
 use Rattle.std.proofs.Common.{◌≡◌, ℕ, suc, zero, List, [], ◌∷◌, Bool, Option, Some, None, refl, sym, ap, subst}
 use Rattle.std.proofs.lemmas.Bool.{ltb-true, ltb-false, eqb-true, eqb-false}
 use Rattle.chw_bits.specs.Bits.{number_of}
-use Rattle.chw_clock.specs.Histories.{before}
+use Rattle.chw_clock.specs.Histories.{before, taken}
 use Rattle.chw_types.specs.declared.declarations.ConDecl.{ConDecl}
 use Rattle.chw_types.specs.declared.declarations.Data.{Data}
 use Rattle.chw_types.specs.TypeTree.{TypeTree, ty_var, nat_lit, nat_sum, nat_product, domain, scalar, vector, data_of, fun, signal, for_all, TypeTrees, no_types, type_and}
@@ -229,12 +229,12 @@ mutual
   run_sound (suc d) p (goes_to th) h = mapped (force_sound d p th h) (λ v n f. r_goes_to f)
   run_sound (suc d) p (computes q nats widths ths) h = seen_as (λ bs. changed (result q) (word_value q nats (reverse bs))) (words_sound d p widths ths h) (λ bs n x w i. word_found q nats widths ths h bs n x (word_value q nats (reverse bs)) refl w i)
   run_sound (suc d) p (samples f s) h = turned (then (force_sound d p f h) (λ v m x. mapped (apply_sound d p v (sample s h) h) (λ w n y. r_samples x y)))
-  run_sound (suc d) p (delays c i s) h = delayed_sound d p c (before h (dom c)) i s h refl
+  run_sound (suc d) p (delays c i s) h = delayed_sound d p c (taken h (dom c)) i s h refl
   run_sound (suc d) p (remembers ram) h = remembered_sound d p (before h (dom ram.dom)) ram h refl
   run_sound (suc d) p (looks_up last k v i) h = then (look_sound d p k i h) (λ b m x. mapped (force_sound d p (element (min (number_of b) last) v) h) (λ w n y. r_looks_up x y))
   run_sound (suc d) p stuck h = nothing
 
-  delayed_sound : (d : ℕ) (p : Program) (c : ℕ) (o : Option History) (i s : Thunk) (h : History) → before h (dom c) ≡ o → Holds Value (λ v n. Runs p n (delays c i s) h v) (delayed d p o i s h)
+  delayed_sound : (d : ℕ) (p : Program) (c : ℕ) (o : Option History) (i s : Thunk) (h : History) → taken h (dom c) ≡ o → Holds Value (λ v n. Runs p n (delays c i s) h v) (delayed d p o i s h)
   delayed_sound zero p c o i s h e = nothing
   delayed_sound (suc d) p c None i s h e = mapped (force_sound d p i h) (λ v n f. r_first e f)
   delayed_sound (suc d) p c (Some g) i s h e = mapped (force_sound d p s g) (λ v n f. r_later e f)

@@ -55,15 +55,15 @@ streams_of : (h : History) (ds : List Datum) → Decoded accumulating.datas byte
 streams_of h ds d = stream_and eight_bits d no_streams
 
 the_ports : Ports
-the_ports = record { domains = codes "Sys" ∷ []; inputs = port_of (codes "x") input_leaf 8 ∷ []; outputs = port_of (codes "o") input_leaf 8 ∷ [] }
+the_ports = record { domains = codes "Sys" ∷ []; resets = []; inputs = port_of (codes "x") input_leaf 8 ∷ []; outputs = port_of (codes "o") input_leaf 8 ∷ [] }
 
 has_ports : HasPorts accumulating the_ports
 unfolding the_ports
-has_ports = record { it = main_def; ins = input_leaf ∷ []; outs = input_leaf ∷ []; top = is_top; domains = refl; inputs = port_and eight_bits no_ports; outputs = port_and eight_bits no_ports }
+has_ports = record { it = main_def; ins = input_leaf ∷ []; outs = input_leaf ∷ []; top = is_top; domains = refl; resets = refl; inputs = port_and eight_bits no_ports; outputs = port_and eight_bits no_ports }
 
 event_fits : (n : ℕ) → FitsEvent the_ports (with_input n)
 unfolding the_ports
-event_fits n = record { some_tick = omega arith; known = (omega arith, tt); inputs = (refl, tt) }
+event_fits n = record { some_tick = omega arith; known = (omega arith, tt); resets = tt; inputs = (refl, tt) }
 
 fits : Fit accumulating three_inputs
 unfolding the_ports has_ports

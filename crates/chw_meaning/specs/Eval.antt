@@ -2,7 +2,7 @@
 use Rattle.std.specs.Prelude.{◌≡◌, ◌≢◌, ℕ, suc, zero, ◌<◌, ◌≤◌, min, Bool, true, false, not, ◌&&◌, ◌==◌, List, [], ◌∷◌, length, reverse, Option, Some, None, slice_get, if◌then◌else◌}
 use Rattle.chw_base.specs.declared.index.DomId.{DomId}
 use Rattle.chw_bits.specs.Bits.{number_of}
-use Rattle.chw_clock.specs.Histories.{before}
+use Rattle.chw_clock.specs.Histories.{before, taken}
 use Rattle.chw_types.specs.declared.kind.Kind.{Kind}
 use Rattle.chw_types.specs.declared.kind.Scalar.{Scalar}
 use Rattle.chw_types.specs.declared.declarations.Data.{Data}
@@ -138,8 +138,8 @@ mutual
     r_goes_to : {n : ℕ} {th : Thunk} {h : History} {v : Value} → Forces p n th h v → Runs p n (goes_to th) h v
     r_computes : {n : ℕ} {q : Prim} {nats widths : List ℕ} {ths : Thunks} {h : History} {bs : List (List Bool)} {b : List Bool} → Words p n widths ths h bs → word_value q nats (reverse bs) ≡ Some b → Runs p n (computes q nats widths ths) h (result q b)
     r_samples : {m n : ℕ} {f s : Thunk} {h : History} {v w : Value} → Forces p m f h v → Applies p n v (sample s h) h w → Runs p (suc (plus m n)) (samples f s) h w
-    r_first : {n d : ℕ} {i s : Thunk} {h : History} {v : Value} → before h (dom d) ≡ None → Forces p n i h v → Runs p n (delays d i s) h v
-    r_later : {n d : ℕ} {i s : Thunk} {h g : History} {v : Value} → before h (dom d) ≡ Some g → Forces p n s g v → Runs p n (delays d i s) h v
+    r_first : {n d : ℕ} {i s : Thunk} {h : History} {v : Value} → taken h (dom d) ≡ None → Forces p n i h v → Runs p n (delays d i s) h v
+    r_later : {n d : ℕ} {i s : Thunk} {h g : History} {v : Value} → taken h (dom d) ≡ Some g → Forces p n s g v → Runs p n (delays d i s) h v
     r_zero_first : {ram : Ram} {h : History} {z : Datum} → before h (dom ram.dom) ≡ None → IsZero p.datas ram.payload z → Runs p zero (remembers ram) h (value_of z)
     r_zero_outside : {n : ℕ} {ram : Ram} {h g : History} {b : List Bool} {z : Datum} → before h (dom ram.dom) ≡ Some g → Looks p n ram.address ram.read g b → ram.size ≤ number_of b → IsZero p.datas ram.payload z → Runs p n (remembers ram) h (value_of z)
     r_word : {m n : ℕ} {ram : Ram} {h g : History} {b : List Bool} {v : Value} → before h (dom ram.dom) ≡ Some g → Looks p m ram.address ram.read g b → number_of b < ram.size → Word p n ram g (number_of b) v → Runs p (plus m n) (remembers ram) h v

@@ -1,7 +1,7 @@
 -- The meaning as a function, which computes: the value of a term at a history and its turns, where the evaluation is at most so deep.
 use Rattle.std.specs.Prelude.{ℕ, suc, zero, min, Bool, true, false, nat_lt, nat_eq, List, [], ◌∷◌, replicate, reverse, Option, Some, None, slice_get}
 use Rattle.chw_bits.specs.Bits.{number_of}
-use Rattle.chw_clock.specs.Histories.{before}
+use Rattle.chw_clock.specs.Histories.{before, taken}
 use Rattle.chw_types.specs.declared.declarations.ConDecl.{ConDecl}
 use Rattle.chw_types.specs.declared.declarations.Data.{Data}
 use Rattle.chw_types.specs.TypeTree.{TypeTree, scalar, vector, data_of, TypeTrees, no_types, type_and}
@@ -150,7 +150,7 @@ unfoldable mutual
   run (suc d) p (goes_to th) h = force d p th h
   run (suc d) p (computes q nats widths ths) h = seen (λ bs. changed (result q) (word_value q nats (reverse bs))) (words d p widths ths h)
   run (suc d) p (samples f s) h = turn (and_then (force d p f h) (λ v. apply d p v (sample s h) h))
-  run (suc d) p (delays c i s) h = delayed d p (before h (dom c)) i s h
+  run (suc d) p (delays c i s) h = delayed d p (taken h (dom c)) i s h
   run (suc d) p (remembers ram) h = remembered d p (before h (dom ram.dom)) ram
   run (suc d) p (looks_up last k v i) h = and_then (look d p k i h) (λ b. force d p (element (min (number_of b) last) v) h)
   run (suc d) p stuck h = None

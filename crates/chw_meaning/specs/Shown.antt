@@ -1,8 +1,9 @@
 -- What the small designs show: after events in which these domains tick, of which the last one is the present event.
 use Rattle.std.specs.Prelude.{◌≡◌, ℕ, List, [], ◌∷◌, Option}
 use Rattle.chw_terms.specs.declared.program.Program.{Program}
+use Rattle.chw_clock.specs.declared.event.Event.{Event}
 use Rattle.chw_meaning.specs.Values.{Value, Thunk}
-use Rattle.chw_meaning.specs.Writing.{bare, here, ticks, events, shown, is_word}
+use Rattle.chw_meaning.specs.Writing.{bare, here, tick, ticks, events, reset_tick, reset_ticks, shown, is_word}
 use Rattle.chw_meaning.specs.Designs.{a_clock, counter, accumulator, sums, sums_of_products, memory, two_signals, left_of, right_of, crossing, swapping, through_a_pair, signed_sum, signed_shift, filter}
 
 -- the domains that tick
@@ -65,3 +66,43 @@ SignedShown =
 abbrev pub FilterShown : Type 0
 FilterShown =
     (at_tick bare filter 1 ≡ is_word 16 1) × (at_tick bare filter 2 ≡ is_word 16 2) × (at_tick bare filter 3 ≡ is_word 16 3) × (at_tick bare filter 4 ≡ is_word 16 4) × (at_tick bare filter 5 ≡ is_word 16 0)
+
+-- an event of A, the same with the reset of A asserted, and an event of B
+abbrev pub of_a : Event
+of_a = tick a_ticks
+
+abbrev pub reset_of_a : Event
+reset_of_a = reset_tick a_ticks a_ticks
+
+abbrev pub of_b : Event
+of_b = tick b_ticks
+
+-- what the counter of A shows after these events, of which the first is the present one
+abbrev pub counted : List Event → Option Value
+counted h = shown bare (here (counter a_clock)) h
+
+-- a reset in the present event does nothing yet; after it the counter is 0 at the next event, and goes on from there
+abbrev pub OneResetShown : Type 0
+OneResetShown =
+    (counted (reset_of_a ∷ of_a ∷ []) ≡ is_word 8 1)
+    × (counted (of_a ∷ reset_of_a ∷ of_a ∷ []) ≡ is_word 8 0)
+    × (counted (of_a ∷ of_a ∷ reset_of_a ∷ of_a ∷ []) ≡ is_word 8 1)
+
+-- a reset in the first event, and resets in two events in a row
+abbrev pub MoreResetsShown : Type 0
+MoreResetsShown =
+    (counted (of_a ∷ reset_of_a ∷ []) ≡ is_word 8 0)
+    × (counted (of_a ∷ of_a ∷ reset_of_a ∷ []) ≡ is_word 8 1)
+    × (counted (of_a ∷ reset_of_a ∷ reset_of_a ∷ of_a ∷ of_a ∷ []) ≡ is_word 8 0)
+
+-- while B alone ticks, the counter stays as the last event of A left it; a reset of B doesn't reach it
+abbrev pub OtherResetShown : Type 0
+OtherResetShown =
+    (counted (of_b ∷ of_b ∷ reset_of_a ∷ of_a ∷ []) ≡ is_word 8 0)
+    × (counted (of_a ∷ of_b ∷ reset_of_a ∷ of_a ∷ []) ≡ is_word 8 0)
+    × (counted (of_a ∷ reset_tick b_ticks b_ticks ∷ of_a ∷ of_a ∷ []) ≡ is_word 8 2)
+
+-- a block RAM reads and writes in a reset as in any event: what it shows is the same as above
+abbrev pub ResetMemoryShown : Type 0
+ResetMemoryShown =
+    (shown bare memory (reset_ticks 3) ≡ is_word 8 20) × (shown bare memory (reset_ticks 4) ≡ is_word 8 99)

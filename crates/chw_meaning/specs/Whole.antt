@@ -18,7 +18,7 @@ accumulating =
 
 -- one event with this input
 abbrev pub with_input : ℕ → Event
-with_input n = record { ticks = dom 0 ∷ []; inputs = bits_of 8 n ∷ [] }
+with_input n = record { ticks = dom 0 ∷ []; resets = []; inputs = bits_of 8 n ∷ [] }
 
 -- the inputs 5, 7 and 0, in this order
 abbrev pub three_inputs : History

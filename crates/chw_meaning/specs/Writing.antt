@@ -87,7 +87,7 @@ bare = program [] []
 
 -- events with these domains ticking, the first one first, as a history
 abbrev pub tick : List ℕ → Event
-tick ds = record { ticks = map dom ds; inputs = [] }
+tick ds = record { ticks = map dom ds; resets = []; inputs = [] }
 
 abbrev pub after_events : History → List (List ℕ) → History
 after_events past [] = past
@@ -95,6 +95,15 @@ after_events past (ds ∷ more) = after_events (tick ds ∷ past) more
 
 abbrev pub events : List (List ℕ) → History
 events ds = after_events [] ds
+
+-- an event in which these domains tick, and the resets of those are asserted
+abbrev pub reset_tick : List ℕ → List ℕ → Event
+reset_tick ds rs = record { ticks = map dom ds; resets = map dom rs; inputs = [] }
+
+-- so many events of the domain 0, in each of which its reset is asserted
+abbrev pub reset_ticks : ℕ → History
+reset_ticks zero = []
+reset_ticks (suc n) = reset_tick (0 ∷ []) (0 ∷ []) ∷ reset_ticks n
 
 -- so many events of the domain 0
 abbrev pub ticks : ℕ → History

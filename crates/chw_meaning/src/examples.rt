@@ -1,7 +1,7 @@
 //! Worked examples of the meaning, each as the contract of a call that does nothing. The values of the designs are those of Clash's own
 //! simulation, but for the choices of this language: the first value of a block RAM, and places outside its content. The small terms
 //! were worked by hand.
-ghost use Rattle.chw_meaning.specs.Shown.{CounterShown, AccumulatorShown, SumsShown, MemoryShown, CrossingShown, SwappingShown, PairShown, SignedShown, FilterShown};
+ghost use Rattle.chw_meaning.specs.Shown.{CounterShown, AccumulatorShown, SumsShown, MemoryShown, CrossingShown, SwappingShown, PairShown, SignedShown, FilterShown, OneResetShown, MoreResetsShown, OtherResetShown, ResetMemoryShown};
 ghost use Rattle.chw_meaning.specs.Whole.{WholeProgram};
 ghost use Rattle.chw_meaning.specs.Corners.{EndlessHasNone, LookedAtHasNone, LazyCases, OtherCases, Recursion, Polymorphism, SignalsOfFunctions, PartialConstructors, VectorsOfSignals, OneElement, Indices, Replacing, Folds, Orders, WidthZero, Words, Turns};
 
@@ -24,6 +24,14 @@ pub fn of_two_clocks()
     ensures crossing { CrossingShown }
     ensures swapping { SwappingShown }
     ensures pair { PairShown }
+{}
+
+/// Resets: in one event, in the first, in two in a row, of another clock; and a block RAM, which none reaches.
+pub fn of_resets()
+    ensures one { OneResetShown }
+    ensures more { MoreResetsShown }
+    ensures other { OtherResetShown }
+    ensures memory { ResetMemoryShown }
 {}
 
 /// What a case looks at. What never ends has no value, nor has a case that looks at it.

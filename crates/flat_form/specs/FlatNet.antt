@@ -60,7 +60,7 @@ module_of f = record {
 }
 
 abbrev pub ports_of : FlatText → Ports
-ports_of f = record { domains = f.domain ∷ []; inputs = input_ports f.parameters f.inputs; outputs = port f.output f.width ∷ [] }
+ports_of f = record { domains = f.domain ∷ []; resets = []; inputs = input_ports f.parameters f.inputs; outputs = port f.output f.width ∷ [] }
 
 abbrev pub net_of : FlatText → Net
 net_of f = record { ports = ports_of f; modules = module_of f ∷ [] }

@@ -95,6 +95,7 @@ fn ports_of(alloc: Global, f: &FlatText) -> Result<Ports, NoMemory>
     outputs.push(port(alloc, &f.output, f.width)?)?;
     Ok(Ports {
         domains: Seq::from(domains),
+        resets: Seq::from(Vec::new(alloc)),
         inputs: Seq::from(inputs),
         outputs: Seq::from(outputs),
     })

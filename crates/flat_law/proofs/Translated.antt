@@ -17,6 +17,7 @@ use Rattle.flat_form.specs.declared.flat.Right.TheVariants.{Same, Register, Sum}
 use Rattle.flat_law.specs.FlatOf.{flat_of}
 use Rattle.flat_law.proofs.Cells.{cell_at}
 use Rattle.flat_law.proofs.Lists.{get_exists, get_mapped, recursion_at}
+use Rattle.flat_law.proofs.Resets.{NoResets, before_none, taken_is_before}
 use Rattle.flat_law.proofs.Signals.{stands, binding_signal, parameter_signal, width_at, widths_of_signals}
 use Rattle.flat_law.proofs.SoundNet.{ports_count}
 use Rattle.netlist.specs.NetValue.{HasCell, NetValue}
@@ -131,19 +132,22 @@ module _ (f : FlatText) (holds : Holds f) where
       let same : p.0.name ≡ name = cc in
       subst (λ name. FlatValue f (present ∷ past) name bits) same (meant_input w p.0 present past bits p.1 e)
 
-  pub translated : (h : List Event) (w : ℕ) (bits : List Bool) → NetValue (flat_of f) h w bits → (name : List ℕ) → Names w name → FlatValue f h name bits
-  translated _ _ _ (input w present past bits lt e) name n =
+  pub translated : (h : List Event) (w : ℕ) (bits : List Bool) → NoResets h → NetValue (flat_of f) h w bits → (name : List ℕ) → Names w name
+      → FlatValue f h name bits
+  translated _ _ _ none (input w present past bits lt e) name n =
       given w present past bits name (omega (arith, ports_count f.parameters f.inputs holds.inputs)) e n
-  translated _ _ _ (copy x a h bits has v) name n =
+  translated _ _ _ none (copy x a h bits has v) name n =
       let b = bound_to x.number (Copy x a) has in
-      copied x a h bits name b.binding b.place b.binding.right b.binds refl b.cell_is b.reads n (λ y m. translated h a.number bits v y m)
-  translated _ _ _ (first x a d initial h has e) name n =
+      copied x a h bits name b.binding b.place b.binding.right b.binds refl b.cell_is b.reads n (λ y m. translated h a.number bits none v y m)
+  translated _ _ _ none (first x a d initial h has e) name n =
       let b = bound_to x.number (Reg x d initial a) has in
-      initial_bits x a d initial h name b.binding b.place b.binding.right b.binds refl b.cell_is n e
-  translated _ _ _ (later x a d initial bits h past has e v) name n =
+      initial_bits x a d initial h name b.binding b.place b.binding.right b.binds refl b.cell_is n (sym (taken_is_before h d none) ∙ e)
+  translated _ _ _ none (later x a d initial bits h past has e v) name n =
+      let tick = sym (taken_is_before h d none) ∙ e in
       let b = bound_to x.number (Reg x d initial a) has in
-      moved x a d initial bits h past name b.binding b.place b.binding.right b.binds refl b.cell_is b.reads n e (λ y m. translated past a.number bits v y m)
-  translated _ _ _ (sum x a c k h u v has e s t) name n =
+      moved x a d initial bits h past name b.binding b.place b.binding.right b.binds refl b.cell_is b.reads n tick
+      (λ y m. translated past a.number bits (before_none h past d none tick) v y m)
+  translated _ _ _ none (sum x a c k h u v has e s t) name n =
       let b = bound_to x.number (Bin x Add a c) has in
       added x a c k h u v name b.binding b.place b.binding.right b.binds refl b.cell_is b.reads e n
-      (λ y m. translated h a.number u s y m) (λ z m. translated h c.number v t z m)
+      (λ y m. translated h a.number u none s y m) (λ z m. translated h c.number v none t z m)

@@ -1,8 +1,8 @@
--- The history before the last tick.
+-- The history before the last tick, and the one at whose last event a register took its input.
 use Rattle.std.proofs.Common.{◌≡◌, ℕ, ◌+◌, ◌<◌, ◌≤◌, Bool, true, false, List, [], ◌∷◌, length, Option, Some, None, subst, arith, if◌then◌else◌}
 use Rattle.std.specs.List.{AllByRecursion}
 use Rattle.chw_base.specs.declared.index.DomId.{DomId}
-use Rattle.chw_clock.specs.Histories.{FitsEvent, FitsPorts, ticks, up_to_tick, before}
+use Rattle.chw_clock.specs.Histories.{FitsEvent, FitsPorts, is_reset, taken, ticks, unless_reset, up_to_tick, before}
 use Rattle.chw_clock.specs.declared.event.Event.{Event}
 use Rattle.chw_clock.specs.declared.event.Ports.{Ports}
 
@@ -28,6 +28,20 @@ up_to : (ports : Ports) (events : List Event) (d : DomId) (past : List Event) �
 up_to ports [] d past f e = absurd (cc)
 up_to ports (event ∷ events) d past f e = chosen ports event events past d (ticks event d) f (λ e. up_to ports events d past f.1 e) e
 
-pub before_is_past : (ports : Ports) (present : Event) (events past : List Event) (d : DomId) → FitsPorts ports (present ∷ events)
+before_is_past : (ports : Ports) (present : Event) (events past : List Event) (d : DomId) → FitsPorts ports (present ∷ events)
     → before (present ∷ events) d ≡ Some past → IsPast ports (length events) past
 before_is_past ports present events past d f e = up_to ports events d past f.1 e
+
+kept : (ports : Ports) (limit : ℕ) (d : DomId) (tick : Option (List Event)) (past : List Event)
+    → ((past : List Event) → tick ≡ Some past → IsPast ports limit past) → unless_reset tick d ≡ Some past → IsPast ports limit past
+kept ports limit d None past is e = absurd (cc)
+kept ports limit d (Some g) past is e = by_reset (is_reset g d) e
+  where
+    by_reset : (b : Bool) → (if b then None else Some g) ≡ Some past → IsPast ports limit past
+    by_reset true e = absurd (cc)
+    by_reset false e = is past e
+
+pub taken_is_past : (ports : Ports) (present : Event) (events past : List Event) (d : DomId) → FitsPorts ports (present ∷ events)
+    → taken (present ∷ events) d ≡ Some past → IsPast ports (length events) past
+taken_is_past ports present events past d f e =
+    kept ports (length events) d (before (present ∷ events) d) past (λ past e. before_is_past ports present events past d f e) e

@@ -4,7 +4,7 @@ use Rattle.std.specs.Prelude.{option_and_then}
 use Rattle.chw_base.specs.declared.index.DomId.{DomId}
 use Rattle.chw_base.specs.declared.index.WireId.{WireId}
 use Rattle.chw_bits.specs.Bits.{bits_of, number_of}
-use Rattle.chw_clock.specs.Histories.{before}
+use Rattle.chw_clock.specs.Histories.{taken}
 use Rattle.chw_clock.specs.declared.event.Event.{Event}
 use Rattle.netlist.specs.Feeds.{target, target_at}
 use Rattle.netlist.specs.NetValue.{HasCell, NetValue}
@@ -29,7 +29,7 @@ SumOf flat h w a b bits =
 abbrev ValueOf : Flat → List Event → Cell → List Bool → Type 0
 ValueOf flat h (Copy w a) bits = NetValue flat h a.number bits
 ValueOf flat h (Reg w domain initial a) bits =
-    ((before h domain ≡ None) × (bits ≡ initial)) ⊎ ((past : List Event) × (before h domain ≡ Some past) × NetValue flat past a.number bits)
+    ((taken h domain ≡ None) × (bits ≡ initial)) ⊎ ((past : List Event) × (taken h domain ≡ Some past) × NetValue flat past a.number bits)
 ValueOf flat h (Bin w Add a b) bits = SumOf flat h w a b bits
 ValueOf flat h _ bits = ⊥
 

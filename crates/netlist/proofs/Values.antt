@@ -5,7 +5,7 @@ use Rattle.std.specs.List.{AllByRecursion}
 use Rattle.std.proofs.lemmas.Option.{slice_get_within, get_or_from_slice_get, slice_get_cases}
 use Rattle.std.proofs.lemmas.Bool.Decides.{leb_tells}
 use Rattle.chw_bits.specs.Bits.{bits_of, number_of}
-use Rattle.chw_clock.specs.Histories.{FitsEvent, FitsPorts, HaveWidths, before}
+use Rattle.chw_clock.specs.Histories.{FitsEvent, FitsPorts, HaveWidths, taken}
 use Rattle.chw_clock.specs.declared.event.Event.{Event}
 use Rattle.chw_clock.specs.declared.event.Port.{Port}
 use Rattle.netlist.specs.NetValue.{HasCell, HasValue, NetValue, IsValued}
@@ -19,7 +19,7 @@ use Rattle.netlist.specs.Sound.{Sound, FitsCell, HasWidth}
 use Rattle.netlist.specs.declared.net.Cell.{Cell}
 use Rattle.netlist.specs.declared.net.Cell.TheVariants.{Const, Copy, Join, Cut, Un, Bin, Mux, Reg, Ram, Use}
 use Rattle.netlist.specs.declared.net.Op2.TheVariants.{Add, Sub, Mul, And, Or, Xor, Eq, LtU, LtS, Shl, Shr, Sar}
-use Rattle.netlist.proofs.Before.{before_is_past}
+use Rattle.netlist.proofs.Before.{taken_is_past}
 
 -- made bits have their width
 made_length : (n m : ℕ) → length (bits_of n m) ≡ n
@@ -34,11 +34,11 @@ ShorterHave flat n = (past : List Event) → length past < n → FitsPorts flat.
 register_value : (flat : Flat) (w a : WireId) (domain : DomId) (initial : List Bool) (present : Event) (events : List Event)
     → HasCell flat (Reg w domain initial a) → HasWidth flat.widths w (length initial) → HasWidth flat.widths a (length initial)
     → FitsPorts flat.ports (present ∷ events) → ShorterHave flat (length (present ∷ events)) → a.number < length flat.widths
-    → (past : Option (List Event)) → before (present ∷ events) domain ≡ past → HasValue flat (present ∷ events) w.number
+    → (past : Option (List Event)) → taken (present ∷ events) domain ≡ past → HasValue flat (present ∷ events) w.number
 register_value flat w a domain initial present events has width from fits shorter within None e =
     record { bits = initial; value = first w a domain initial (present ∷ events) has e; width = width }
 register_value flat w a domain initial present events has width from fits shorter within (Some past) e =
-    let is = before_is_past flat.ports present events past domain fits e in
+    let is = taken_is_past flat.ports present events past domain fits e in
     let v = shorter past (omega (arith, is.shorter)) is.fits a.number within in
     record {
       bits = v.bits;
@@ -68,7 +68,7 @@ cell_value flat present events (Copy x a) place w at valued fits t ports shorter
 cell_value flat present events (Reg x domain initial a) place w at valued fits t ports shorter waits =
     let is : x.number ≡ w = cc in
     subst (λ w. HasValue flat (present ∷ events) w) is
-    (register_value flat x a domain initial present events (place, at) fits.1 fits.2 ports shorter (slice_get_within flat.widths a.number (length initial) fits.2) (before (present ∷ events) domain) refl)
+    (register_value flat x a domain initial present events (place, at) fits.1 fits.2 ports shorter (slice_get_within flat.widths a.number (length initial) fits.2) (taken (present ∷ events) domain) refl)
 cell_value flat present events (Bin x Add a b) place w at valued fits t ports shorter waits =
     let is : x.number ≡ w = cc in
     subst (λ w. HasValue flat (present ∷ events) w) is

@@ -12,6 +12,10 @@ domain_name domains d = slice_index_or domains d.number []
 abbrev pub clock_name : List ℕ → List ℕ
 clock_name domain = codes "clk_" ++ domain
 
+-- a domain's reset
+abbrev pub reset_name : List ℕ → List ℕ
+reset_name domain = codes "rst_" ++ domain
+
 -- an input of the top
 abbrev pub input_name : List (List ℕ) → Port → List ℕ
 input_name domains port = codes "i_" ++ domain_name domains port.dom ++ codes "_" ++ port.name

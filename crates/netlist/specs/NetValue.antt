@@ -4,7 +4,7 @@ use Rattle.std.specs.Prelude.{◌≡◌, ℕ, ◌+◌, ◌%◌, ◌^◌, ◌<◌
 use Rattle.chw_base.specs.declared.index.DomId.{DomId}
 use Rattle.chw_base.specs.declared.index.WireId.{WireId}
 use Rattle.chw_bits.specs.Bits.{bits_of, number_of}
-use Rattle.chw_clock.specs.Histories.{before}
+use Rattle.chw_clock.specs.Histories.{taken}
 use Rattle.chw_clock.specs.declared.event.Event.{Event}
 use Rattle.netlist.specs.declared.net.Cell.{Cell}
 use Rattle.netlist.specs.declared.net.Cell.TheVariants.{Const, Copy, Join, Cut, Un, Bin, Mux, Reg, Ram, Use}
@@ -21,12 +21,12 @@ pub data NetValue (flat : Flat) : List Event → ℕ → List Bool → Type 0 wh
       → NetValue flat (present ∷ past) w bits
   -- a copy has the bits of what it reads
   copy : (w a : WireId) (h : List Event) (bits : List Bool) → HasCell flat (Copy w a) → NetValue flat h a.number bits → NetValue flat h w.number bits
-  -- a register has its initial bits where its domain hasn't ticked before the present event
-  first : (w a : WireId) (domain : DomId) (initial : List Bool) (h : List Event) → HasCell flat (Reg w domain initial a) → before h domain ≡ None
+  -- a register has its initial bits where its domain hasn't ticked before the present event, or its reset was asserted at the last tick
+  first : (w a : WireId) (domain : DomId) (initial : List Bool) (h : List Event) → HasCell flat (Reg w domain initial a) → taken h domain ≡ None
       → NetValue flat h w.number initial
   -- else the bits that its input had at the last tick
   later : (w a : WireId) (domain : DomId) (initial bits : List Bool) (h past : List Event) → HasCell flat (Reg w domain initial a)
-      → before h domain ≡ Some past → NetValue flat past a.number bits → NetValue flat h w.number bits
+      → taken h domain ≡ Some past → NetValue flat past a.number bits → NetValue flat h w.number bits
   -- a sum wraps modulo 2 to the width of its wire
   sum : (w a b : WireId) (n : ℕ) (h : List Event) (x y : List Bool) → HasCell flat (Bin w Add a b) → slice_get flat.widths w.number ≡ Some n
       → NetValue flat h a.number x → NetValue flat h b.number y → NetValue flat h w.number (bits_of n ((number_of x + number_of y) % 2 ^ n))

@@ -1,12 +1,14 @@
 -- The canonical Verilog text of a net: IEEE 1364-2005, clauses 4.2 (nets and variables), 6.1 (continuous assignments), 9 (always) and
 -- 12 (modules).
-use Rattle.std.specs.Prelude.{◌≡◌, ℕ, ◌-◌, ◌+◌, List, [], ◌∷◌, ◌++◌, length, map, drop, codes, decimal, Option, Some, Bool}
+use Rattle.std.specs.Prelude.{◌≡◌, ℕ, ◌-◌, ◌+◌, List, [], ◌∷◌, ◌++◌, length, map, drop, codes, decimal, Option, Some, Bool, if◌then◌else◌}
 use Rattle.std.specs.List.{flat_map, AllByRecursion}
+use Rattle.chw_base.specs.declared.index.DomId.{DomId}
 use Rattle.chw_base.specs.declared.index.WireId.{WireId}
 use Rattle.chw_bits.specs.Hex.{hex_digits}
+use Rattle.chw_clock.specs.Histories.{is_one_of}
 use Rattle.chw_clock.specs.declared.event.Port.{Port}
 use Rattle.chw_clock.specs.declared.event.Ports.{Ports}
-use Rattle.netlist.specs.Names.{clock_name, domain_name, input_name, output_name, wire_name, wire_text}
+use Rattle.netlist.specs.Names.{clock_name, domain_name, input_name, output_name, reset_name, wire_name, wire_text}
 use Rattle.netlist.specs.Wires.{driver}
 use Rattle.netlist.specs.declared.net.Cell.{Cell}
 use Rattle.netlist.specs.declared.net.Cell.TheVariants.{Const, Copy, Join, Cut, Un, Bin, Mux, Reg, Ram, Use}
@@ -30,9 +32,10 @@ range_text width = codes "[" ++ decimal (width - 1) ++ codes ":0]"
 abbrev pub literal_text : List Bool → List ℕ
 literal_text bits = decimal (length bits) ++ codes "'h" ++ hex_digits bits
 
--- what a module's items are printed by: the domains' names and the names of the module's inputs
+-- what a module's items are printed by: the domains' names, those that have a reset, and the names of the module's inputs
 pub record Scope : Type 0 where
   pub domains : List (List ℕ)
+  pub resets : List DomId
   pub inputs : List (List ℕ)
 
 abbrev pub name_in : Scope → WireId → List ℕ
@@ -78,6 +81,13 @@ line text = codes "  " ++ text ++ codes "\n"
 abbrev pub assign_line : List ℕ → List ℕ → List ℕ
 assign_line name value = line (codes "assign " ++ name ++ codes " = " ++ value ++ codes ";")
 
+-- what a register takes at an edge: its input, or its initial bits where its domain has a reset that is asserted
+abbrev pub taken_text : Scope → DomId → List Bool → WireId → List ℕ
+taken_text scope domain initial a =
+    if is_one_of scope.resets domain
+    then reset_name (domain_name scope.domains domain) ++ codes " ? " ++ literal_text initial ++ codes " : " ++ name_in scope a
+    else name_in scope a
+
 -- the line of a cell. The lines of a RAM and of a use of a module are further cases.
 abbrev pub cell_line : Scope → Cell → List ℕ
 cell_line scope (Const w bits) = assign_line (name_in scope w) (literal_text bits)
@@ -92,7 +102,7 @@ cell_line scope (Mux w c a b) =
     assign_line (name_in scope w) (name_in scope c ++ codes " ? " ++ name_in scope a ++ codes " : " ++ name_in scope b)
 cell_line scope (Reg w domain initial a) =
     line (codes "always @(posedge " ++ clock_name (domain_name scope.domains domain) ++ codes ") "
-    ++ name_in scope w ++ codes " <= " ++ name_in scope a ++ codes ";")
+    ++ name_in scope w ++ codes " <= " ++ taken_text scope domain initial a ++ codes ";")
 cell_line scope (Ram w domain words inputs) = []
 cell_line scope (Use m reads drives) = []
 
@@ -117,16 +127,29 @@ declarations scope cells wire (width ∷ widths) =
 abbrev pub clock_item : List ℕ → List ℕ
 clock_item domain = codes "input " ++ clock_name domain
 
+abbrev pub reset_item : List ℕ → List ℕ
+reset_item domain = codes "input " ++ reset_name domain
+
+-- the clock of the domain of this number, and its reset where it has one
+abbrev pub domain_items : List DomId → ℕ → List ℕ → List (List ℕ)
+domain_items resets k domain =
+    clock_item domain ∷ (if is_one_of resets (record { number = k }) then reset_item domain ∷ [] else [])
+
+-- the clocks of the domains from this number on, each with its reset after it where it has one
+abbrev pub clock_items : List DomId → ℕ → List (List ℕ) → List (List ℕ)
+clock_items resets k [] = []
+clock_items resets k (domain ∷ domains) = domain_items resets k domain ++ clock_items resets (k + 1) domains
+
 abbrev pub input_item : List (List ℕ) → Port → List ℕ
 input_item domains port = codes "input " ++ range_text port.width ++ codes " " ++ input_name domains port
 
 abbrev pub output_item : List (List ℕ) → Port → List ℕ
 output_item domains port = codes "output " ++ range_text port.width ++ codes " " ++ output_name domains port
 
--- the ports of the top: the clocks, the inputs, the outputs
+-- the ports of the top: the clocks with their resets, the inputs, the outputs
 abbrev pub header_items : Ports → List (List ℕ)
 header_items ports =
-    map clock_item ports.domains ++ (map (input_item ports.domains) ports.inputs ++ map (output_item ports.domains) ports.outputs)
+    clock_items ports.resets 0 ports.domains ++ (map (input_item ports.domains) ports.inputs ++ map (output_item ports.domains) ports.outputs)
 
 -- one assignment for each output
 abbrev pub output_lines : Scope → List Port → List WireId → List ℕ
@@ -135,7 +158,7 @@ output_lines scope (port ∷ ports) (w ∷ outputs) =
 output_lines scope _ _ = []
 
 abbrev pub top_scope : Ports → Scope
-top_scope ports = record { domains = ports.domains; inputs = map (input_name ports.domains) ports.inputs }
+top_scope ports = record { domains = ports.domains; resets = ports.resets; inputs = map (input_name ports.domains) ports.inputs }
 
 -- the last module of a net
 abbrev pub top_text : Ports → Module → List ℕ

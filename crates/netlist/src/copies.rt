@@ -50,10 +50,12 @@ pub(crate) fn copy_ports(alloc: Global, ports: &Ports) -> Result<Ports, NoMemory
     ensures { IfOk result (λ copy. copy ≡ ports.now) }
 {
     let domains = copy_names(alloc, &ports.domains)?;
+    let resets = copy_items(alloc, &ports.resets)?;
     let inputs = copy_port_list(alloc, &ports.inputs)?;
     let outputs = copy_port_list(alloc, &ports.outputs)?;
     Ok(Ports {
         domains,
+        resets,
         inputs,
         outputs,
     })

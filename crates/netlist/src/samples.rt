@@ -20,6 +20,7 @@ pub fn one_input(alloc: Global) -> Result<Ports, NoMemory>
     };
     Ok(Ports {
         domains: Seq::from(vec![in alloc; domain]?),
+        resets: Seq::from(Vec::new(alloc)),
         inputs: Seq::from(vec![in alloc; input]?),
         outputs: Seq::from(Vec::new(alloc)),
     })

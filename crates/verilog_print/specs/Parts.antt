@@ -2,8 +2,8 @@
 use Rattle.std.specs.Prelude.{ℕ, List, ◌++◌, codes, decimal, Bool, if◌then◌else◌}
 use Rattle.chw_base.specs.declared.index.DomId.{DomId}
 use Rattle.chw_base.specs.declared.index.WireId.{WireId}
-use Rattle.netlist.specs.Names.{clock_name, domain_name, wire_text}
-use Rattle.netlist.specs.Text.{Scope, name_in, signed_text, left_text, right_text, sign2, line, range_text, literal_text}
+use Rattle.netlist.specs.Names.{clock_name, domain_name, reset_name, wire_text}
+use Rattle.netlist.specs.Text.{Scope, name_in, signed_text, left_text, right_text, sign2, line, range_text, literal_text, taken_text}
 use Rattle.netlist.specs.declared.net.Op2.{Op2}
 
 -- an assignment, up to its value
@@ -15,10 +15,15 @@ abbrev pub operand : Bool → List ℕ → List ℕ
 operand signed name = if signed then signed_text name else name
 
 -- the line of a register
-abbrev pub register_line : Scope → WireId → DomId → WireId → List ℕ
-register_line scope wire domain a =
+abbrev pub register_line : Scope → WireId → DomId → List Bool → WireId → List ℕ
+register_line scope wire domain initial a =
     line (codes "always @(posedge " ++ clock_name (domain_name scope.domains domain) ++ codes ") "
-    ++ name_in scope wire ++ codes " <= " ++ name_in scope a ++ codes ";")
+    ++ name_in scope wire ++ codes " <= " ++ taken_text scope domain initial a ++ codes ";")
+
+-- what a register takes at an edge where its domain has a reset
+abbrev pub taken_with_reset : Scope → DomId → List Bool → WireId → List ℕ
+taken_with_reset scope domain initial a =
+    reset_name (domain_name scope.domains domain) ++ codes " ? " ++ literal_text initial ++ codes " : " ++ name_in scope a
 
 -- the start of a register's line, up to the register
 abbrev pub edge : List ℕ → List ℕ

@@ -2,10 +2,10 @@
 ghost use Rattle.std.specs.Prelude.{◌≡◌, ◌++◌, ℕ, List, map, codes, decimal, OnOk};
 ghost use Rattle.std.specs.List.{flat_map};
 ghost use Rattle.netlist.specs.Names.{clock_name, domain_name};
-ghost use Rattle.netlist.specs.Text.{name_in, top_scope, sign1, sign2, left_text, right_text, assign_line, cell_line, commas, HasLine};
-ghost use Rattle.verilog_print.specs.Parts.{assign_start, bounds, choice, edge, operand, operation, register_line};
+ghost use Rattle.netlist.specs.Text.{name_in, top_scope, sign1, sign2, left_text, right_text, assign_line, cell_line, commas, taken_text, HasLine};
+ghost use Rattle.verilog_print.specs.Parts.{assign_start, bounds, choice, edge, operand, operation, register_line, taken_with_reset};
 
-use crate::names::{put_clock, put_name};
+use crate::names::{put_clock, put_name, put_reset};
 use crate::pieces::{put, put_literal, put_number};
 use chw_base::{DomId, NoMemory, WireId};
 use chw_clock::{Bits, Ports};
@@ -263,20 +263,59 @@ fn put_edge(out: &mut Vec<u8>, ports: &Ports, domain: DomId) -> Result<(), NoMem
     Ok(())
 }
 
+/// Writes what a register takes where its domain has a reset: its initial bits where that is asserted, else its input.
+fn put_taken_with_reset(
+    alloc: Global,
+    out: &mut Vec<u8>,
+    ports: &Ports,
+    domain: DomId,
+    initial: &Bits,
+    a: WireId,
+) -> Result<(), NoMemory>
+    ensures { OnOk result (out.new.items ≡ out.old.items ++ taken_with_reset (top_scope ports.now) domain initial.now a) }
+{
+    put_reset(out, ports, domain)?;
+    put(out, b" ? ")?;
+    put_literal(alloc, out, initial)?;
+    put(out, b" : ")?;
+    put_name(out, ports, a)?;
+    Ok(())
+}
+
+/// Writes what a register takes at an edge.
+fn put_taken(
+    alloc: Global,
+    out: &mut Vec<u8>,
+    ports: &Ports,
+    domain: DomId,
+    initial: &Bits,
+    a: WireId,
+) -> Result<(), NoMemory>
+    ensures { OnOk result (out.new.items ≡ out.old.items ++ taken_text (top_scope ports.now) domain initial.now a) }
+{
+    if ports.has_reset(domain.number as usize) {
+        put_taken_with_reset(alloc, out, ports, domain, initial, a)
+    } else {
+        put_name(out, ports, a)
+    }
+}
+
 /// Writes the line of a register.
 fn put_register(
+    alloc: Global,
     out: &mut Vec<u8>,
     ports: &Ports,
     wire: WireId,
     domain: DomId,
+    initial: &Bits,
     a: WireId,
 ) -> Result<(), NoMemory>
-    ensures { OnOk result (out.new.items ≡ out.old.items ++ register_line (top_scope ports.now) wire domain a) }
+    ensures { OnOk result (out.new.items ≡ out.old.items ++ register_line (top_scope ports.now) wire domain initial.now a) }
 {
     put_edge(out, ports, domain)?;
     put_name(out, ports, wire)?;
     put(out, b" <= ")?;
-    put_name(out, ports, a)?;
+    put_taken(alloc, out, ports, domain, initial, a)?;
     put(out, b";\n")?;
     Ok(())
 }
@@ -299,7 +338,9 @@ pub fn put_cell(
         Cell::Un(wire, op, a) => put_un(out, ports, *wire, *op, *a),
         Cell::Bin(wire, op, a, b) => put_bin(out, ports, *wire, *op, *a, *b),
         Cell::Mux(wire, condition, a, b) => put_mux(out, ports, *wire, *condition, *a, *b),
-        Cell::Reg(wire, domain, _, a) => put_register(out, ports, *wire, *domain, *a),
+        Cell::Reg(wire, domain, initial, a) => {
+            put_register(alloc, out, ports, *wire, *domain, initial, *a)
+        }
         Cell::Ram(..) | Cell::Use(..) => Ok(()),
     }
 }

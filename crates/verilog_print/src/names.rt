@@ -1,6 +1,6 @@
 //! The names of domains, ports and wires.
 ghost use Rattle.std.specs.Prelude.{◌≡◌, ◌++◌, OnOk};
-ghost use Rattle.netlist.specs.Names.{clock_name, domain_name, input_name, output_name, wire_text};
+ghost use Rattle.netlist.specs.Names.{clock_name, domain_name, input_name, output_name, reset_name, wire_text};
 ghost use Rattle.netlist.specs.Text.{name_in, top_scope};
 
 use crate::pieces::{put, put_number};
@@ -22,6 +22,15 @@ pub fn put_clock(out: &mut Vec<u8>, ports: &Ports, domain: DomId) -> Result<(), 
     ensures { OnOk result (out.new.items ≡ out.old.items ++ clock_name (domain_name ports.now.domains domain)) }
 {
     put(out, b"clk_")?;
+    put_domain(out, ports, domain)?;
+    Ok(())
+}
+
+/// Writes the name of a domain's reset.
+pub fn put_reset(out: &mut Vec<u8>, ports: &Ports, domain: DomId) -> Result<(), NoMemory>
+    ensures { OnOk result (out.new.items ≡ out.old.items ++ reset_name (domain_name ports.now.domains domain)) }
+{
+    put(out, b"rst_")?;
     put_domain(out, ports, domain)?;
     Ok(())
 }

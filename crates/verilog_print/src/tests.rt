@@ -20,7 +20,7 @@ endmodule
 ";
 
 const ALL_CELLS: &str =
-    "module chw_top (input clk_Sys, input clk_Aux, input [7:0] i_Sys_a, input [7:0] i_Sys_b, input [0:0] i_Aux_c, output [7:0] o_Sys_o, output [0:0] o_Aux_p);
+    "module chw_top (input clk_Sys, input clk_Aux, input rst_Aux, input [7:0] i_Sys_a, input [7:0] i_Sys_b, input [0:0] i_Aux_c, output [7:0] o_Sys_o, output [0:0] o_Aux_p);
   wire [7:0] w3;
   wire [7:0] w4;
   wire [15:0] w5;
@@ -64,7 +64,7 @@ const ALL_CELLS: &str =
   assign w21 = w11 >> w13;
   assign w22 = $signed(w11) >>> w13;
   assign w23 = i_Aux_c ? w11 : w12;
-  always @(posedge clk_Aux) w24 <= i_Aux_c;
+  always @(posedge clk_Aux) w24 <= rst_Aux ? 1'h1 : i_Aux_c;
   assign o_Sys_o = w23;
   assign o_Aux_p = w24;
 endmodule
@@ -122,6 +122,7 @@ fn accumulator(alloc: Global) -> Result<Net, NoMemory>
 {
     let ports = Ports {
         domains: Seq::from(vec![in alloc; name(alloc, "Sys")?]?),
+        resets: Seq::from(Vec::new(alloc)),
         inputs: Seq::from(vec![in alloc; port(alloc, "x", 0, 8)?]?),
         outputs: Seq::from(vec![in alloc; port(alloc, "o", 0, 8)?]?),
     };
@@ -179,6 +180,7 @@ fn all_cells(alloc: Global) -> Result<Net, NoMemory>
 {
     let ports = Ports {
         domains: Seq::from(vec![in alloc; name(alloc, "Sys")?, name(alloc, "Aux")?]?),
+        resets: Seq::from(vec![in alloc; DomId { number: 1 }]?),
         inputs: Seq::from(vec![in alloc;
             port(alloc, "a", 0, 8)?,
             port(alloc, "b", 0, 8)?,

@@ -1,7 +1,9 @@
+use Rattle.std.proofs.Common.{refl}
 use Rattle.std.proofs.lemmas.Option.{slice_get_within}
 use Rattle.flat_form.specs.FlatNet.{place_of}
 use Rattle.flat_form.specs.Holds.{names_of, signals}
 use Rattle.flat_law.specs.FlatOf.{flat_of}
+use Rattle.flat_law.proofs.Resets.{no_resets}
 use Rattle.flat_law.proofs.Signals.{widths_of_signals, width_at, stands}
 use Rattle.flat_law.proofs.SoundNet.{few_signals, net_sound, all_valued}
 use Rattle.flat_law.proofs.Translated.{reads_name, translated}
@@ -13,4 +15,4 @@ returns c = λ f places h holds few order fits.
     let s = stands (signals f) f.body f.width holds.signals_hold.body in
     let lt = slice_get_within (widths_of_signals f) w s.signal.width (width_at f w s.signal s.at) in
     let v = c.every_wire_has_a_value.ensures (flat_of f) places h w (net_sound f holds (few_signals f few)) order (all_valued f holds (few_signals f few)) fits lt in
-    record { bits = v.bits; meant = translated f holds h w v.bits v.value f.body (reads_name f holds f.body f.width holds.signals_hold.body); shown = v.value }
+    record { bits = v.bits; meant = translated f holds h w v.bits (no_resets (flat_of f).ports h refl fits) v.value f.body (reads_name f holds f.body f.width holds.signals_hold.body); shown = v.value }

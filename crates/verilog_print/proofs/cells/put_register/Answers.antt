@@ -3,4 +3,4 @@ use Rattle.verilog_print.proofs.cells.put_register.Goals as goal
 
 pub returns : goal.returns
 returns c =
-    simp (c.in_ok-put-2.ensures, c.in_ok-put_name-2.ensures, c.in_ok-put.ensures, c.in_ok-put_name.ensures, c.in_ok-put_edge.ensures, append_assoc)
+    simp (c.in_ok-put-2.ensures, c.in_ok-put_taken.ensures, c.in_ok-put.ensures, c.in_ok-put_name.ensures, c.in_ok-put_edge.ensures, append_assoc)
