@@ -1,4 +1,5 @@
 pub mod Before
+pub mod Chains
 pub mod Exclusion
 pub mod Lists
 pub mod OneValue

@@ -4,7 +4,8 @@ use Rattle.netlist.specs.Feeds.{target}
 use Rattle.netlist.specs.Flattened.{IsPlain, flat_widths}
 use Rattle.netlist.specs.Sound.{FitsCell}
 use Rattle.netlist.specs.declared.net.Module.{Module}
-use Rattle.net_speed.proofs.Chains.{all_and_one, next_driven, no_uses, sound_chain}
+use Rattle.netlist.proofs.Chains.{all_and_one, next_driven}
+use Rattle.net_speed.proofs.Chains.{no_uses, sound_chain}
 use Rattle.net_speed.proofs.chain.chain.Goals as goal
 
 pub loop-to-preserved : goal.loop-to-preserved

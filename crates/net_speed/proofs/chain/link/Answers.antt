@@ -1,5 +1,5 @@
 use Rattle.std.proofs.Common.{◌<◌, arith}
-use Rattle.net_speed.proofs.Chains.{eight_bits}
+use Rattle.netlist.proofs.Chains.{eight_bits}
 use Rattle.net_speed.proofs.chain.link.Goals as goal
 use Rattle.net_speed.proofs.chain.link.Goals.{then-to-wires, else-to-wires}
 

@@ -1,5 +1,5 @@
 use Rattle.std.proofs.Common.{◌≡◌, length, ap, arith}
-use Rattle.netlist_rows.proofs.DrivenInOrder.{eight_bits}
+use Rattle.netlist.proofs.Chains.{eight_bits}
 use Rattle.netlist_rows.proofs.table.cell.Goals as goal
 
 pub returns-in_ok-wire-in-Copy-clause-fits : goal.returns-in_ok-wire-in-Copy-clause-fits

@@ -2,7 +2,8 @@ use Rattle.std.proofs.Common.{◌≡◌, ◌+◌, [], ◌∷◌, length, replica
 use Rattle.std.proofs.lemmas.List.{length-append}
 use Rattle.netlist.specs.Feeds.{target}
 use Rattle.netlist.specs.Sound.{FitsCell}
-use Rattle.netlist_rows.proofs.DrivenInOrder.{all_and_one, next_driven, sound_of_driven}
+use Rattle.netlist.proofs.Chains.{all_and_one, next_driven}
+use Rattle.netlist_rows.proofs.DrivenInOrder.{sound_of_driven}
 use Rattle.netlist_rows.proofs.table.net.Goals as goal
 
 pub loop-i-preserved : goal.loop-i-preserved
