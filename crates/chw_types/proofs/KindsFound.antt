@@ -1,7 +1,7 @@
 -- The kind that is found is the kind.
 use Rattle.std.proofs.Common.{◌≡◌, ℕ, Bool, true, false, ◌&&◌, refl, sym, ap, ◌∙◌, subst, List, [], ◌∷◌}
 use Rattle.std.specs.Prelude.{Option, Some, None}
-use Rattle.std.proofs.lemmas.Bool.{ltb-true, leb-true, lt-ltb, le-leb}
+use Rattle.std.proofs.lemmas.Bool.{and_parts, ltb-true, leb-true, lt-ltb, le-leb}
 use Rattle.chw_types.specs.declared.kind.Kind.{Kind}
 use Rattle.chw_types.specs.declared.kind.Kind.TheVariants.{Nat, Dom, Val, Cir}
 use Rattle.chw_types.specs.declared.declarations.Data.{Data}
@@ -52,11 +52,6 @@ data_kind_is : (o : Option Data) (b : Bool) (k : Kind) → data_kind o b ≡ Som
 data_kind_is (Some it) true k h = (it, refl, refl, (cc))
 data_kind_is _ _ k h = absurd (cc)
 
-and_is : (a b : Bool) → (a && b) ≡ true → (a ≡ true) × (b ≡ true)
-and_is true true h = (refl, refl)
-and_is true false h = absurd (cc)
-and_is false b h = absurd (cc)
-
 -- what is found is a kind of the type
 mutual
   unfolding kind_found
@@ -96,7 +91,7 @@ mutual
   pub found_are_kinds : (datas : List Data) (domains : ℕ) (scope : List Kind) (ts : TypeTrees) (ks : List Kind) → are_kinds datas domains scope ts ks ≡ true → KindsOf datas domains scope ts ks
   found_are_kinds datas domains scope no_types [] h = no_kinds
   found_are_kinds datas domains scope (type_and t ts) (k ∷ ks) h =
-      let e = and_is _ _ h in
+      let e = and_parts _ _ h in
       kind_and (found_is_kind datas domains scope t k (is_kind_is _ k e.0)) (found_are_kinds datas domains scope ts ks e.1)
   found_are_kinds datas domains scope no_types (k ∷ ks) h = absurd (cc)
   found_are_kinds datas domains scope (type_and t ts) [] h = absurd (cc)

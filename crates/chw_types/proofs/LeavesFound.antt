@@ -18,7 +18,7 @@ use Rattle.chw_types.specs.References.{HasNoCycle}
 use Rattle.chw_types.specs.Representable.{Representable}
 use Rattle.chw_types.specs.Ports.{leaf_of, Leaves, one_leaf, leaves_of_fields, LeavesOfAll, no_leaves, leaves_and, IsNoPort}
 use Rattle.chw_types.specs.PortsFound.{LeafFound, IsProduct, IsNoProduct, ProductOpened, Looked}
-use Rattle.chw_types.proofs.Weights.{whole, all_whole, unfolded, all_whole_append, all_whole_reverse}
+use Rattle.chw_types.proofs.Weights.{whole, all_whole, reverse_map, unfolded, all_whole_append, all_whole_reverse}
 
 leaf_inverse : {datas : List Data} {d p : TypeTree} {ls : List Leaf} → Leaves datas (signal d p) ls → (dom : DomId) × (d ≡ domain dom.number) × Representable datas p × (ls ≡ leaf_of dom p ∷ [])
 leaf_inverse (one_leaf {dom = dom} r) = (dom, refl, r, refl)
@@ -101,11 +101,6 @@ product_follows datas t ts d args fields is p =
           (h.0 ++ h.1, all_onward datas (arguments args) fields ts h.0 h.1 (subst (λ fs. LeavesOfAll datas fs (arguments args) h.0) e w.all) h.3, h.4);
       back = λ rest h. let w = all_back datas (arguments args) fields ts rest h in (w.0, w.1, to_leaves fields p w.2, w.3, w.4);
     })
-
-reverse_map : (f : TypeTree → TypeTree) (ts : List TypeTree) → reverse (map f ts) ≡ map f (reverse ts)
-reverse_map f [] = refl
-reverse_map f (t ∷ ts) =
-    reverse-append (f t ∷ []) (map f ts) ∙ ap (λ us. us ++ f t ∷ []) (reverse_map f ts) ∙ sym (map-append f (reverse ts) (t ∷ [])) ∙ ap (map f) (sym (reverse-append (t ∷ []) ts))
 
 pushed : (f : TypeTree → TypeTree) (todo fields : List TypeTree) → reverse (todo ++ map f (reverse fields)) ≡ map f fields ++ reverse todo
 pushed f todo fields =

@@ -1,5 +1,6 @@
 -- Laws of types that are the same.
 use Rattle.std.proofs.Common.{◌≡◌, ℕ, ◌+◌, ◌*◌, ◌≤◌, Bool, true, false, ◌&&◌, if◌then◌else◌, refl, sym, ap, ◌∙◌, [], ◌∷◌, leb, arith}
+use Rattle.std.proofs.lemmas.Bool.{and_parts}
 use Rattle.chw_types.specs.TypeTree.{TypeTree, ty_var, nat_lit, nat_sum, nat_product, domain, scalar, vector, data_of, fun, signal, for_all, TypeTrees, no_types, type_and}
 use Rattle.chw_types.specs.Polynomials.{greatest, ended, Monomial, with_factor, times, Summands, by_each, multiplied, is_natural, SameNaturals}
 use Rattle.chw_types.specs.SamePromises.{natural_value}
@@ -139,11 +140,6 @@ over_products ρ p q =
         ∙ over_scaled q (monomial_value ρ) (monomial_value ρ m)
         ∙ turned (over q (monomial_value ρ)) (monomial_value ρ m)
 
-both : (a b : Bool) → (a && b) ≡ true → (a ≡ true) × (b ≡ true)
-both true true h = (refl, refl)
-both true false h = absurd (cc)
-both false b h = absurd (cc)
-
 once : (r : ℕ) → r ≤ greatest → r ≡ ended (1 * (r * 1) + 0)
 once r h = omega arith
 
@@ -169,12 +165,12 @@ unfolding natural_value is_natural multiplied monomial_value
 value_over ρ (ty_var x) h n = once (ρ x) (h x)
 value_over ρ (nat_lit k) h n = once_lit k
 value_over ρ (nat_sum a b) h n =
-    let w = both (is_natural a) (is_natural b) n in
+    let w = and_parts (is_natural a) (is_natural b) n in
     (λ i. ended (value_over ρ a h w.0 i + value_over ρ b h w.1 i))
     ∙ sum_once (over (multiplied a) (monomial_value ρ)) (over (multiplied b) (monomial_value ρ))
     ∙ ap ended (sym (over_append (multiplied a) (multiplied b) (monomial_value ρ)))
 value_over ρ (nat_product a b) h n =
-    let w = both (is_natural a) (is_natural b) n in
+    let w = and_parts (is_natural a) (is_natural b) n in
     (λ i. ended (value_over ρ a h w.0 i * value_over ρ b h w.1 i))
     ∙ product_once (over (multiplied a) (monomial_value ρ)) (over (multiplied b) (monomial_value ρ))
     ∙ ap ended (sym (over_products ρ (multiplied a) (multiplied b)))

@@ -1,6 +1,6 @@
 -- The function that the code computes is the relation.
 use Rattle.std.proofs.Common.{◌≡◌, ℕ, suc, ◌+◌, ◌<◌, ◌≤◌, Bool, true, false, ◌&&◌, refl, sym, ap, ◌∙◌, subst, List, [], ◌∷◌, length, eqb, drop, get_or, arith, ◌⊎◌, inl, inr}
-use Rattle.std.proofs.lemmas.Bool.{eqb-true, eq-eqb}
+use Rattle.std.proofs.lemmas.Bool.{and_parts, and_from, eqb-true, eq-eqb}
 use Rattle.chw_types.specs.declared.kind.Kind.{Kind}
 use Rattle.chw_types.specs.declared.kind.Kind.TheVariants.{Nat, Dom, Val, Cir}
 use Rattle.chw_types.specs.declared.kind.Scalar.{Scalar}
@@ -16,19 +16,11 @@ use Rattle.chw_types.specs.TypeView.{trees_of}
 use Rattle.chw_types.proofs.SumsFound.{next_dropped}
 use Rattle.chw_types.proofs.Sums.{same_factors_is, agree_append, agree_by_each}
 
-both : (a b : Bool) → (a && b) ≡ true → (a ≡ true) × (b ≡ true)
-both true true h = (refl, refl)
-both true false h = absurd (cc)
-both false b h = absurd (cc)
-
-together : (a b : Bool) → a ≡ true → b ≡ true → (a && b) ≡ true
-together a b e f = λ i. e i && f i
-
 -- a monomial agrees, or doesn't stand there
 at_or_none : (at p q : Summands) (m : Monomial) → agree_on at p q ≡ true → (ended (coefficient p m) ≡ ended (coefficient q m)) ⊎ (coefficient at m ≡ 0)
 at_or_none [] p q m h = inr refl
 at_or_none (s ∷ at) p q m h =
-    let e = both (eqb (ended (coefficient p s.1)) (ended (coefficient q s.1))) (agree_on at p q) h in
+    let e = and_parts (eqb (ended (coefficient p s.1)) (ended (coefficient q s.1))) (agree_on at p q) h in
     here (at_or_none at p q m e.1) (eqb-true (ended (coefficient p s.1)) (ended (coefficient q s.1)) e.0) (same_factors s.1 m) refl
   where
     later : (b : Bool) → b ≡ false → (ended (coefficient p m) ≡ ended (coefficient q m)) ⊎ (coefficient at m ≡ 0) → (ended (coefficient p m) ≡ ended (coefficient q m)) ⊎ (counted b s.0 + coefficient at m ≡ 0)
@@ -41,15 +33,15 @@ at_or_none (s ∷ at) p q m h =
 
 pub sums_agree : (p q : Summands) → same_sums p q ≡ true → Agrees p q
 sums_agree p q h m =
-    let e = both (agree_on p p q) (agree_on q p q) h in
+    let e = and_parts (agree_on p p q) (agree_on q p q) h in
     elim (at_or_none p p q m e.0) [ inl a ↦ a | inr a ↦ elim (at_or_none q p q m e.1) [ inl b ↦ b | inr b ↦ ap ended (a ∙ sym b) ] ]
 
 agree_everywhere : (at p q : Summands) → Agrees p q → agree_on at p q ≡ true
 agree_everywhere [] p q h = refl
-agree_everywhere (s ∷ at) p q h = together _ _ (eq-eqb (ended (coefficient p s.1)) (ended (coefficient q s.1)) (h s.1)) (agree_everywhere at p q h)
+agree_everywhere (s ∷ at) p q h = and_from _ _ (eq-eqb (ended (coefficient p s.1)) (ended (coefficient q s.1)) (h s.1)) (agree_everywhere at p q h)
 
 pub agreeing_sums : (p q : Summands) → Agrees p q → same_sums p q ≡ true
-agreeing_sums p q h = together _ _ (agree_everywhere p p q h) (agree_everywhere q p q h)
+agreeing_sums p q h = and_from _ _ (agree_everywhere p p q h) (agree_everywhere q p q h)
 
 same_sort_is : (s r : Scalar) → same_sort s r ≡ true → s ≡ r
 same_sort_is U U h = refl
@@ -81,27 +73,27 @@ unfolding same_from
 from_parts a b parts h e = by (is_natural a && is_natural b) refl e
   where
     by : (n : Bool) → (is_natural a && is_natural b) ≡ n → same_by n (same_sums (multiplied a) (multiplied b)) parts ≡ true → SameTypes a b
-    by true is e = let w = both (is_natural a) (is_natural b) is in same_naturals w.0 w.1 (sums_agree (multiplied a) (multiplied b) e)
+    by true is e = let w = and_parts (is_natural a) (is_natural b) is in same_naturals w.0 w.1 (sums_agree (multiplied a) (multiplied b) e)
     by false is e = h e
 
 mutual
   unfolding same_parts
 
   pub parts_are_same : (a b : TypeTree) → same_parts a b ≡ true → SameTypes a b
-  parts_are_same (nat_sum a b) (nat_sum c d) h = let e = both _ _ h in same_sum (from_parts a c (same_parts a c) (parts_are_same a c) e.0) (from_parts b d (same_parts b d) (parts_are_same b d) e.1)
-  parts_are_same (nat_product a b) (nat_product c d) h = let e = both _ _ h in same_product (from_parts a c (same_parts a c) (parts_are_same a c) e.0) (from_parts b d (same_parts b d) (parts_are_same b d) e.1)
+  parts_are_same (nat_sum a b) (nat_sum c d) h = let e = and_parts _ _ h in same_sum (from_parts a c (same_parts a c) (parts_are_same a c) e.0) (from_parts b d (same_parts b d) (parts_are_same b d) e.1)
+  parts_are_same (nat_product a b) (nat_product c d) h = let e = and_parts _ _ h in same_product (from_parts a c (same_parts a c) (parts_are_same a c) e.0) (from_parts b d (same_parts b d) (parts_are_same b d) e.1)
   parts_are_same (domain d) (domain k) h = subst (λ k. SameTypes (domain d) (domain k)) (eqb-true d k h) same_domain
-  parts_are_same (scalar s v) (scalar r w) h = let e = both _ _ h in subst (λ r. SameTypes (scalar s v) (scalar r w)) (same_sort_is s r e.0) (same_scalar (from_parts v w (same_parts v w) (parts_are_same v w) e.1))
-  parts_are_same (vector n t) (vector m u) h = let e = both _ _ h in same_vector (from_parts n m (same_parts n m) (parts_are_same n m) e.0) (from_parts t u (same_parts t u) (parts_are_same t u) e.1)
-  parts_are_same (data_of d ts) (data_of k us) h = let e = both _ _ h in subst (λ k. SameTypes (data_of d ts) (data_of k us)) (eqb-true d k e.0) (same_data (all_are_same ts us e.1))
-  parts_are_same (fun a b) (fun c d) h = let e = both _ _ h in same_fun (from_parts a c (same_parts a c) (parts_are_same a c) e.0) (from_parts b d (same_parts b d) (parts_are_same b d) e.1)
-  parts_are_same (signal a b) (signal c d) h = let e = both _ _ h in same_signal (from_parts a c (same_parts a c) (parts_are_same a c) e.0) (from_parts b d (same_parts b d) (parts_are_same b d) e.1)
-  parts_are_same (for_all k t) (for_all j u) h = let e = both _ _ h in subst (λ j. SameTypes (for_all k t) (for_all j u)) (same_kind_is k j e.0) (same_for_all (from_parts t u (same_parts t u) (parts_are_same t u) e.1))
+  parts_are_same (scalar s v) (scalar r w) h = let e = and_parts _ _ h in subst (λ r. SameTypes (scalar s v) (scalar r w)) (same_sort_is s r e.0) (same_scalar (from_parts v w (same_parts v w) (parts_are_same v w) e.1))
+  parts_are_same (vector n t) (vector m u) h = let e = and_parts _ _ h in same_vector (from_parts n m (same_parts n m) (parts_are_same n m) e.0) (from_parts t u (same_parts t u) (parts_are_same t u) e.1)
+  parts_are_same (data_of d ts) (data_of k us) h = let e = and_parts _ _ h in subst (λ k. SameTypes (data_of d ts) (data_of k us)) (eqb-true d k e.0) (same_data (all_are_same ts us e.1))
+  parts_are_same (fun a b) (fun c d) h = let e = and_parts _ _ h in same_fun (from_parts a c (same_parts a c) (parts_are_same a c) e.0) (from_parts b d (same_parts b d) (parts_are_same b d) e.1)
+  parts_are_same (signal a b) (signal c d) h = let e = and_parts _ _ h in same_signal (from_parts a c (same_parts a c) (parts_are_same a c) e.0) (from_parts b d (same_parts b d) (parts_are_same b d) e.1)
+  parts_are_same (for_all k t) (for_all j u) h = let e = and_parts _ _ h in subst (λ j. SameTypes (for_all k t) (for_all j u)) (same_kind_is k j e.0) (same_for_all (from_parts t u (same_parts t u) (parts_are_same t u) e.1))
   parts_are_same _ _ h = absurd (cc)
 
   pub all_are_same : (ts us : TypeTrees) → same_all ts us ≡ true → SameAll ts us
   all_are_same no_types no_types h = same_none
-  all_are_same (type_and t ts) (type_and u us) h = let e = both _ _ h in same_and (from_parts t u (same_parts t u) (parts_are_same t u) e.0) (all_are_same ts us e.1)
+  all_are_same (type_and t ts) (type_and u us) h = let e = and_parts _ _ h in same_and (from_parts t u (same_parts t u) (parts_are_same t u) e.0) (all_are_same ts us e.1)
   all_are_same _ _ h = absurd (cc)
 
 pub found_is_same : (a b : TypeTree) → same_found a b ≡ true → SameTypes a b
@@ -113,7 +105,7 @@ unfolding same_from
 to_from a b parts n h = by (is_natural a && is_natural b) refl
   where
     by : (k : Bool) → (is_natural a && is_natural b) ≡ k → same_by k (same_sums (multiplied a) (multiplied b)) parts ≡ true
-    by true is = let w = both (is_natural a) (is_natural b) is in agreeing_sums (multiplied a) (multiplied b) (n w.0 w.1)
+    by true is = let w = and_parts (is_natural a) (is_natural b) is in agreeing_sums (multiplied a) (multiplied b) (n w.0 w.1)
     by false is = h is
 
 sum_naturals : (a b c d : TypeTree) → SameNaturals a c → SameNaturals b d → SameNaturals (nat_sum a b) (nat_sum c d)
@@ -130,8 +122,8 @@ mutual
 
   pub naturals_of_same : {a b : TypeTree} → SameTypes a b → is_natural a ≡ true → is_natural b ≡ true → SameNaturals a b
   naturals_of_same (same_naturals n m h) e f = h
-  naturals_of_same (same_sum {a} {b} {c} {d} h g) e f = let n = both _ _ e in let m = both _ _ f in sum_naturals a b c d (naturals_of_same h n.0 m.0) (naturals_of_same g n.1 m.1)
-  naturals_of_same (same_product {a} {b} {c} {d} h g) e f = let n = both _ _ e in let m = both _ _ f in product_naturals a b c d (naturals_of_same h n.0 m.0) (naturals_of_same g n.1 m.1)
+  naturals_of_same (same_sum {a} {b} {c} {d} h g) e f = let n = and_parts _ _ e in let m = and_parts _ _ f in sum_naturals a b c d (naturals_of_same h n.0 m.0) (naturals_of_same g n.1 m.1)
+  naturals_of_same (same_product {a} {b} {c} {d} h g) e f = let n = and_parts _ _ e in let m = and_parts _ _ f in product_naturals a b c d (naturals_of_same h n.0 m.0) (naturals_of_same g n.1 m.1)
   naturals_of_same same_domain e f = absurd (cc)
   naturals_of_same (same_scalar h) e f = absurd (cc)
   naturals_of_same (same_vector h g) e f = absurd (cc)
@@ -147,20 +139,20 @@ mutual
   unfolding same_parts
 
   pub parts_of_same : {a b : TypeTree} → SameTypes a b → (is_natural a && is_natural b) ≡ false → same_parts a b ≡ true
-  parts_of_same (same_naturals n m h) e = let w = together _ _ n m in absurd (cc)
-  parts_of_same (same_sum h g) e = together _ _ (by_parts h (parts_of_same h)) (by_parts g (parts_of_same g))
-  parts_of_same (same_product h g) e = together _ _ (by_parts h (parts_of_same h)) (by_parts g (parts_of_same g))
+  parts_of_same (same_naturals n m h) e = let w = and_from _ _ n m in absurd (cc)
+  parts_of_same (same_sum h g) e = and_from _ _ (by_parts h (parts_of_same h)) (by_parts g (parts_of_same g))
+  parts_of_same (same_product h g) e = and_from _ _ (by_parts h (parts_of_same h)) (by_parts g (parts_of_same g))
   parts_of_same (same_domain {d}) e = eq-eqb d d refl
-  parts_of_same (same_scalar {s} h) e = together _ _ (same_sort_self s) (by_parts h (parts_of_same h))
-  parts_of_same (same_vector h g) e = together _ _ (by_parts h (parts_of_same h)) (by_parts g (parts_of_same g))
-  parts_of_same (same_data {d} h) e = together _ _ (eq-eqb d d refl) (all_found h)
-  parts_of_same (same_fun h g) e = together _ _ (by_parts h (parts_of_same h)) (by_parts g (parts_of_same g))
-  parts_of_same (same_signal h g) e = together _ _ (by_parts h (parts_of_same h)) (by_parts g (parts_of_same g))
-  parts_of_same (same_for_all {k} h) e = together _ _ (same_kind_self k) (by_parts h (parts_of_same h))
+  parts_of_same (same_scalar {s} h) e = and_from _ _ (same_sort_self s) (by_parts h (parts_of_same h))
+  parts_of_same (same_vector h g) e = and_from _ _ (by_parts h (parts_of_same h)) (by_parts g (parts_of_same g))
+  parts_of_same (same_data {d} h) e = and_from _ _ (eq-eqb d d refl) (all_found h)
+  parts_of_same (same_fun h g) e = and_from _ _ (by_parts h (parts_of_same h)) (by_parts g (parts_of_same g))
+  parts_of_same (same_signal h g) e = and_from _ _ (by_parts h (parts_of_same h)) (by_parts g (parts_of_same g))
+  parts_of_same (same_for_all {k} h) e = and_from _ _ (same_kind_self k) (by_parts h (parts_of_same h))
 
   pub all_found : {ts us : TypeTrees} → SameAll ts us → same_all ts us ≡ true
   all_found same_none = refl
-  all_found (same_and h hs) = together _ _ (by_parts h (parts_of_same h)) (all_found hs)
+  all_found (same_and h hs) = and_from _ _ (by_parts h (parts_of_same h)) (all_found hs)
 
 pub same_is_found : {a b : TypeTree} → SameTypes a b → same_found a b ≡ true
 same_is_found h = by_parts h (parts_of_same h)

@@ -366,7 +366,3 @@ fewer_unknown datas rows top r l g = let w = data_there datas top l in known_cou
 
 pub found_unknown : (rows : List Row) (t : TypeTree) (d : ℕ) → unknown_in rows t ≡ Some d → is_unknown rows d ≡ true
 found_unknown rows t d e = (found_mentioned rows t d e).1
-
-pub nothing_left : (s : List ℕ) → length s ≡ 0 → s ≡ []
-nothing_left [] e = refl
-nothing_left (x ∷ s) e = absurd (omega arith)

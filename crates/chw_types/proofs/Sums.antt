@@ -1,18 +1,12 @@
 -- What is summed over a polynomial's summands goes by its coefficients alone.
 use Rattle.std.proofs.Common.{◌≡◌, ℕ, suc, zero, ◌+◌, ◌*◌, ◌≤◌, Bool, true, false, ◌&&◌, refl, sym, ap, ◌∙◌, subst, [], ◌∷◌, ◌++◌, length, min, eqb, leb, arith, add_assoc, zero-add}
-use Rattle.std.proofs.lemmas.Bool.{eqb-true, eq-eqb}
-use Rattle.std.proofs.lemmas.Bool.{leb-true, leb-false}
+use Rattle.std.proofs.lemmas.Bool.{and_parts, eqb-true, eq-eqb, leb-true, leb-false}
 use Rattle.std.proofs.Math.Nat.{le-mul_of_pos_right}
 use Rattle.chw_types.specs.Polynomials.{Monomial, times, same_factors, Summands, by_one, by_each, counted, coefficient}
 
-both : (a b : Bool) → (a && b) ≡ true → (a ≡ true) × (b ≡ true)
-both true true h = (refl, refl)
-both true false h = absurd (cc)
-both false b h = absurd (cc)
-
 pub same_factors_is : (m n : Monomial) → same_factors m n ≡ true → m ≡ n
 same_factors_is [] [] h = refl
-same_factors_is (x ∷ m) (y ∷ n) h = let e = both (eqb x y) (same_factors m n) h in λ i. eqb-true x y e.0 i ∷ same_factors_is m n e.1 i
+same_factors_is (x ∷ m) (y ∷ n) h = let e = and_parts (eqb x y) (same_factors m n) h in λ i. eqb-true x y e.0 i ∷ same_factors_is m n e.1 i
 same_factors_is _ _ h = absurd (cc)
 
 pub same_factors_self : (m : Monomial) → same_factors m m ≡ true

@@ -1,8 +1,10 @@
--- How much there is of a closed type when its data types are unfolded: each field with the arguments put in weighs less.
-use Rattle.std.proofs.Common.{◌≡◌, ℕ, suc, zero, ◌+◌, ◌<◌, ◌≤◌, inl, inr, refl, sym, ap, subst, ◌∙◌, List, [], ◌∷◌, ◌++◌, length, map, arith}
+-- How much there is of a closed type when its data types are unfolded: the element of a vector weighs less, and so does each field
+-- with the arguments put in.
+use Rattle.std.proofs.Common.{◌≡◌, ℕ, suc, zero, ◌+◌, ◌<◌, ◌≤◌, inl, inr, refl, sym, ap, ◌∙◌, List, [], ◌∷◌, ◌++◌, length, map, arith}
 use Rattle.std.specs.Prelude.{reverse, Option, Some, None}
 use Rattle.std.specs.List.{slice_get}
 use Rattle.std.proofs.lemmas.List.{reverse-append, map-append}
+use Rattle.std.proofs.lemmas.Option.{slice_get_within}
 use Rattle.chw_types.specs.declared.declarations.Data.{Data}
 use Rattle.chw_types.specs.TypeTree.{TypeTree, ty_var, nat_lit, nat_sum, nat_product, domain, scalar, vector, data_of, fun, signal, for_all, TypeTrees, no_types, type_and}
 use Rattle.chw_types.specs.TypeMoves.{Substitution, sub, sub_all}
@@ -13,6 +15,7 @@ unfoldable mutual
   -- from the weights of data types, by those of their arguments, and of variables
   pub weight : (ℕ → List ℕ → ℕ) → (ℕ → ℕ) → TypeTree → ℕ
   weight W ρ (ty_var x) = ρ x
+  weight W ρ (vector n t) = suc (weight W ρ t)
   weight W ρ (data_of d ts) = suc (W d (weights W ρ ts))
   weight W ρ _ = 0
 
@@ -58,7 +61,7 @@ mutual
   weight_put W ρ (nat_product a b) σ = refl
   weight_put W ρ (domain d) σ = refl
   weight_put W ρ (scalar s w) σ = refl
-  weight_put W ρ (vector n t) σ = refl
+  weight_put W ρ (vector n t) σ = ap suc (weight_put W ρ t σ)
   weight_put W ρ (fun a b) σ = refl
   weight_put W ρ (signal a b) σ = refl
   weight_put W ρ (for_all k t) σ = refl
@@ -72,7 +75,7 @@ unfolding weight
 weights_list W ρ no_types = refl
 weights_list W ρ (type_and t ts) = ap (λ ws. weight W ρ t ∷ ws) (weights_list W ρ ts)
 
-reverse_map : (f : TypeTree → ℕ) (ts : List TypeTree) → reverse (map f ts) ≡ map f (reverse ts)
+pub reverse_map : {X : Type 0} (f : TypeTree → X) (ts : List TypeTree) → reverse (map f ts) ≡ map f (reverse ts)
 reverse_map f [] = refl
 reverse_map f (t ∷ ts) =
     reverse-append (f t ∷ []) (map f ts) ∙ ap (λ us. us ++ f t ∷ []) (reverse_map f ts) ∙ sym (map-append f (reverse ts) (t ∷ [])) ∙ ap (map f) (sym (reverse-append (t ∷ []) ts))
@@ -101,7 +104,7 @@ mutual
   same_weight W V ρ (nat_product a b) h = refl
   same_weight W V ρ (domain d) h = refl
   same_weight W V ρ (scalar s w) h = refl
-  same_weight W V ρ (vector n t) h = refl
+  same_weight W V ρ (vector n t) h = ap suc (same_weight W V ρ t (λ e m. h e (inr m)))
   same_weight W V ρ (fun a b) h = refl
   same_weight W V ρ (signal a b) h = refl
   same_weight W V ρ (for_all k t) h = refl
@@ -114,18 +117,13 @@ same_fields : (W V : ℕ → List ℕ → ℕ) (ρ : ℕ → ℕ) (fs : List Typ
 same_fields W V ρ [] h = refl
 same_fields W V ρ (f ∷ fs) h = λ i. suc (same_weight W V ρ f (λ e m. h e (inl m)) i) + same_fields W V ρ fs (λ e m. h e (inr m)) i
 
-got_within : (datas : List Data) (d : ℕ) (it : Data) → slice_get datas d ≡ Some it → d < length datas
-got_within [] d it e = absurd (cc)
-got_within (x ∷ datas) zero it e = omega arith
-got_within (x ∷ datas) (suc d) it e = let w = got_within datas d it e in omega arith
-
 no_fields : (datas : List Data) (d : ℕ) (o : Option Data) → slice_get datas d ≡ o → (d < length datas → ⊥) → fields_in o ≡ []
 no_fields datas d None e h = refl
-no_fields datas d (Some it) e h = absurd (h (got_within datas d it e))
+no_fields datas d (Some it) e h = absurd (h (slice_get_within datas d it e))
 
 mentioned_by : (datas : List Data) (order : HasNoCycle datas) (d e : ℕ) (o : Option Data) → slice_get datas d ≡ o → MentionedIn (fields_in o) e → e < length datas → (order.place e < order.place d) × (d < length datas)
 mentioned_by datas order d e None is m l = absurd m
-mentioned_by datas order d e (Some it) is m l = (order.earlier d e l (it, is, m), got_within datas d it is)
+mentioned_by datas order d e (Some it) is m l = (order.earlier d e l (it, is, m), slice_get_within datas d it is)
 
 -- unfolding once more than the place says changes nothing
 stable : (datas : List Data) (order : HasNoCycle datas) (n d : ℕ) → (d < length datas → order.place d < n) → (ws : List ℕ) → data_weight datas n d ws ≡ data_weight datas (suc n) d ws
@@ -165,3 +163,8 @@ all_whole_reverse datas (t ∷ ts) =
   where
     plus : (a b : ℕ) → b + (suc a + 0) ≡ suc a + b
     plus a b = omega arith
+
+-- what a vector weighs
+pub whole_vector : (datas : List Data) (n t : TypeTree) → whole datas (vector n t) ≡ suc (whole datas t)
+unfolding weight
+whole_vector datas n t = refl

@@ -24,3 +24,4 @@ pub mod TypeSize
 pub mod TypeText
 pub mod TypeTree
 pub mod TypeView
+pub mod Forms

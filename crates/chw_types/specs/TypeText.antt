@@ -55,6 +55,17 @@ scalar_text U = codes "Unsigned"
 scalar_text S = codes "Signed"
 scalar_text B = codes "BitVector"
 
+-- of a type of two parts, from the texts of the parts
+abbrev pub pair_text : TypeTree → List ℕ → List ℕ → List ℕ
+pair_text (nat_sum a b) left right = placed 1 a left ++ codes " + " ++ placed 2 b right
+pair_text (nat_product a b) left right = placed 2 a left ++ codes " * " ++ placed 3 b right
+pair_text (vector n t) left right =
+    (codes "Vec" ++ codes " " ++ placed 4 n left) ++ codes " " ++ placed 4 t right
+pair_text (fun a b) left right = placed 1 a left ++ codes " -> " ++ right
+pair_text (signal d t) left right =
+    (codes "Signal" ++ codes " " ++ placed 4 d left) ++ codes " " ++ placed 4 t right
+pair_text _ left right = left
+
 unfoldable mutual
   -- the text of a type under so many binders, over these data types and domains' names
   pub text_under : List Data → List (List ℕ) → ℕ → TypeTree → List ℕ

@@ -4,7 +4,7 @@ ghost use Rattle.chw_types.specs.Arguments.{given, arguments};
 ghost use Rattle.chw_types.specs.TypeMoves.{sub, up_by};
 ghost use Rattle.chw_types.specs.TypeView.{trees_of};
 
-use crate::kind::Scalar;
+use crate::forms::{pair_like, sort_of};
 use crate::moves::{raise, shift};
 use crate::ty::{Ty, TyNode};
 use chw_base::{NoMemory, TyIx};
@@ -37,29 +37,27 @@ fn fill_var(alloc: Global, x: TyIx, under: u32, args: &[Ty]) -> Result<Ty, NoMem
     }
 }
 
-// The type under so many binders.
+// The type with these put for its variables from `under` on.
 #[tactic(auto, unfolding(crate::specs::TypeMoves::sub))]
-fn fill(alloc: Global, t: &Ty, under: u32, args: &[Ty]) -> Result<Ty, NoMemory>
+pub(crate) fn fill(alloc: Global, t: &Ty, under: u32, args: &[Ty]) -> Result<Ty, NoMemory>
     ensures { IfOk result (λ r. r ≡ sub t.now (up_by under (given (reverse args.now)))) }
 {
     match &t.node {
-        TyNode::Var(x) => fill_var(alloc, *x, under, args),
+        TyNode::Var(x) => Ok(fill_var(alloc, *x, under, args)?),
         TyNode::NatLit(n) => Ok(Ty::nat(*n)),
-        TyNode::Sum(a, b) => {
-            let a = fill(alloc, a, under, args)?;
-            Ok(Ty::sum(alloc, a, fill(alloc, b, under, args)?)?)
-        }
-        TyNode::Times(a, b) => {
-            let a = fill(alloc, a, under, args)?;
-            Ok(Ty::times(alloc, a, fill(alloc, b, under, args)?)?)
-        }
         TyNode::DomOf(d) => Ok(Ty::dom_of(*d)),
-        TyNode::Unsigned(w) => Ty::scalar(alloc, Scalar::U, fill(alloc, w, under, args)?),
-        TyNode::Signed(w) => Ty::scalar(alloc, Scalar::S, fill(alloc, w, under, args)?),
-        TyNode::BitVector(w) => Ty::scalar(alloc, Scalar::B, fill(alloc, w, under, args)?),
-        TyNode::Vec(n, t) => {
-            let n = fill(alloc, n, under, args)?;
-            Ok(Ty::vec(alloc, n, fill(alloc, t, under, args)?)?)
+        TyNode::Unsigned(w) | TyNode::Signed(w) | TyNode::BitVector(w) => {
+            let w = fill(alloc, w, under, args)?;
+            Ok(Ty::scalar(alloc, sort_of(t), w)?)
+        }
+        TyNode::Sum(a, b)
+        | TyNode::Times(a, b)
+        | TyNode::Vec(a, b)
+        | TyNode::Fun(a, b)
+        | TyNode::Signal(a, b) => {
+            let a = fill(alloc, a, under, args)?;
+            let b = fill(alloc, b, under, args)?;
+            Ok(pair_like(alloc, t, a, b)?)
         }
         TyNode::DataOf(d, parts) => {
             let mut done = Vec::new(alloc);
@@ -67,14 +65,6 @@ fn fill(alloc: Global, t: &Ty, under: u32, args: &[Ty]) -> Result<Ty, NoMemory>
                 done.push(fill(alloc, part, under, args)?)?;
             }
             Ok(Ty::data_of(*d, done))
-        }
-        TyNode::Fun(a, b) => {
-            let a = fill(alloc, a, under, args)?;
-            Ok(Ty::fun(alloc, a, fill(alloc, b, under, args)?)?)
-        }
-        TyNode::Signal(d, t) => {
-            let d = fill(alloc, d, under, args)?;
-            Ok(Ty::signal(alloc, d, fill(alloc, t, under, args)?)?)
         }
         TyNode::Forall(k, t) => {
             let inner = raise(under, 1)?;

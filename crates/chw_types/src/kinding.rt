@@ -38,22 +38,16 @@ fn kind_in(t: &Ty, scope: &Scope, datas: &[Data], domains: &[Name]) -> Option<Ki
     match &t.node {
         TyNode::Var(at) => scope.at(at.number),
         TyNode::NatLit(_) => Some(Kind::Nat),
-        TyNode::Sum(a, b) => {
-            let small = degree(t) <= MOST_DEGREE;
-            let a = kind_in(a, &*scope, datas, domains);
-            let b = kind_in(b, &*scope, datas, domains);
-            natural_kind(small, a, b)
-        }
-        TyNode::Times(a, b) => {
+        TyNode::Sum(a, b) | TyNode::Times(a, b) => {
             let small = degree(t) <= MOST_DEGREE;
             let a = kind_in(a, &*scope, datas, domains);
             let b = kind_in(b, &*scope, datas, domains);
             natural_kind(small, a, b)
         }
         TyNode::DomOf(at) => domain_kind((at.number as usize) < domains.len()),
-        TyNode::Unsigned(w) => scalar_kind(kind_in(w, &*scope, datas, domains)),
-        TyNode::Signed(w) => scalar_kind(kind_in(w, &*scope, datas, domains)),
-        TyNode::BitVector(w) => scalar_kind(kind_in(w, &*scope, datas, domains)),
+        TyNode::Unsigned(w) | TyNode::Signed(w) | TyNode::BitVector(w) => {
+            scalar_kind(kind_in(w, &*scope, datas, domains))
+        }
         TyNode::Vec(n, t) => {
             let n = kind_in(n, &*scope, datas, domains);
             let t = kind_in(t, &*scope, datas, domains);

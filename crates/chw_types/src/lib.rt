@@ -1,9 +1,10 @@
-//! Kinds and types of descriptions, and the types of the primitives. Contracts see a type as a plain tree, and all later promises about
-//! types are made over these trees.
+//! Kinds and types of descriptions: which types have kinds, which are the same, and which are ports. Contracts see a type as a plain
+//! tree, and all later promises about types are made over these trees.
 #![tactic(auto)]
 
 pub mod arguments;
 pub mod declarations;
+mod forms;
 pub mod kind;
 pub mod kinding;
 pub mod laws;
@@ -22,7 +23,7 @@ pub use declarations::{ConDecl, Data};
 pub use kind::{Kind, Scalar};
 pub use kinding::{KindFault, kind_of};
 pub use moves::{put_type, shift_type};
-pub use ports::{Leaf, leaves};
+pub use ports::{Leaf, leaves, product_fields, push_fields};
 pub use representation::representable;
 pub use sameness::same;
 pub use text::type_text;

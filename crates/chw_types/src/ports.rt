@@ -105,8 +105,8 @@ fn look_at_signal(
     Ok(true)
 }
 
-// The fields of a data type of one constructor with at least one field.
-fn product_fields(datas: &[Data], at: u32, args: usize) -> Option<&[Ty]>
+/// The fields of a data type of one constructor with at least one field, where it has this number of parameters.
+pub fn product_fields(datas: &[Data], at: u32, args: usize) -> Option<&[Ty]>
     ensures some { IfSome result (λ fs. IsProduct datas.now at args fs.now) }
     ensures none { IfNone result (IsNoProduct datas.now at args) }
 {
@@ -122,8 +122,8 @@ fn product_fields(datas: &[Data], at: u32, args: usize) -> Option<&[Ty]>
     Some(fields)
 }
 
-// Puts the fields with the arguments put in on the list, the first field last.
-fn push_fields(
+/// Puts the fields with the arguments put in on the list, the first field last.
+pub fn push_fields(
     alloc: Global,
     fields: &[Ty],
     args: &[Ty],
@@ -131,8 +131,7 @@ fn push_fields(
 ) -> Result<(), NoMemory>
     ensures { OnOk result (todo.new.items ≡ todo.old.items ++ map (λ f. sub f (arguments (trees_of args.now))) (reverse fields.now)) }
 {
-    for i in 0..fields.len() {
-        let field = &fields[fields.len() - 1 - i];
+    for field in fields.iter().rev() {
         todo.push(put_arguments(alloc, field, args)?)?;
     }
     Ok(())

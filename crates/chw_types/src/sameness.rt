@@ -1,6 +1,6 @@
 //! Whether two types are the same.
 ghost use Rattle.std.specs.Prelude.{◌≡◌, ◌↔◌, IsTrue, IfOk};
-ghost use Rattle.chw_types.specs.Polynomials.{is_natural, multiplied};
+ghost use Rattle.chw_types.specs.Polynomials.{multiplied};
 ghost use Rattle.chw_types.specs.SameFound.{same_sums, same_found, same_kind};
 ghost use Rattle.chw_types.specs.SameTypes.{SameTypes};
 
@@ -15,20 +15,6 @@ pub fn same(alloc: Global, a: &Ty, b: &Ty) -> Result<bool, NoMemory>
     ensures { IfOk result (λ r. IsTrue r ↔ SameTypes a.now b.now) }
 {
     Ok(same_in(alloc, a, b)?)
-}
-
-// Whether a type has only variables, numerals, sums and products.
-#[tactic(auto, unfolding(crate::specs::Polynomials::is_natural))]
-fn is_natural(t: &Ty) -> bool
-    ensures { result ≡ is_natural t.now }
-{
-    match &t.node {
-        TyNode::Var(_) => true,
-        TyNode::NatLit(_) => true,
-        TyNode::Sum(a, b) => is_natural(a) && is_natural(b),
-        TyNode::Times(a, b) => is_natural(a) && is_natural(b),
-        _ => false,
-    }
 }
 
 // Whether two naturals are one polynomial.
@@ -50,22 +36,20 @@ fn same_kind(a: Kind, b: Kind) -> bool
 fn same_in(alloc: Global, a: &Ty, b: &Ty) -> Result<bool, NoMemory>
     ensures { IfOk result (λ r. r ≡ same_found a.now b.now) }
 {
-    if is_natural(a) && is_natural(b) {
+    if a.is_natural() && b.is_natural() {
         return Ok(same_naturals(alloc, a, b)?);
     }
     match (&a.node, &b.node) {
-        (TyNode::Sum(c, d), TyNode::Sum(e, f)) => {
-            Ok(same_in(alloc, c, e)? && same_in(alloc, d, f)?)
-        }
-        (TyNode::Times(c, d), TyNode::Times(e, f)) => {
-            Ok(same_in(alloc, c, e)? && same_in(alloc, d, f)?)
-        }
         (TyNode::DomOf(d), TyNode::DomOf(e)) => Ok(d.number == e.number),
-        (TyNode::Unsigned(v), TyNode::Unsigned(w)) => Ok(same_in(alloc, v, w)?),
-        (TyNode::Signed(v), TyNode::Signed(w)) => Ok(same_in(alloc, v, w)?),
-        (TyNode::BitVector(v), TyNode::BitVector(w)) => Ok(same_in(alloc, v, w)?),
-        (TyNode::Vec(n, t), TyNode::Vec(m, u)) => {
-            Ok(same_in(alloc, n, m)? && same_in(alloc, t, u)?)
+        (TyNode::Unsigned(v), TyNode::Unsigned(w))
+        | (TyNode::Signed(v), TyNode::Signed(w))
+        | (TyNode::BitVector(v), TyNode::BitVector(w)) => Ok(same_in(alloc, v, w)?),
+        (TyNode::Sum(c, d), TyNode::Sum(e, f))
+        | (TyNode::Times(c, d), TyNode::Times(e, f))
+        | (TyNode::Vec(c, d), TyNode::Vec(e, f))
+        | (TyNode::Fun(c, d), TyNode::Fun(e, f))
+        | (TyNode::Signal(c, d), TyNode::Signal(e, f)) => {
+            Ok(same_in(alloc, c, e)? && same_in(alloc, d, f)?)
         }
         (TyNode::DataOf(d, ts), TyNode::DataOf(e, us)) => {
             if d.number != e.number {
@@ -80,12 +64,6 @@ fn same_in(alloc: Global, a: &Ty, b: &Ty) -> Result<bool, NoMemory>
                 }
             }
             Ok(true)
-        }
-        (TyNode::Fun(c, d), TyNode::Fun(e, f)) => {
-            Ok(same_in(alloc, c, e)? && same_in(alloc, d, f)?)
-        }
-        (TyNode::Signal(c, d), TyNode::Signal(e, f)) => {
-            Ok(same_in(alloc, c, e)? && same_in(alloc, d, f)?)
         }
         (TyNode::Forall(k, t), TyNode::Forall(j, u)) => {
             Ok(same_kind(*k, *j) && same_in(alloc, t, u)?)

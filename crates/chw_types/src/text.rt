@@ -1,9 +1,10 @@
 //! The text of a type.
 ghost use Rattle.std.specs.Prelude.{◌≡◌, ◌+◌, ◌++◌, codes, decimal, IfOk};
 ghost use Rattle.std.specs.List.{slice_get};
-ghost use Rattle.chw_types.specs.TypeText.{tightness, grouped, variable_text, domain_text, data_text, kind_text, scalar_text, text_under, type_text};
+ghost use Rattle.chw_types.specs.TypeText.{tightness, grouped, placed, pair_text, variable_text, domain_text, data_text, kind_text, scalar_text, text_under, type_text};
 
 use crate::declarations::Data;
+use crate::forms::sort_of;
 use crate::kind::{Kind, Scalar};
 use crate::ty::{Ty, TyNode};
 use chw_base::{Name, NoMemory};
@@ -139,6 +140,60 @@ fn binder_text(alloc: Global, under: u32, kind: Kind) -> Result<Vec<u8>, NoMemor
     joined(open, b" : ", &kind)
 }
 
+// A type's text, in parentheses where it holds together less tightly than this.
+fn placed(alloc: Global, t: &Ty, least: u32, text: Vec<u8>) -> Result<Vec<u8>, NoMemory>
+    ensures { IfOk result (λ r. r.items ≡ placed least t.now text.items) }
+{
+    Ok(grouped(alloc, tightness(t) < least, text)?)
+}
+
+// A word and the texts of two types that it is applied to.
+fn applied(
+    alloc: Global,
+    word: &[u8],
+    a: &Ty,
+    left: Vec<u8>,
+    b: &Ty,
+    right: Vec<u8>,
+) -> Result<Vec<u8>, NoMemory>
+    ensures { IfOk result (λ r. r.items ≡ (word.now ++ codes " " ++ placed 4 a.now left.items) ++ codes " " ++ placed 4 b.now right.items) }
+{
+    let left = placed(alloc, a, 4, left)?;
+    let right = placed(alloc, b, 4, right)?;
+    let text = joined(Vec::from_slice(alloc, word)?, b" ", &left)?;
+    Ok(joined(text, b" ", &right)?)
+}
+
+// The text of a type of two parts, from the texts of the parts.
+fn pair_text(
+    alloc: Global,
+    t: &Ty,
+    left: Vec<u8>,
+    right: Vec<u8>,
+) -> Result<Vec<u8>, NoMemory>
+    ensures { IfOk result (λ r. r.items ≡ pair_text t.now left.items right.items) }
+{
+    match &t.node {
+        TyNode::Sum(a, b) => {
+            let left = placed(alloc, a, 1, left)?;
+            let right = placed(alloc, b, 2, right)?;
+            Ok(joined(left, b" + ", &right)?)
+        }
+        TyNode::Times(a, b) => {
+            let left = placed(alloc, a, 2, left)?;
+            let right = placed(alloc, b, 3, right)?;
+            Ok(joined(left, b" * ", &right)?)
+        }
+        TyNode::Vec(n, t) => Ok(applied(alloc, b"Vec", n, left, t, right)?),
+        TyNode::Fun(a, _) => {
+            let left = placed(alloc, a, 1, left)?;
+            Ok(joined(left, b" -> ", &right)?)
+        }
+        TyNode::Signal(d, t) => Ok(applied(alloc, b"Signal", d, left, t, right)?),
+        _ => Ok(left),
+    }
+}
+
 #[tactic(auto, unfolding(crate::specs::TypeText::text_under))]
 fn text_under(
     alloc: Global,
@@ -152,66 +207,29 @@ fn text_under(
     match &t.node {
         TyNode::Var(x) => Ok(variable_text(alloc, under, x.number)?),
         TyNode::NatLit(n) => Ok(numbered(alloc, b"", *n)?),
-        TyNode::Sum(a, b) => {
-            let left = text_under(alloc, a, under, datas, domains)?;
-            let left = grouped(alloc, tightness(a) < 1, left)?;
-            let right = text_under(alloc, b, under, datas, domains)?;
-            let right = grouped(alloc, tightness(b) < 2, right)?;
-            Ok(joined(left, b" + ", &right)?)
-        }
-        TyNode::Times(a, b) => {
-            let left = text_under(alloc, a, under, datas, domains)?;
-            let left = grouped(alloc, tightness(a) < 2, left)?;
-            let right = text_under(alloc, b, under, datas, domains)?;
-            let right = grouped(alloc, tightness(b) < 3, right)?;
-            Ok(joined(left, b" * ", &right)?)
-        }
         TyNode::DomOf(d) => Ok(domain_text(alloc, domains, d.number)?),
-        TyNode::Unsigned(w) => {
+        TyNode::Unsigned(w) | TyNode::Signed(w) | TyNode::BitVector(w) => {
             let width = text_under(alloc, w, under, datas, domains)?;
-            let width = grouped(alloc, tightness(w) < 4, width)?;
-            Ok(joined(scalar_text(alloc, Scalar::U)?, b" ", &width)?)
+            let width = placed(alloc, w, 4, width)?;
+            Ok(joined(scalar_text(alloc, sort_of(t))?, b" ", &width)?)
         }
-        TyNode::Signed(w) => {
-            let width = text_under(alloc, w, under, datas, domains)?;
-            let width = grouped(alloc, tightness(w) < 4, width)?;
-            Ok(joined(scalar_text(alloc, Scalar::S)?, b" ", &width)?)
-        }
-        TyNode::BitVector(w) => {
-            let width = text_under(alloc, w, under, datas, domains)?;
-            let width = grouped(alloc, tightness(w) < 4, width)?;
-            Ok(joined(scalar_text(alloc, Scalar::B)?, b" ", &width)?)
-        }
-        TyNode::Vec(n, t) => {
-            let len = text_under(alloc, n, under, datas, domains)?;
-            let len = grouped(alloc, tightness(n) < 4, len)?;
-            let of = text_under(alloc, t, under, datas, domains)?;
-            let of = grouped(alloc, tightness(t) < 4, of)?;
-            let text = joined(Vec::from_slice(alloc, b"Vec")?, b" ", &len)?;
-            Ok(joined(text, b" ", &of)?)
+        TyNode::Sum(a, b)
+        | TyNode::Times(a, b)
+        | TyNode::Vec(a, b)
+        | TyNode::Fun(a, b)
+        | TyNode::Signal(a, b) => {
+            let left = text_under(alloc, a, under, datas, domains)?;
+            let right = text_under(alloc, b, under, datas, domains)?;
+            Ok(pair_text(alloc, t, left, right)?)
         }
         TyNode::DataOf(d, args) => {
             let mut text = data_text(alloc, datas, d.number)?;
             for arg in args {
                 let more = text_under(alloc, arg, under, datas, domains)?;
-                let more = grouped(alloc, tightness(arg) < 4, more)?;
+                let more = placed(alloc, arg, 4, more)?;
                 text = joined(text, b" ", &more)?;
             }
             Ok(text)
-        }
-        TyNode::Fun(a, b) => {
-            let left = text_under(alloc, a, under, datas, domains)?;
-            let left = grouped(alloc, tightness(a) < 1, left)?;
-            let right = text_under(alloc, b, under, datas, domains)?;
-            Ok(joined(left, b" -> ", &right)?)
-        }
-        TyNode::Signal(d, t) => {
-            let dom = text_under(alloc, d, under, datas, domains)?;
-            let dom = grouped(alloc, tightness(d) < 4, dom)?;
-            let of = text_under(alloc, t, under, datas, domains)?;
-            let of = grouped(alloc, tightness(t) < 4, of)?;
-            let text = joined(Vec::from_slice(alloc, b"Signal")?, b" ", &dom)?;
-            Ok(joined(text, b" ", &of)?)
         }
         TyNode::Forall(k, t) => {
             let binder = binder_text(alloc, under, *k)?;

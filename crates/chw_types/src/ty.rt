@@ -2,8 +2,10 @@
 ghost use Rattle.std.specs.Prelude.{◌≡◌, IfOk};
 ghost use Rattle.chw_types.specs.TypeTree.{ty_var, nat_lit, nat_sum, nat_product, domain, scalar, vector, data_of, fun, signal, for_all};
 ghost use Rattle.chw_types.specs.TypeView.{trees_of};
+ghost use Rattle.chw_types.specs.Polynomials.{is_natural};
 
 use crate::kind::{Kind, Scalar};
+use crate::moves::shift;
 use chw_base::{DataId, DomId, NoMemory, TyIx};
 use std::alloc::Global;
 use std::marker::Model;
@@ -165,30 +167,25 @@ impl Ty {
         })
     }
 
+    /// Whether a type has only variables, numerals, sums and products.
+    #[tactic(auto, unfolding(crate::specs::Polynomials::is_natural))]
+    pub fn is_natural(&self) -> bool
+        ensures { result ≡ is_natural self.now }
+    {
+        match &self.node {
+            TyNode::Var(_) => true,
+            TyNode::NatLit(_) => true,
+            TyNode::Sum(a, b) => a.is_natural() && b.is_natural(),
+            TyNode::Times(a, b) => a.is_natural() && b.is_natural(),
+            _ => false,
+        }
+    }
+
     /// The same type once more.
+    #[tactic(auto, using(crate::proofs::TypeLaws::rename_by_none))]
     pub fn copy(&self, alloc: Global) -> Result<Ty, NoMemory>
         ensures { IfOk result (λ t. t ≡ self.now) }
     {
-        match &self.node {
-            TyNode::Var(at) => Ok(Ty::var(*at)),
-            TyNode::NatLit(n) => Ok(Ty::nat(*n)),
-            TyNode::Sum(a, b) => Ty::sum(alloc, a.copy(alloc)?, b.copy(alloc)?),
-            TyNode::Times(a, b) => Ty::times(alloc, a.copy(alloc)?, b.copy(alloc)?),
-            TyNode::DomOf(at) => Ok(Ty::dom_of(*at)),
-            TyNode::Unsigned(w) => Ty::scalar(alloc, Scalar::U, w.copy(alloc)?),
-            TyNode::Signed(w) => Ty::scalar(alloc, Scalar::S, w.copy(alloc)?),
-            TyNode::BitVector(w) => Ty::scalar(alloc, Scalar::B, w.copy(alloc)?),
-            TyNode::Vec(n, t) => Ty::vec(alloc, n.copy(alloc)?, t.copy(alloc)?),
-            TyNode::DataOf(at, args) => {
-                let mut copies = Vec::new(alloc);
-                for t in args {
-                    copies.push(t.copy(alloc)?)?;
-                }
-                Ok(Ty::data_of(*at, copies))
-            }
-            TyNode::Fun(a, b) => Ty::fun(alloc, a.copy(alloc)?, b.copy(alloc)?),
-            TyNode::Signal(d, t) => Ty::signal(alloc, d.copy(alloc)?, t.copy(alloc)?),
-            TyNode::Forall(k, t) => Ty::forall(alloc, *k, t.copy(alloc)?),
-        }
+        Ok(shift(alloc, self, 0, 0)?)
     }
 }

@@ -19,6 +19,6 @@ pub returns-in_ok-forall-in-Forall : goal.returns-in_ok-forall-in-Forall
 returns-in_ok-forall-in-Forall t c =
     let σ = given (reverse c.args.args.now) in
     c.in_ok-forall-in-Forall.ensures
-    ∙ fill_for_all c.args.under σ c.in-Forall.k c.in-Forall.t.value c.in_ok-t-in-Forall.t (c.in_ok-t-in-Forall.ensures ∙ (λ i. sub (c.deref-in-Forall.ensures i) (up_by (c.in_ok-inner-in-Forall.ensures i) σ)))
+    ∙ fill_for_all c.args.under σ c.in-Forall.k c.in-Forall.t.value c.in_ok-t-in-Forall.t (c.in_ok-t-in-Forall.ensures ∙ (λ i. sub (c.deref.ensures i) (up_by (c.in_ok-inner-in-Forall.ensures i) σ)))
     ∙ ap (λ n. sub (tree_of n) (up_by c.args.under σ)) (sym c.in-Forall.is)
     ∙ ap (λ t. sub t (up_by c.args.under σ)) c.t.view_is

@@ -21,12 +21,12 @@ returns-then-not-is_kind t c =
     (ap tree_of (sym c.in-DataOf.is) ∙ c.t.view_is) c.in-Some.ensures.lookup.0 c.in-Some.ensures.lookup.1
     ((λ i. are_kinds c.args.datas.now (length c.args.domains.now) c.args.scope.now (trees_of (sym same i)) (sym c.as_slice-params.ensures i))
     ∙ args_wrong _ _ _ c.deref-arg-items.result.now c.as_slice-params.result.now c.loop-i.i c.arg-item.result _ _ _ (omega arith) (omega arith) c.arg-item.is refl
-    c.is_kind.ensures c.kind_in-in-loop-i.ensures c.if-not-is_kind.true c.loop-i.invariant)
+    c.is_kind.ensures c.kind_in.ensures c.if-not-is_kind.true c.loop-i.invariant)
 
 pub loop-i-preserved : goal.loop-i-preserved
 loop-i-preserved t c =
     args_right _ _ _ c.deref-arg-items.result.now c.as_slice-params.result.now c.loop-i.i c.arg-item.result _ _ _ (omega arith) (omega arith) c.arg-item.is refl
-    c.is_kind.ensures c.kind_in-in-loop-i.ensures c.if-not-is_kind.false c.loop-i.invariant
+    c.is_kind.ensures c.kind_in.ensures c.if-not-is_kind.false c.loop-i.invariant
 
 pub returns-after-loop-i : goal.returns-after-loop-i
 returns-after-loop-i t c =

@@ -15,6 +15,6 @@ returns-after-loop-arg t c =
 pub returns-in_ok-forall-in-Forall : goal.returns-in_ok-forall-in-Forall
 returns-in_ok-forall-in-Forall t c =
     c.in_ok-forall-in-Forall.ensures
-    ∙ shift_for_all c.args.from c.args.by c.in-Forall.k c.in-Forall.t.value c.in_ok-t-in-Forall.t (c.in_ok-t-in-Forall.ensures ∙ (λ i. shift (c.deref-in-Forall.ensures i) (c.in_ok-inner-in-Forall.ensures i) c.args.by))
+    ∙ shift_for_all c.args.from c.args.by c.in-Forall.k c.in-Forall.t.value c.in_ok-t-in-Forall.t (c.in_ok-t-in-Forall.ensures ∙ (λ i. shift (c.deref.ensures i) (c.in_ok-inner-in-Forall.ensures i) c.args.by))
     ∙ ap (λ n. shift (tree_of n) c.args.from c.args.by) (sym c.in-Forall.is)
     ∙ ap (λ t. shift t c.args.from c.args.by) c.t.view_is

@@ -1,13 +1,13 @@
 use Rattle.std.proofs.Common.{◌≡◌, ◌+◌, ◌*◌, ◌<◌, ◌++◌, ◌∷◌, length, arith, sym, ap, ◌∙◌, subst, refl, []}
 use Rattle.std.specs.Prelude.{reverse, Some, None}
 use Rattle.std.specs.List.{slice_get}
-use Rattle.std.proofs.lemmas.List.{length-append}
+use Rattle.std.proofs.lemmas.List.{length-append, nil_from_length}
 use Rattle.chw_types.specs.declared.declarations.Data.{Data}
 use Rattle.chw_types.specs.Arguments.{all_fields}
 use Rattle.chw_types.specs.References.{HasNoCycle}
 use Rattle.chw_types.specs.RowsFound.{unknown_rows, unknown_among}
 use Rattle.chw_types.specs.RowsRight.{IsRowOf}
-use Rattle.chw_types.proofs.Settling.{Working, first_below, began, top_below, top_has_row, next_unknown, next_below, went_on, went_back, fewer_unknown, opened_count, ended, nothing_left}
+use Rattle.chw_types.proofs.Settling.{Working, first_below, began, top_below, top_has_row, next_unknown, next_below, went_on, went_back, fewer_unknown, opened_count, ended}
 use Rattle.chw_types.proofs.rows.settle_from.Goals as goal
 
 pub set_row-requires : goal.set_row-requires
@@ -71,4 +71,4 @@ loop-top-smaller-in-Some-unknown_part c =
 pub returns-clause-table : goal.returns-clause-table
 returns-clause-table c =
     ended c.args.datas.now c.requires.order.place c.loop-top.rows.items
-    (subst (λ s. Working c.args.datas.now c.requires.order.place c.loop-top.rows.items (reverse s)) (nothing_left c.loop-top.stack.items (sym c.loop-top.stack.ok.0 ∙ c.in_default.ensures.cases.0)) (c.loop-top.invariant.0 c.requires.order))
+    (subst (λ s. Working c.args.datas.now c.requires.order.place c.loop-top.rows.items (reverse s)) (nil_from_length c.loop-top.stack.items (sym c.loop-top.stack.ok.0 ∙ c.in_default.ensures.cases.0)) (c.loop-top.invariant.0 c.requires.order))
