@@ -1,6 +1,7 @@
 -- What is said of the heights that an action makes.
 use Rattle.std.specs.Prelude.{◌≡◌, ℕ, Some, List, ◌∷◌}
 use Rattle.std.proofs.Common.{ap, ◌∙◌}
+use Rattle.std.proofs.lemmas.Option.{same_Some}
 use Rattle.parser_parts.specs.declared.action.Action.{Action}
 use Rattle.parser_parts.specs.declared.heights.Measure.{Measure}
 use Rattle.parser_parts.specs.declared.value.Value.{Value}
@@ -11,11 +12,8 @@ use Rattle.parser_parts.specs.Heights.{measures, raised, shape_of}
 abbrev pub Raised : Action → Type 0
 Raised x = (vs us : List Value) → made x vs ≡ Some us → raised (shape_of x) (measures vs) ≡ measures us
 
-some_same : {A : Type 0} {a b : A} → Some a ≡ Some b → a ≡ b
-some_same e = cc
-
 pub of_made : {ms : List Measure} {vs us : List Value} → Some vs ≡ Some us → ms ≡ measures vs → ms ≡ measures us
-of_made h e = e ∙ ap measures (some_same h)
+of_made h e = e ∙ ap measures (same_Some _ _ h)
 
 pub pushed : {h k c d : ℕ} {ms : List Measure} → h ≡ k → c ≡ d
     → record { height = h; count = c } ∷ ms ≡ record { height = k; count = d } ∷ ms

@@ -42,7 +42,8 @@ value_count (Constructors xs) = length xs
 value_count (Declarations ds) = length ds
 value_count _ = 0
 
--- heights and counts as they are kept: all that are well over the limit are one, and counts go further, since a chain takes one off
+-- Heights and counts as they are kept: all that are well over the limit are one.
+-- Counts go further, since a chain takes one off.
 abbrev pub told : ℕ → ℕ
 told n = min n 1000
 
@@ -88,7 +89,8 @@ abbrev pub raised : Shape → List Measure → List Measure
 raised shape.NoItems ms = single 0 ∷ ms
 raised shape.FirstItem ms = record { height = told (newest ms).height; count = 1 } ∷ others ms
 raised (shape.Item n) ms = longer (peak n ms) (newest (beyond n ms)) ∷ others (beyond n ms)
-raised (shape.NodeItem n) ms = longer (suc (peak n ms)) (newest (beyond n ms)) ∷ others (beyond n ms)
+raised (shape.NodeItem n) ms =
+    longer (suc (peak n ms)) (newest (beyond n ms)) ∷ others (beyond n ms)
 raised (shape.Node n) ms = single (suc (peak n ms)) ∷ beyond n ms
 raised shape.Chain ms = single (chained (newest ms).count (newest ms).height) ∷ others ms
 raised shape.Application ms = single (applied (newest ms).count (peak 2 ms)) ∷ beyond 2 ms

@@ -4,14 +4,13 @@ ghost use Rattle.parser_parts.specs.Actions.{made};
 ghost use Rattle.parser_parts.specs.declared.value.Value.{Value};
 
 use crate::action::Action;
-use crate::pops::{
-    pop_constructors, pop_declarations, pop_kind, pop_parameters, pop_term, pop_type, pop_types,
-    pop_word, pop_words,
-};
+use crate::pops::{pop_four, pop_three, pop_two};
 use crate::stack::Stack;
 use crate::value::Value;
 use chw_base::{NoMemory, Seq};
-use chw_grammar::{Constructor, Declaration, Parameter, Top, Tree};
+use chw_grammar::{
+    Constructor, Declaration, KindTree, Parameter, TermTree, Top, Tree, TypeTree, Word,
+};
 use std::alloc::Global;
 
 pub fn do_no_declarations(alloc: Global, values: &mut Stack<Value>) -> Result<(), NoMemory>
@@ -23,54 +22,44 @@ pub fn do_no_declarations(alloc: Global, values: &mut Stack<Value>) -> Result<()
 pub fn do_domain(_alloc: Global, values: &mut Stack<Value>) -> Result<(), NoMemory>
     ensures { IfOk result (λ _. (vs : List Value) → made Action.Domain values.old ≡ Some vs → values.new ≡ vs) }
 {
-    let Some(name) = pop_word(values) else {
+    let Some((name, declarations)) = pop_two::<Word, Stack<Declaration>>(values) else {
         return Ok(());
     };
-    let Some(mut declarations) = pop_declarations(values) else {
-        return Ok(());
-    };
-    declarations.push(Declaration::Domain(name))?;
-    values.push(Value::Declarations(declarations))
+    values.push(Value::Declarations(declarations.with(Declaration::Domain(name))?))
 }
 
 pub fn do_definition(_alloc: Global, values: &mut Stack<Value>) -> Result<(), NoMemory>
     ensures { IfOk result (λ _. (vs : List Value) → made Action.Definition values.old ≡ Some vs → values.new ≡ vs) }
 {
-    let Some(term) = pop_term(values) else {
+    let Some((term, ty, name, declarations)) = pop_four::<
+        TermTree,
+        TypeTree,
+        Word,
+        Stack<Declaration>,
+    >(values) else {
         return Ok(());
     };
-    let Some(ty) = pop_type(values) else {
-        return Ok(());
-    };
-    let Some(name) = pop_word(values) else {
-        return Ok(());
-    };
-    let Some(mut declarations) = pop_declarations(values) else {
-        return Ok(());
-    };
-    declarations.push(Declaration::Def(name, ty, term))?;
-    values.push(Value::Declarations(declarations))
+    values.push(Value::Declarations(declarations.with(Declaration::Def(name, ty, term))?))
 }
 
 pub fn do_data_type(_alloc: Global, values: &mut Stack<Value>) -> Result<(), NoMemory>
     ensures { IfOk result (λ _. (vs : List Value) → made Action.DataType values.old ≡ Some vs → values.new ≡ vs) }
 {
-    let Some(items) = pop_constructors(values) else {
-        return Ok(());
-    };
-    let Some(parameters) = pop_parameters(values) else {
-        return Ok(());
-    };
-    let Some(name) = pop_word(values) else {
-        return Ok(());
-    };
-    let Some(mut declarations) = pop_declarations(values) else {
+    let Some((items, parameters, name, declarations)) = pop_four::<
+        Stack<Constructor>,
+        Stack<Parameter>,
+        Word,
+        Stack<Declaration>,
+    >(values) else {
         return Ok(());
     };
     let parameters = Seq::from(parameters.into_vec());
     let constructors = Seq::from(items.into_vec());
-    declarations.push(Declaration::Data(name, parameters, constructors))?;
-    values.push(Value::Declarations(declarations))
+    values.push(Value::Declarations(declarations.with(Declaration::Data(
+        name,
+        parameters,
+        constructors,
+    ))?))
 }
 
 pub fn do_no_parameters(alloc: Global, values: &mut Stack<Value>) -> Result<(), NoMemory>
@@ -82,17 +71,11 @@ pub fn do_no_parameters(alloc: Global, values: &mut Stack<Value>) -> Result<(), 
 pub fn do_parameter(_alloc: Global, values: &mut Stack<Value>) -> Result<(), NoMemory>
     ensures { IfOk result (λ _. (vs : List Value) → made Action.Parameter values.old ≡ Some vs → values.new ≡ vs) }
 {
-    let Some(kind) = pop_kind(values) else {
+    let Some((kind, name, parameters)) = pop_three::<KindTree, Word, Stack<Parameter>>(values)
+    else {
         return Ok(());
     };
-    let Some(name) = pop_word(values) else {
-        return Ok(());
-    };
-    let Some(mut parameters) = pop_parameters(values) else {
-        return Ok(());
-    };
-    parameters.push(Parameter { name, kind })?;
-    values.push(Value::Parameters(parameters))
+    values.push(Value::Parameters(parameters.with(Parameter { name, kind })?))
 }
 
 pub fn do_no_constructors(alloc: Global, values: &mut Stack<Value>) -> Result<(), NoMemory>
@@ -104,18 +87,12 @@ pub fn do_no_constructors(alloc: Global, values: &mut Stack<Value>) -> Result<()
 pub fn do_constructor(_alloc: Global, values: &mut Stack<Value>) -> Result<(), NoMemory>
     ensures { IfOk result (λ _. (vs : List Value) → made Action.Constructor values.old ≡ Some vs → values.new ≡ vs) }
 {
-    let Some(types) = pop_types(values) else {
-        return Ok(());
-    };
-    let Some(name) = pop_word(values) else {
-        return Ok(());
-    };
-    let Some(mut items) = pop_constructors(values) else {
+    let Some((types, name, items)) = pop_three::<Stack<TypeTree>, Word, Stack<Constructor>>(values)
+    else {
         return Ok(());
     };
     let fields = Seq::from(types.into_vec());
-    items.push(Constructor { name, fields })?;
-    values.push(Value::Constructors(items))
+    values.push(Value::Constructors(items.with(Constructor { name, fields })?))
 }
 
 pub fn do_no_words(alloc: Global, values: &mut Stack<Value>) -> Result<(), NoMemory>
@@ -127,29 +104,21 @@ pub fn do_no_words(alloc: Global, values: &mut Stack<Value>) -> Result<(), NoMem
 pub fn do_word(_alloc: Global, values: &mut Stack<Value>) -> Result<(), NoMemory>
     ensures { IfOk result (λ _. (vs : List Value) → made Action.Word values.old ≡ Some vs → values.new ≡ vs) }
 {
-    let Some(name) = pop_word(values) else {
+    let Some((name, names)) = pop_two::<Word, Stack<Word>>(values) else {
         return Ok(());
     };
-    let Some(mut names) = pop_words(values) else {
-        return Ok(());
-    };
-    names.push(name)?;
-    values.push(Value::Words(names))
+    values.push(Value::Words(names.with(name)?))
 }
 
 pub fn do_tree(_alloc: Global, values: &mut Stack<Value>) -> Result<(), NoMemory>
     ensures { IfOk result (λ _. (vs : List Value) → made Action.Tree values.old ≡ Some vs → values.new ≡ vs) }
 {
-    let Some(outputs) = pop_words(values) else {
-        return Ok(());
-    };
-    let Some(inputs) = pop_words(values) else {
-        return Ok(());
-    };
-    let Some(name) = pop_word(values) else {
-        return Ok(());
-    };
-    let Some(declarations) = pop_declarations(values) else {
+    let Some((outputs, inputs, name, declarations)) = pop_four::<
+        Stack<Word>,
+        Stack<Word>,
+        Word,
+        Stack<Declaration>,
+    >(values) else {
         return Ok(());
     };
     let top = Top {

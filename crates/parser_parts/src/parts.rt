@@ -10,6 +10,7 @@ ghost use Rattle.parser_parts.specs.declared.value.Value.{Value};
 use crate::acting::act;
 use crate::action::Action;
 use crate::heights::{Measure, raise, shape_of};
+use crate::pops::pop;
 use crate::stack::Stack;
 use crate::value::Value;
 use chw_base::NoMemory;
@@ -79,10 +80,7 @@ impl Parts {
         let Some(mut values) = values else {
             return None;
         };
-        match values.pop() {
-            Some(Value::Whole(tree)) => Some(tree),
-            _ => None,
-        }
+        pop::<Tree>(&mut values)
     }
 }
 
@@ -92,7 +90,10 @@ fn put(values: &mut Option<Stack<Value>>, value: Value) -> Result<(), NoMemory>
 {
     match values {
         Some(values) => values.push(value),
-        None => Ok(()),
+        None => {
+            drop(value);
+            Ok(())
+        }
     }
 }
 

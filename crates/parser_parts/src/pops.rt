@@ -1,276 +1,234 @@
 //! The newest part, where it is of one sort.
-ghost use Rattle.std.specs.Prelude.{◌≡◌, MatchOption, Some, None};
-ghost use Rattle.parser_parts.specs.Actions.{as_word, first_word, as_words, first_words, as_kind, first_kind, as_type, first_type, as_types, first_types, as_term, first_term, as_terms, first_terms, as_pattern, first_pattern, as_bindings, first_bindings, as_alternatives, first_alternatives, as_arguments, first_arguments, as_parameters, first_parameters, as_constructors, first_constructors, as_declarations, first_declarations};
+ghost use Rattle.std.specs.Prelude.{◌≡◌, MatchOption, Option, Some, None};
+ghost use Rattle.parser_parts.specs.Actions.{first, first_two, first_three, first_four, as_word, as_words, as_kind, as_type, as_types, as_term, as_terms, as_pattern, as_bindings, as_alternatives, as_arguments, as_parameters, as_constructors, as_declarations, as_tree};
+ghost use Rattle.parser_parts.specs.declared.value.Value.{Value};
 
 use crate::stack::Stack;
 use crate::value::Value;
 use chw_grammar::{
     Alternative, Argument, Binding, Constructor, Declaration, KindTree, Parameter, Pattern,
-    TermTree, TypeTree, Word,
+    TermTree, Tree, TypeTree, Word,
 };
 
-fn as_word(value: Value) -> Option<Word>
-    ensures { result ≡ as_word value }
-{
-    match value {
-        Value::OneWord(part) => Some(part),
-        _ => None,
-    }
+/// A sort of parts.
+pub trait Part {
+    /// The part, where the value is one of this sort.
+    ghost taken: { Value → Option Self };
+
+    fn take(value: Value) -> Option<Self>
+        ensures { result ≡ taken value };
 }
 
-/// The newest part, which it takes, if it is one.
-pub fn pop_word(values: &mut Stack<Value>) -> Option<Word>
-    ensures { MatchOption result (first_word values.old ≡ None) (λ part. first_word values.old ≡ Some (part, values.new)) }
+/// No part, as the value is one of another sort.
+fn none_of<P>(value: Value) -> Option<P>
+    ensures { result ≡ None }
+{
+    drop(value);
+    None
+}
+
+/// The newest part, where it is of the sort. It leaves in either case.
+pub fn pop<P: Part>(values: &mut Stack<Value>) -> Option<P>
+    ensures { MatchOption result (first P.taken values.old ≡ None) (λ part. first P.taken values.old ≡ Some (part, values.new)) }
 {
     match values.pop() {
-        Some(value) => as_word(value),
+        Some(value) => P::take(value),
         None => None,
     }
 }
 
-fn as_words(value: Value) -> Option<Stack<Word>>
-    ensures { result ≡ as_words value }
+/// The two newest parts, the newest first, where each is of its sort. What does not fit leaves too.
+pub fn pop_two<A: Part + Drop, B: Part>(values: &mut Stack<Value>) -> Option<(A, B)>
+    ensures { MatchOption result (first_two A.taken B.taken values.old ≡ None) (λ parts. first_two A.taken B.taken values.old ≡ Some (parts.0, parts.1, values.new)) }
 {
-    match value {
-        Value::Words(part) => Some(part),
-        _ => None,
+    let newest = pop::<A>(&mut *values)?;
+    let next = pop::<B>(values)?;
+    Some((newest, next))
+}
+
+/// The same of three parts.
+pub fn pop_three<A: Part + Drop, B: Part + Drop, C: Part>(
+    values: &mut Stack<Value>,
+) -> Option<(A, B, C)>
+    ensures { MatchOption result (first_three A.taken B.taken C.taken values.old ≡ None) (λ parts. first_three A.taken B.taken C.taken values.old ≡ Some (parts.0, parts.1, parts.2, values.new)) }
+{
+    let newest = pop::<A>(&mut *values)?;
+    let (second, third) = pop_two::<B, C>(values)?;
+    Some((newest, second, third))
+}
+
+/// The same of four parts.
+pub fn pop_four<A: Part + Drop, B: Part + Drop, C: Part + Drop, D: Part>(
+    values: &mut Stack<Value>,
+) -> Option<(A, B, C, D)>
+    ensures { MatchOption result (first_four A.taken B.taken C.taken D.taken values.old ≡ None) (λ parts. first_four A.taken B.taken C.taken D.taken values.old ≡ Some (parts.0, parts.1, parts.2, parts.3, values.new)) }
+{
+    let newest = pop::<A>(&mut *values)?;
+    let (second, third, fourth) = pop_three::<B, C, D>(values)?;
+    Some((newest, second, third, fourth))
+}
+
+impl Part for Word {
+    ghost taken = { as_word };
+
+    fn take(value: Value) -> Option<Word> {
+        match value {
+            Value::OneWord(part) => Some(part),
+            other => none_of(other),
+        }
     }
 }
 
-/// The newest part, which it takes, if it is one.
-pub fn pop_words(values: &mut Stack<Value>) -> Option<Stack<Word>>
-    ensures { MatchOption result (first_words values.old ≡ None) (λ part. first_words values.old ≡ Some (part, values.new)) }
-{
-    match values.pop() {
-        Some(value) => as_words(value),
-        None => None,
+impl Part for Stack<Word> {
+    ghost taken = { as_words };
+
+    fn take(value: Value) -> Option<Stack<Word>> {
+        match value {
+            Value::Words(part) => Some(part),
+            other => none_of(other),
+        }
     }
 }
 
-fn as_kind(value: Value) -> Option<KindTree>
-    ensures { result ≡ as_kind value }
-{
-    match value {
-        Value::OneKind(part) => Some(part),
-        _ => None,
+impl Part for KindTree {
+    ghost taken = { as_kind };
+
+    fn take(value: Value) -> Option<KindTree> {
+        match value {
+            Value::OneKind(part) => Some(part),
+            other => none_of(other),
+        }
     }
 }
 
-/// The newest part, which it takes, if it is one.
-pub fn pop_kind(values: &mut Stack<Value>) -> Option<KindTree>
-    ensures { MatchOption result (first_kind values.old ≡ None) (λ part. first_kind values.old ≡ Some (part, values.new)) }
-{
-    match values.pop() {
-        Some(value) => as_kind(value),
-        None => None,
+impl Part for TypeTree {
+    ghost taken = { as_type };
+
+    fn take(value: Value) -> Option<TypeTree> {
+        match value {
+            Value::OneType(part) => Some(part),
+            other => none_of(other),
+        }
     }
 }
 
-fn as_type(value: Value) -> Option<TypeTree>
-    ensures { result ≡ as_type value }
-{
-    match value {
-        Value::OneType(part) => Some(part),
-        _ => None,
+impl Part for Stack<TypeTree> {
+    ghost taken = { as_types };
+
+    fn take(value: Value) -> Option<Stack<TypeTree>> {
+        match value {
+            Value::Types(part) => Some(part),
+            other => none_of(other),
+        }
     }
 }
 
-/// The newest part, which it takes, if it is one.
-pub fn pop_type(values: &mut Stack<Value>) -> Option<TypeTree>
-    ensures { MatchOption result (first_type values.old ≡ None) (λ part. first_type values.old ≡ Some (part, values.new)) }
-{
-    match values.pop() {
-        Some(value) => as_type(value),
-        None => None,
+impl Part for TermTree {
+    ghost taken = { as_term };
+
+    fn take(value: Value) -> Option<TermTree> {
+        match value {
+            Value::OneTerm(part) => Some(part),
+            other => none_of(other),
+        }
     }
 }
 
-fn as_types(value: Value) -> Option<Stack<TypeTree>>
-    ensures { result ≡ as_types value }
-{
-    match value {
-        Value::Types(part) => Some(part),
-        _ => None,
+impl Part for Stack<TermTree> {
+    ghost taken = { as_terms };
+
+    fn take(value: Value) -> Option<Stack<TermTree>> {
+        match value {
+            Value::Terms(part) => Some(part),
+            other => none_of(other),
+        }
     }
 }
 
-/// The newest part, which it takes, if it is one.
-pub fn pop_types(values: &mut Stack<Value>) -> Option<Stack<TypeTree>>
-    ensures { MatchOption result (first_types values.old ≡ None) (λ part. first_types values.old ≡ Some (part, values.new)) }
-{
-    match values.pop() {
-        Some(value) => as_types(value),
-        None => None,
+impl Part for Pattern {
+    ghost taken = { as_pattern };
+
+    fn take(value: Value) -> Option<Pattern> {
+        match value {
+            Value::OnePattern(part) => Some(part),
+            other => none_of(other),
+        }
     }
 }
 
-fn as_term(value: Value) -> Option<TermTree>
-    ensures { result ≡ as_term value }
-{
-    match value {
-        Value::OneTerm(part) => Some(part),
-        _ => None,
+impl Part for Stack<Binding> {
+    ghost taken = { as_bindings };
+
+    fn take(value: Value) -> Option<Stack<Binding>> {
+        match value {
+            Value::Bindings(part) => Some(part),
+            other => none_of(other),
+        }
     }
 }
 
-/// The newest part, which it takes, if it is one.
-pub fn pop_term(values: &mut Stack<Value>) -> Option<TermTree>
-    ensures { MatchOption result (first_term values.old ≡ None) (λ part. first_term values.old ≡ Some (part, values.new)) }
-{
-    match values.pop() {
-        Some(value) => as_term(value),
-        None => None,
+impl Part for Stack<Alternative> {
+    ghost taken = { as_alternatives };
+
+    fn take(value: Value) -> Option<Stack<Alternative>> {
+        match value {
+            Value::Alternatives(part) => Some(part),
+            other => none_of(other),
+        }
     }
 }
 
-fn as_terms(value: Value) -> Option<Stack<TermTree>>
-    ensures { result ≡ as_terms value }
-{
-    match value {
-        Value::Terms(part) => Some(part),
-        _ => None,
+impl Part for Stack<Argument> {
+    ghost taken = { as_arguments };
+
+    fn take(value: Value) -> Option<Stack<Argument>> {
+        match value {
+            Value::Arguments(part) => Some(part),
+            other => none_of(other),
+        }
     }
 }
 
-/// The newest part, which it takes, if it is one.
-pub fn pop_terms(values: &mut Stack<Value>) -> Option<Stack<TermTree>>
-    ensures { MatchOption result (first_terms values.old ≡ None) (λ part. first_terms values.old ≡ Some (part, values.new)) }
-{
-    match values.pop() {
-        Some(value) => as_terms(value),
-        None => None,
+impl Part for Stack<Parameter> {
+    ghost taken = { as_parameters };
+
+    fn take(value: Value) -> Option<Stack<Parameter>> {
+        match value {
+            Value::Parameters(part) => Some(part),
+            other => none_of(other),
+        }
     }
 }
 
-fn as_pattern(value: Value) -> Option<Pattern>
-    ensures { result ≡ as_pattern value }
-{
-    match value {
-        Value::OnePattern(part) => Some(part),
-        _ => None,
+impl Part for Stack<Constructor> {
+    ghost taken = { as_constructors };
+
+    fn take(value: Value) -> Option<Stack<Constructor>> {
+        match value {
+            Value::Constructors(part) => Some(part),
+            other => none_of(other),
+        }
     }
 }
 
-/// The newest part, which it takes, if it is one.
-pub fn pop_pattern(values: &mut Stack<Value>) -> Option<Pattern>
-    ensures { MatchOption result (first_pattern values.old ≡ None) (λ part. first_pattern values.old ≡ Some (part, values.new)) }
-{
-    match values.pop() {
-        Some(value) => as_pattern(value),
-        None => None,
+impl Part for Stack<Declaration> {
+    ghost taken = { as_declarations };
+
+    fn take(value: Value) -> Option<Stack<Declaration>> {
+        match value {
+            Value::Declarations(part) => Some(part),
+            other => none_of(other),
+        }
     }
 }
 
-fn as_bindings(value: Value) -> Option<Stack<Binding>>
-    ensures { result ≡ as_bindings value }
-{
-    match value {
-        Value::Bindings(part) => Some(part),
-        _ => None,
-    }
-}
+impl Part for Tree {
+    ghost taken = { as_tree };
 
-/// The newest part, which it takes, if it is one.
-pub fn pop_bindings(values: &mut Stack<Value>) -> Option<Stack<Binding>>
-    ensures { MatchOption result (first_bindings values.old ≡ None) (λ part. first_bindings values.old ≡ Some (part, values.new)) }
-{
-    match values.pop() {
-        Some(value) => as_bindings(value),
-        None => None,
-    }
-}
-
-fn as_alternatives(value: Value) -> Option<Stack<Alternative>>
-    ensures { result ≡ as_alternatives value }
-{
-    match value {
-        Value::Alternatives(part) => Some(part),
-        _ => None,
-    }
-}
-
-/// The newest part, which it takes, if it is one.
-pub fn pop_alternatives(values: &mut Stack<Value>) -> Option<Stack<Alternative>>
-    ensures { MatchOption result (first_alternatives values.old ≡ None) (λ part. first_alternatives values.old ≡ Some (part, values.new)) }
-{
-    match values.pop() {
-        Some(value) => as_alternatives(value),
-        None => None,
-    }
-}
-
-fn as_arguments(value: Value) -> Option<Stack<Argument>>
-    ensures { result ≡ as_arguments value }
-{
-    match value {
-        Value::Arguments(part) => Some(part),
-        _ => None,
-    }
-}
-
-/// The newest part, which it takes, if it is one.
-pub fn pop_arguments(values: &mut Stack<Value>) -> Option<Stack<Argument>>
-    ensures { MatchOption result (first_arguments values.old ≡ None) (λ part. first_arguments values.old ≡ Some (part, values.new)) }
-{
-    match values.pop() {
-        Some(value) => as_arguments(value),
-        None => None,
-    }
-}
-
-fn as_parameters(value: Value) -> Option<Stack<Parameter>>
-    ensures { result ≡ as_parameters value }
-{
-    match value {
-        Value::Parameters(part) => Some(part),
-        _ => None,
-    }
-}
-
-/// The newest part, which it takes, if it is one.
-pub fn pop_parameters(values: &mut Stack<Value>) -> Option<Stack<Parameter>>
-    ensures { MatchOption result (first_parameters values.old ≡ None) (λ part. first_parameters values.old ≡ Some (part, values.new)) }
-{
-    match values.pop() {
-        Some(value) => as_parameters(value),
-        None => None,
-    }
-}
-
-fn as_constructors(value: Value) -> Option<Stack<Constructor>>
-    ensures { result ≡ as_constructors value }
-{
-    match value {
-        Value::Constructors(part) => Some(part),
-        _ => None,
-    }
-}
-
-/// The newest part, which it takes, if it is one.
-pub fn pop_constructors(values: &mut Stack<Value>) -> Option<Stack<Constructor>>
-    ensures { MatchOption result (first_constructors values.old ≡ None) (λ part. first_constructors values.old ≡ Some (part, values.new)) }
-{
-    match values.pop() {
-        Some(value) => as_constructors(value),
-        None => None,
-    }
-}
-
-fn as_declarations(value: Value) -> Option<Stack<Declaration>>
-    ensures { result ≡ as_declarations value }
-{
-    match value {
-        Value::Declarations(part) => Some(part),
-        _ => None,
-    }
-}
-
-/// The newest part, which it takes, if it is one.
-pub fn pop_declarations(values: &mut Stack<Value>) -> Option<Stack<Declaration>>
-    ensures { MatchOption result (first_declarations values.old ≡ None) (λ part. first_declarations values.old ≡ Some (part, values.new)) }
-{
-    match values.pop() {
-        Some(value) => as_declarations(value),
-        None => None,
+    fn take(value: Value) -> Option<Tree> {
+        match value {
+            Value::Whole(part) => Some(part),
+            other => none_of(other),
+        }
     }
 }

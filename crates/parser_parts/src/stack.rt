@@ -41,6 +41,17 @@ impl<T> Stack<T> {
         Ok(())
     }
 
+    /// The stack with an item put on top.
+    pub fn with(self, item: T) -> Result<Stack<T>, NoMemory>
+    where
+        T: Drop,
+        ensures { IfOk result (λ stack. stack ≡ item ∷ self) }
+    {
+        let mut stack = self;
+        stack.push(item)?;
+        Ok(stack)
+    }
+
     /// Takes the item on top.
     pub fn pop(&mut self) -> Option<T>
         ensures { MatchOption result ((self.old ≡ []) × (self.new ≡ [])) (λ item. self.old ≡ item ∷ self.new) }

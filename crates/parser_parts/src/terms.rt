@@ -4,26 +4,17 @@ ghost use Rattle.parser_parts.specs.Actions.{made};
 ghost use Rattle.parser_parts.specs.declared.value.Value.{Value};
 
 use crate::action::Action;
-use crate::pops::{
-    pop_alternatives, pop_arguments, pop_bindings, pop_kind, pop_pattern, pop_term, pop_terms,
-    pop_type, pop_word, pop_words,
-};
+use crate::pops::{pop, pop_four, pop_three, pop_two};
 use crate::stack::Stack;
 use crate::value::Value;
 use chw_base::{NoMemory, Seq};
-use chw_grammar::{Alternative, Argument, Binding, Pattern, TermTree};
+use chw_grammar::{Alternative, Argument, Binding, KindTree, Pattern, TermTree, TypeTree, Word};
 use std::alloc::Global;
 
 pub fn do_lambda(alloc: Global, values: &mut Stack<Value>) -> Result<(), NoMemory>
     ensures { IfOk result (λ _. (vs : List Value) → made Action.Lambda values.old ≡ Some vs → values.new ≡ vs) }
 {
-    let Some(term) = pop_term(values) else {
-        return Ok(());
-    };
-    let Some(ty) = pop_type(values) else {
-        return Ok(());
-    };
-    let Some(name) = pop_word(values) else {
+    let Some((term, ty, name)) = pop_three::<TermTree, TypeTree, Word>(values) else {
         return Ok(());
     };
     values.push(Value::OneTerm(TermTree::lambda(alloc, name, ty, term)?))
@@ -32,13 +23,7 @@ pub fn do_lambda(alloc: Global, values: &mut Stack<Value>) -> Result<(), NoMemor
 pub fn do_type_lambda(alloc: Global, values: &mut Stack<Value>) -> Result<(), NoMemory>
     ensures { IfOk result (λ _. (vs : List Value) → made Action.TypeLambda values.old ≡ Some vs → values.new ≡ vs) }
 {
-    let Some(term) = pop_term(values) else {
-        return Ok(());
-    };
-    let Some(kind) = pop_kind(values) else {
-        return Ok(());
-    };
-    let Some(name) = pop_word(values) else {
+    let Some((term, kind, name)) = pop_three::<TermTree, KindTree, Word>(values) else {
         return Ok(());
     };
     values.push(Value::OneTerm(TermTree::type_lambda(alloc, name, kind, term)?))
@@ -53,29 +38,18 @@ pub fn do_no_bindings(alloc: Global, values: &mut Stack<Value>) -> Result<(), No
 pub fn do_binding(_alloc: Global, values: &mut Stack<Value>) -> Result<(), NoMemory>
     ensures { IfOk result (λ _. (vs : List Value) → made Action.Binding values.old ≡ Some vs → values.new ≡ vs) }
 {
-    let Some(term) = pop_term(values) else {
+    let Some((term, ty, name, bindings)) = pop_four::<TermTree, TypeTree, Word, Stack<Binding>>(
+        values,
+    ) else {
         return Ok(());
     };
-    let Some(ty) = pop_type(values) else {
-        return Ok(());
-    };
-    let Some(name) = pop_word(values) else {
-        return Ok(());
-    };
-    let Some(mut bindings) = pop_bindings(values) else {
-        return Ok(());
-    };
-    bindings.push(Binding { name, ty, term })?;
-    values.push(Value::Bindings(bindings))
+    values.push(Value::Bindings(bindings.with(Binding { name, ty, term })?))
 }
 
 pub fn do_let_rec(alloc: Global, values: &mut Stack<Value>) -> Result<(), NoMemory>
     ensures { IfOk result (λ _. (vs : List Value) → made Action.LetRec values.old ≡ Some vs → values.new ≡ vs) }
 {
-    let Some(term) = pop_term(values) else {
-        return Ok(());
-    };
-    let Some(bindings) = pop_bindings(values) else {
+    let Some((term, bindings)) = pop_two::<TermTree, Stack<Binding>>(values) else {
         return Ok(());
     };
     values.push(Value::OneTerm(TermTree::letrec(alloc, bindings.into_vec(), term)?))
@@ -90,26 +64,18 @@ pub fn do_no_alternatives(alloc: Global, values: &mut Stack<Value>) -> Result<()
 pub fn do_alternative(_alloc: Global, values: &mut Stack<Value>) -> Result<(), NoMemory>
     ensures { IfOk result (λ _. (vs : List Value) → made Action.Alternative values.old ≡ Some vs → values.new ≡ vs) }
 {
-    let Some(term) = pop_term(values) else {
+    let Some((term, pattern, alternatives)) = pop_three::<TermTree, Pattern, Stack<Alternative>>(
+        values,
+    ) else {
         return Ok(());
     };
-    let Some(pattern) = pop_pattern(values) else {
-        return Ok(());
-    };
-    let Some(mut alternatives) = pop_alternatives(values) else {
-        return Ok(());
-    };
-    alternatives.push(Alternative { pattern, term })?;
-    values.push(Value::Alternatives(alternatives))
+    values.push(Value::Alternatives(alternatives.with(Alternative { pattern, term })?))
 }
 
 pub fn do_constructor_pattern(_alloc: Global, values: &mut Stack<Value>) -> Result<(), NoMemory>
     ensures { IfOk result (λ _. (vs : List Value) → made Action.ConstructorPattern values.old ≡ Some vs → values.new ≡ vs) }
 {
-    let Some(names) = pop_words(values) else {
-        return Ok(());
-    };
-    let Some(name) = pop_word(values) else {
+    let Some((names, name)) = pop_two::<Stack<Word>, Word>(values) else {
         return Ok(());
     };
     values.push(Value::OnePattern(Pattern::Constructor(name, Seq::from(names.into_vec()))))
@@ -118,7 +84,7 @@ pub fn do_constructor_pattern(_alloc: Global, values: &mut Stack<Value>) -> Resu
 pub fn do_literal_pattern(_alloc: Global, values: &mut Stack<Value>) -> Result<(), NoMemory>
     ensures { IfOk result (λ _. (vs : List Value) → made Action.LiteralPattern values.old ≡ Some vs → values.new ≡ vs) }
 {
-    let Some(name) = pop_word(values) else {
+    let Some(name) = pop::<Word>(values) else {
         return Ok(());
     };
     values.push(Value::OnePattern(Pattern::Literal(name)))
@@ -133,10 +99,7 @@ pub fn do_default_pattern(_alloc: Global, values: &mut Stack<Value>) -> Result<(
 pub fn do_case(alloc: Global, values: &mut Stack<Value>) -> Result<(), NoMemory>
     ensures { IfOk result (λ _. (vs : List Value) → made Action.Case values.old ≡ Some vs → values.new ≡ vs) }
 {
-    let Some(alternatives) = pop_alternatives(values) else {
-        return Ok(());
-    };
-    let Some(term) = pop_term(values) else {
+    let Some((alternatives, term)) = pop_two::<Stack<Alternative>, TermTree>(values) else {
         return Ok(());
     };
     values.push(Value::OneTerm(TermTree::case(alloc, term, alternatives.into_vec())?))
@@ -151,36 +114,25 @@ pub fn do_no_arguments(alloc: Global, values: &mut Stack<Value>) -> Result<(), N
 pub fn do_term_argument(_alloc: Global, values: &mut Stack<Value>) -> Result<(), NoMemory>
     ensures { IfOk result (λ _. (vs : List Value) → made Action.TermArgument values.old ≡ Some vs → values.new ≡ vs) }
 {
-    let Some(term) = pop_term(values) else {
+    let Some((term, items)) = pop_two::<TermTree, Stack<Argument>>(values) else {
         return Ok(());
     };
-    let Some(mut items) = pop_arguments(values) else {
-        return Ok(());
-    };
-    items.push(Argument::OfTerm(term))?;
-    values.push(Value::Arguments(items))
+    values.push(Value::Arguments(items.with(Argument::OfTerm(term))?))
 }
 
 pub fn do_type_argument(_alloc: Global, values: &mut Stack<Value>) -> Result<(), NoMemory>
     ensures { IfOk result (λ _. (vs : List Value) → made Action.TypeArgument values.old ≡ Some vs → values.new ≡ vs) }
 {
-    let Some(ty) = pop_type(values) else {
+    let Some((ty, items)) = pop_two::<TypeTree, Stack<Argument>>(values) else {
         return Ok(());
     };
-    let Some(mut items) = pop_arguments(values) else {
-        return Ok(());
-    };
-    items.push(Argument::OfType(ty))?;
-    values.push(Value::Arguments(items))
+    values.push(Value::Arguments(items.with(Argument::OfType(ty))?))
 }
 
 pub fn do_apply(alloc: Global, values: &mut Stack<Value>) -> Result<(), NoMemory>
     ensures { IfOk result (λ _. (vs : List Value) → made Action.Apply values.old ≡ Some vs → values.new ≡ vs) }
 {
-    let Some(items) = pop_arguments(values) else {
-        return Ok(());
-    };
-    let Some(term) = pop_term(values) else {
+    let Some((items, term)) = pop_two::<Stack<Argument>, TermTree>(values) else {
         return Ok(());
     };
     values.push(Value::OneTerm(TermTree::apply(alloc, term, items.into_vec())?))
@@ -189,7 +141,7 @@ pub fn do_apply(alloc: Global, values: &mut Stack<Value>) -> Result<(), NoMemory
 pub fn do_name_term(_alloc: Global, values: &mut Stack<Value>) -> Result<(), NoMemory>
     ensures { IfOk result (λ _. (vs : List Value) → made Action.NameTerm values.old ≡ Some vs → values.new ≡ vs) }
 {
-    let Some(name) = pop_word(values) else {
+    let Some(name) = pop::<Word>(values) else {
         return Ok(());
     };
     values.push(Value::OneTerm(TermTree::name(name)))
@@ -198,7 +150,7 @@ pub fn do_name_term(_alloc: Global, values: &mut Stack<Value>) -> Result<(), NoM
 pub fn do_constructor_term(_alloc: Global, values: &mut Stack<Value>) -> Result<(), NoMemory>
     ensures { IfOk result (λ _. (vs : List Value) → made Action.ConstructorTerm values.old ≡ Some vs → values.new ≡ vs) }
 {
-    let Some(name) = pop_word(values) else {
+    let Some(name) = pop::<Word>(values) else {
         return Ok(());
     };
     values.push(Value::OneTerm(TermTree::constructor(name)))
@@ -207,7 +159,7 @@ pub fn do_constructor_term(_alloc: Global, values: &mut Stack<Value>) -> Result<
 pub fn do_literal_term(_alloc: Global, values: &mut Stack<Value>) -> Result<(), NoMemory>
     ensures { IfOk result (λ _. (vs : List Value) → made Action.LiteralTerm values.old ≡ Some vs → values.new ≡ vs) }
 {
-    let Some(name) = pop_word(values) else {
+    let Some(name) = pop::<Word>(values) else {
         return Ok(());
     };
     values.push(Value::OneTerm(TermTree::literal(name)))
@@ -222,23 +174,16 @@ pub fn do_no_terms(alloc: Global, values: &mut Stack<Value>) -> Result<(), NoMem
 pub fn do_more_term(_alloc: Global, values: &mut Stack<Value>) -> Result<(), NoMemory>
     ensures { IfOk result (λ _. (vs : List Value) → made Action.MoreTerm values.old ≡ Some vs → values.new ≡ vs) }
 {
-    let Some(term) = pop_term(values) else {
+    let Some((term, terms)) = pop_two::<TermTree, Stack<TermTree>>(values) else {
         return Ok(());
     };
-    let Some(mut terms) = pop_terms(values) else {
-        return Ok(());
-    };
-    terms.push(term)?;
-    values.push(Value::Terms(terms))
+    values.push(Value::Terms(terms.with(term)?))
 }
 
 pub fn do_vec_lit(_alloc: Global, values: &mut Stack<Value>) -> Result<(), NoMemory>
     ensures { IfOk result (λ _. (vs : List Value) → made Action.VecLit values.old ≡ Some vs → values.new ≡ vs) }
 {
-    let Some(terms) = pop_terms(values) else {
-        return Ok(());
-    };
-    let Some(ty) = pop_type(values) else {
+    let Some((terms, ty)) = pop_two::<Stack<TermTree>, TypeTree>(values) else {
         return Ok(());
     };
     values.push(Value::OneTerm(TermTree::vec_lit(ty, terms.into_vec())))

@@ -4,11 +4,11 @@ ghost use Rattle.parser_parts.specs.Actions.{made};
 ghost use Rattle.parser_parts.specs.declared.value.Value.{Value};
 
 use crate::action::Action;
-use crate::pops::{pop_kind, pop_type, pop_types, pop_word};
+use crate::pops::{pop, pop_three, pop_two};
 use crate::stack::Stack;
 use crate::value::Value;
 use chw_base::NoMemory;
-use chw_grammar::TypeTree;
+use chw_grammar::{KindTree, TypeTree, Word};
 use std::alloc::Global;
 
 pub fn do_no_types(alloc: Global, values: &mut Stack<Value>) -> Result<(), NoMemory>
@@ -20,37 +20,26 @@ pub fn do_no_types(alloc: Global, values: &mut Stack<Value>) -> Result<(), NoMem
 pub fn do_first_type(alloc: Global, values: &mut Stack<Value>) -> Result<(), NoMemory>
     ensures { IfOk result (λ _. (vs : List Value) → made Action.FirstType values.old ≡ Some vs → values.new ≡ vs) }
 {
-    let Some(ty) = pop_type(values) else {
+    let Some(ty) = pop::<TypeTree>(values) else {
         return Ok(());
     };
     let mut types = Stack::new(alloc);
-    types.push(ty)?;
-    values.push(Value::Types(types))
+    values.push(Value::Types(types.with(ty)?))
 }
 
 pub fn do_more_type(_alloc: Global, values: &mut Stack<Value>) -> Result<(), NoMemory>
     ensures { IfOk result (λ _. (vs : List Value) → made Action.MoreType values.old ≡ Some vs → values.new ≡ vs) }
 {
-    let Some(ty) = pop_type(values) else {
+    let Some((ty, types)) = pop_two::<TypeTree, Stack<TypeTree>>(values) else {
         return Ok(());
     };
-    let Some(mut types) = pop_types(values) else {
-        return Ok(());
-    };
-    types.push(ty)?;
-    values.push(Value::Types(types))
+    values.push(Value::Types(types.with(ty)?))
 }
 
 pub fn do_forall(alloc: Global, values: &mut Stack<Value>) -> Result<(), NoMemory>
     ensures { IfOk result (λ _. (vs : List Value) → made Action.Forall values.old ≡ Some vs → values.new ≡ vs) }
 {
-    let Some(ty) = pop_type(values) else {
-        return Ok(());
-    };
-    let Some(kind) = pop_kind(values) else {
-        return Ok(());
-    };
-    let Some(name) = pop_word(values) else {
+    let Some((ty, kind, name)) = pop_three::<TypeTree, KindTree, Word>(values) else {
         return Ok(());
     };
     values.push(Value::OneType(TypeTree::forall(alloc, name, kind, ty)?))
@@ -59,10 +48,7 @@ pub fn do_forall(alloc: Global, values: &mut Stack<Value>) -> Result<(), NoMemor
 pub fn do_arrow(alloc: Global, values: &mut Stack<Value>) -> Result<(), NoMemory>
     ensures { IfOk result (λ _. (vs : List Value) → made Action.Arrow values.old ≡ Some vs → values.new ≡ vs) }
 {
-    let Some(to) = pop_type(values) else {
-        return Ok(());
-    };
-    let Some(ty) = pop_type(values) else {
+    let Some((to, ty)) = pop_two::<TypeTree, TypeTree>(values) else {
         return Ok(());
     };
     values.push(Value::OneType(TypeTree::arrow(alloc, ty, to)?))
@@ -71,7 +57,7 @@ pub fn do_arrow(alloc: Global, values: &mut Stack<Value>) -> Result<(), NoMemory
 pub fn do_sum(_alloc: Global, values: &mut Stack<Value>) -> Result<(), NoMemory>
     ensures { IfOk result (λ _. (vs : List Value) → made Action.Sum values.old ≡ Some vs → values.new ≡ vs) }
 {
-    let Some(types) = pop_types(values) else {
+    let Some(types) = pop::<Stack<TypeTree>>(values) else {
         return Ok(());
     };
     values.push(Value::OneType(TypeTree::sum(types.into_vec())))
@@ -80,7 +66,7 @@ pub fn do_sum(_alloc: Global, values: &mut Stack<Value>) -> Result<(), NoMemory>
 pub fn do_product(_alloc: Global, values: &mut Stack<Value>) -> Result<(), NoMemory>
     ensures { IfOk result (λ _. (vs : List Value) → made Action.Product values.old ≡ Some vs → values.new ≡ vs) }
 {
-    let Some(types) = pop_types(values) else {
+    let Some(types) = pop::<Stack<TypeTree>>(values) else {
         return Ok(());
     };
     values.push(Value::OneType(TypeTree::product(types.into_vec())))
@@ -89,10 +75,7 @@ pub fn do_product(_alloc: Global, values: &mut Stack<Value>) -> Result<(), NoMem
 pub fn do_named(_alloc: Global, values: &mut Stack<Value>) -> Result<(), NoMemory>
     ensures { IfOk result (λ _. (vs : List Value) → made Action.Named values.old ≡ Some vs → values.new ≡ vs) }
 {
-    let Some(types) = pop_types(values) else {
-        return Ok(());
-    };
-    let Some(name) = pop_word(values) else {
+    let Some((types, name)) = pop_two::<Stack<TypeTree>, Word>(values) else {
         return Ok(());
     };
     values.push(Value::OneType(TypeTree::named(name, types.into_vec())))
@@ -101,7 +84,7 @@ pub fn do_named(_alloc: Global, values: &mut Stack<Value>) -> Result<(), NoMemor
 pub fn do_variable(_alloc: Global, values: &mut Stack<Value>) -> Result<(), NoMemory>
     ensures { IfOk result (λ _. (vs : List Value) → made Action.Variable values.old ≡ Some vs → values.new ≡ vs) }
 {
-    let Some(name) = pop_word(values) else {
+    let Some(name) = pop::<Word>(values) else {
         return Ok(());
     };
     values.push(Value::OneType(TypeTree::variable(name)))
@@ -110,7 +93,7 @@ pub fn do_variable(_alloc: Global, values: &mut Stack<Value>) -> Result<(), NoMe
 pub fn do_numeral(_alloc: Global, values: &mut Stack<Value>) -> Result<(), NoMemory>
     ensures { IfOk result (λ _. (vs : List Value) → made Action.Numeral values.old ≡ Some vs → values.new ≡ vs) }
 {
-    let Some(name) = pop_word(values) else {
+    let Some(name) = pop::<Word>(values) else {
         return Ok(());
     };
     values.push(Value::OneType(TypeTree::numeral(name)))
