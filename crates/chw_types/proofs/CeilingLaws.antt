@@ -1,7 +1,7 @@
 -- The laws of sums and products that end at the greatest natural.
-use Rattle.std.proofs.Common.{◌≡◌, ℕ, ◌+◌, ◌*◌, ◌≤◌, sym, ap, ◌∙◌, arith}
+use Rattle.std.proofs.Common.{◌≡◌, ℕ, ◌+◌, ◌*◌, sym, ap, ◌∙◌, arith}
 use Rattle.chw_types.specs.Polynomials.{greatest, ended}
-use Rattle.chw_types.specs.Ceiling.{ended_sum, ended_product, SumsCommute, SumsAssociate, ProductsCommute, ProductsAssociate, ProductsOverSums, ZeroIsNeutral, OneIsNeutral, ZeroAbsorbs}
+use Rattle.chw_types.specs.Ceiling.{SumsCommute, SumsAssociate, ProductsCommute, ProductsAssociate, ProductsOverSums, ZeroIsNeutral, OneIsNeutral, ZeroAbsorbs}
 use Rattle.chw_types.proofs.Sums.{cap_plus, cap_times}
 
 turned : (a b : ℕ) → a * b ≡ b * a

@@ -1,7 +1,6 @@
 -- What the search for leaves keeps.
-use Rattle.std.proofs.Common.{◌≡◌, Bool, true, false, ℕ, suc, zero, ◌+◌, ◌-◌, get_or, ◌<◌, ◌≤◌, ◌⊎◌, inl, inr, refl, sym, ap, subst, ◌∙◌, List, [], ◌∷◌, ◌++◌, length, map, take, arith}
-use Rattle.std.specs.Prelude.{reverse, Option, Some, None}
-use Rattle.std.specs.List.{slice_get}
+use Rattle.std.proofs.Common.{◌≡◌, Bool, true, false, ℕ, suc, ◌+◌, ◌-◌, get_or, ◌<◌, inl, inr, refl, sym, ap, subst, ◌∙◌, List, [], ◌∷◌, ◌++◌, length, map, take, arith}
+use Rattle.std.specs.Prelude.{reverse}
 use Rattle.std.specs.Bool.{OnTrue}
 use Rattle.std.proofs.lemmas.List.{reverse-append, reverse-reverse, length-reverse, get_or-reverse, take_more, map-append, append-nil, append_assoc}
 use Rattle.chw_base.specs.declared.index.DomId.{DomId}
@@ -10,14 +9,14 @@ use Rattle.chw_types.specs.declared.declarations.Data.{Data}
 use Rattle.chw_types.specs.declared.ports.Leaf.{Leaf}
 use Rattle.chw_types.specs.declared.ty.TyNode.{TyNode}
 use Rattle.chw_types.specs.declared.ty.TyNode.TheVariants.{Var, NatLit, Sum, Times, DomOf, Unsigned, Signed, BitVector, Vec as VecNode, DataOf, Fun, Signal, Forall}
-use Rattle.chw_types.specs.TypeTree.{TypeTree, ty_var, nat_lit, nat_sum, nat_product, domain, scalar, vector, data_of, fun, signal, for_all, TypeTrees}
-use Rattle.chw_types.specs.TypeView.{tree_of, trees_of}
+use Rattle.chw_types.specs.TypeTree.{TypeTree, domain, data_of, signal, TypeTrees}
+use Rattle.chw_types.specs.TypeView.{tree_of}
 use Rattle.chw_types.specs.TypeMoves.{Substitution, sub}
 use Rattle.chw_types.specs.Arguments.{list_of, arguments, all_fields}
 use Rattle.chw_types.specs.References.{HasNoCycle}
 use Rattle.chw_types.specs.Representable.{Representable}
 use Rattle.chw_types.specs.Ports.{leaf_of, Leaves, one_leaf, leaves_of_fields, LeavesOfAll, no_leaves, leaves_and, IsNoPort}
-use Rattle.chw_types.specs.PortsFound.{LeafFound, IsProduct, IsNoProduct, ProductOpened, Looked}
+use Rattle.chw_types.specs.PortsFound.{IsProduct, IsNoProduct, Looked}
 use Rattle.chw_types.proofs.Weights.{whole, all_whole, reverse_map, unfolded, all_whole_append, all_whole_reverse}
 
 leaf_inverse : {datas : List Data} {d p : TypeTree} {ls : List Leaf} → Leaves datas (signal d p) ls → (dom : DomId) × (d ≡ domain dom.number) × Representable datas p × (ls ≡ leaf_of dom p ∷ [])

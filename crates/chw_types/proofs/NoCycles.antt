@@ -1,10 +1,7 @@
 -- Lists of data types whose references have no cycle.
-use Rattle.std.proofs.Common.{◌≡◌, ℕ, suc, zero, ◌<◌, refl, sym, ap, subst, ◌∙◌, List, [], ◌∷◌, length, arith, inl, inr}
-use Rattle.std.specs.Prelude.{Some}
-use Rattle.std.specs.List.{slice_get}
-use Rattle.chw_types.specs.declared.declarations.ConDecl.{ConDecl}
+use Rattle.std.proofs.Common.{◌≡◌, ℕ, suc, zero, sym, ap, subst, ◌∙◌, [], ◌∷◌, arith, inl, inr}
 use Rattle.chw_types.specs.declared.declarations.Data.{Data}
-use Rattle.chw_types.specs.TypeTree.{TypeTree, ty_var}
+use Rattle.chw_types.specs.TypeTree.{ty_var}
 use Rattle.chw_types.specs.Arguments.{all_fields}
 use Rattle.chw_types.specs.References.{MentionedIn, Refers, HasNoCycle}
 

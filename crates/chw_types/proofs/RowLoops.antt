@@ -1,16 +1,15 @@
 -- What the loops over types owe.
-use Rattle.std.proofs.Common.{◌≡◌, ℕ, suc, zero, ◌+◌, ◌-◌, ◌<◌, ◌≤◌, Bool, true, false, ◌&&◌, if◌then◌else◌, refl, sym, ap, subst, ◌∙◌, List, [], ◌∷◌, ◌++◌, length, get_or, drop, set, arith}
+use Rattle.std.proofs.Common.{◌≡◌, ℕ, suc, ◌+◌, ◌-◌, ◌<◌, ◌≤◌, Bool, true, false, ◌&&◌, if◌then◌else◌, refl, sym, ap, ◌∙◌, List, [], ◌∷◌, ◌++◌, length, get_or, drop, set, arith}
 use Rattle.std.specs.Prelude.{◌==◌, Option, Some, None}
 use Rattle.std.specs.List.{slice_get}
-use Rattle.std.proofs.lemmas.Bool.{eqb-true, eq-eqb, and_left, and_parts}
-use Rattle.std.proofs.lemmas.List.{drop_more, drop_all, append_assoc}
+use Rattle.std.proofs.lemmas.Bool.{eqb-true, eq-eqb}
+use Rattle.std.proofs.lemmas.List.{drop_more, drop_all}
 use Rattle.chw_types.specs.declared.declarations.ConDecl.{ConDecl}
 use Rattle.chw_types.specs.declared.rows.Row.{Row}
-use Rattle.chw_types.specs.TypeTree.{TypeTree, data_of, TypeTrees, no_types, type_and}
+use Rattle.chw_types.specs.TypeTree.{TypeTree, data_of, TypeTrees}
 use Rattle.chw_types.specs.TypeView.{trees_of}
 use Rattle.chw_types.specs.Arguments.{all_fields}
 use Rattle.chw_types.specs.RowsFound.{has_marks, marks_of, first_of, unknown_in, unknown_args, unknown_among, mark, fits, fits_args, marked, marked_args, fits_all, marked_all}
-use Rattle.chw_types.proofs.RowMade.{length_marked_all}
 
 pub unknown_args_at : (rows : List Row) (ts : List TypeTree) (i : ℕ) (t : TypeTree) → i < length ts → t ≡ get_or ts i t → unknown_args rows (trees_of (drop i ts)) ≡ first_of (unknown_in rows t) (unknown_args rows (trees_of (drop (i + 1) ts)))
 unfolding unknown_in

@@ -1,17 +1,17 @@
 -- The row that is made of a data type's fields is right, and what a settled table tells of a closed type.
-use Rattle.std.proofs.Common.{◌≡◌, ℕ, suc, zero, ◌+◌, ◌<◌, ◌≤◌, Bool, true, false, ◌&&◌, refl, sym, ap, subst, ◌∙◌, List, [], ◌∷◌, ◌++◌, length, arith}
-use Rattle.std.specs.Prelude.{reverse, replicate, Option, Some, None}
+use Rattle.std.proofs.Common.{◌≡◌, ℕ, suc, zero, ◌<◌, Bool, true, false, refl, sym, ap, subst, ◌∙◌, List, [], ◌∷◌, ◌++◌, length, arith}
+use Rattle.std.specs.Prelude.{reverse, replicate, Some}
 use Rattle.std.specs.List.{slice_get}
 use Rattle.std.proofs.lemmas.Bool.{and_parts, and_from}
 use Rattle.std.proofs.lemmas.List.{reverse-append, length-reverse, length-replicate}
 use Rattle.chw_types.specs.declared.declarations.Data.{Data}
 use Rattle.chw_types.specs.declared.rows.Row.{Row}
 use Rattle.chw_types.specs.TypeTree.{TypeTree, ty_var, data_of, TypeTrees, no_types, type_and}
-use Rattle.chw_types.specs.TypeMoves.{Substitution, sub}
+use Rattle.chw_types.specs.TypeMoves.{Substitution}
 use Rattle.chw_types.specs.Arguments.{list_of, given, arguments, all_fields}
 use Rattle.chw_types.specs.Representable.{Representable, representable_data, AllRepresentable, none_to_represent, represent_and}
 use Rattle.chw_types.specs.RowsFound.{fits, marked, fits_all, marked_all}
-use Rattle.chw_types.specs.RowsRight.{MarkedRepresentable, Both, IsRight, Settled}
+use Rattle.chw_types.specs.RowsRight.{MarkedRepresentable, Both, Settled}
 use Rattle.chw_types.proofs.TypeLaws.{sub_ids}
 use Rattle.chw_types.proofs.RowsTell.{Asked, Holds, Right, var_not, rep_asked, asked_rep, length_marked, marked_holds, holds_marked, asked_fits}
 

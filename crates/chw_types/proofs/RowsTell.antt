@@ -1,19 +1,17 @@
 -- Right rows tell which types are representable.
-use Rattle.std.proofs.Common.{◌≡◌, ℕ, suc, zero, ◌+◌, ◌<◌, ◌≤◌, Bool, true, false, ◌&&◌, if◌then◌else◌, refl, sym, ap, subst, ◌∙◌, List, [], ◌∷◌, ◌++◌, length, arith, inl, inr}
-use Rattle.std.specs.Prelude.{◌==◌, nat_lt, reverse, replicate, Option, Some, None}
+use Rattle.std.proofs.Common.{◌≡◌, ℕ, suc, ◌<◌, Bool, true, false, if◌then◌else◌, refl, sym, ap, subst, ◌∙◌, List, [], ◌∷◌, length, arith}
+use Rattle.std.specs.Prelude.{◌==◌, Option, Some, None}
 use Rattle.std.specs.List.{slice_get}
 use Rattle.std.proofs.lemmas.Bool.{eqb-true, eq-eqb, ltb-true, lt-ltb, and_parts, and_from}
-use Rattle.std.proofs.lemmas.List.{reverse-append, length-reverse}
 use Rattle.chw_types.specs.declared.declarations.Data.{Data}
 use Rattle.chw_types.specs.declared.kind.Kind.{Kind}
 use Rattle.chw_types.specs.declared.rows.Row.{Row}
 use Rattle.chw_types.specs.declared.rows.Row.TheVariants.{Unknown, Open, Never, Asks}
 use Rattle.chw_types.specs.TypeTree.{TypeTree, ty_var, nat_lit, nat_sum, nat_product, domain, scalar, vector, data_of, fun, signal, for_all, TypeTrees, no_types, type_and}
 use Rattle.chw_types.specs.TypeMoves.{Substitution, sub, sub_all}
-use Rattle.chw_types.specs.Arguments.{list_of, given, arguments, all_fields}
-use Rattle.chw_types.specs.Representable.{Representable, representable_scalar, representable_vector, representable_data, AllRepresentable, none_to_represent, represent_and}
+use Rattle.chw_types.specs.Representable.{Representable, representable_scalar, representable_vector}
 use Rattle.chw_types.specs.RowsFound.{has_marks, marks_of, mark, fits, fits_args, marked, marked_args}
-use Rattle.chw_types.specs.RowsRight.{MarkedRepresentable, Both, IsRight, IsSettled, Settled, SettledArgs, IsTable}
+use Rattle.chw_types.specs.RowsRight.{MarkedRepresentable, IsRight, IsSettled, Settled, SettledArgs}
 
 -- the type is representable where the variables are of which this says so
 abbrev mutual

@@ -1,5 +1,5 @@
 -- What the search for rows keeps.
-use Rattle.std.proofs.Common.{◌≡◌, ℕ, suc, zero, ◌+◌, ◌*◌, ◌<◌, ◌≤◌, ◌⊎◌, inl, inr, Bool, true, false, refl, sym, ap, subst, ◌∙◌, List, [], ◌∷◌, ◌++◌, length, set, arith}
+use Rattle.std.proofs.Common.{◌≡◌, ℕ, suc, zero, ◌<◌, ◌≤◌, ◌⊎◌, inl, inr, Bool, true, false, refl, sym, ap, subst, ◌∙◌, List, [], ◌∷◌, ◌++◌, length, set, arith}
 use Rattle.std.specs.Prelude.{reverse, replicate, Option, Some, None}
 use Rattle.std.specs.List.{slice_get}
 use Rattle.std.proofs.lemmas.Bool.{cases_eq}
@@ -9,7 +9,7 @@ use Rattle.chw_types.specs.declared.rows.Row.{Row}
 use Rattle.chw_types.specs.declared.rows.Row.TheVariants.{Unknown, Open, Never, Asks}
 use Rattle.chw_types.specs.TypeTree.{TypeTree, ty_var, nat_lit, nat_sum, nat_product, domain, scalar, vector, data_of, fun, signal, for_all, TypeTrees, no_types, type_and}
 use Rattle.chw_types.specs.Arguments.{all_fields}
-use Rattle.chw_types.specs.References.{Mentions, MentionsAny, MentionedIn, Refers, HasNoCycle}
+use Rattle.chw_types.specs.References.{Mentions, MentionsAny, MentionedIn, HasNoCycle}
 use Rattle.chw_types.specs.Representable.{Representable, representable_data}
 use Rattle.chw_types.specs.RowsFound.{unknown_row, is_unknown, unknown_rows, first_of, found_if, unknown_in, unknown_args, unknown_among}
 use Rattle.chw_types.specs.RowsRight.{IsRight, IsNotOpen, IsSettled, Settled, SettledArgs, IsTable, IsWholeTable, IsRowOf}

@@ -1,8 +1,8 @@
 -- What the arms of shifting and putting owe.
-use Rattle.std.proofs.Common.{◌≡◌, ℕ, suc, zero, ◌+◌, ◌-◌, ◌<◌, ◌≤◌, take, List, [], ◌∷◌, map, length, refl, ap, sym, ◌∙◌, arith}
+use Rattle.std.proofs.Common.{◌≡◌, ℕ, suc, zero, ◌+◌, ◌<◌, ◌≤◌, take, List, [], ◌∷◌, map, length, refl, ap, sym, ◌∙◌, arith}
 use Rattle.std.proofs.lemmas.List.{take_all}
 use Rattle.chw_types.specs.declared.kind.Kind.{Kind}
-use Rattle.chw_types.specs.TypeTree.{TypeTree, ty_var, data_of, for_all, type_and}
+use Rattle.chw_types.specs.TypeTree.{TypeTree, data_of, for_all, type_and}
 use Rattle.chw_types.specs.TypeView.{trees_of}
 use Rattle.std.specs.Prelude.{reverse}
 use Rattle.chw_types.specs.Arguments.{given}

@@ -1,5 +1,5 @@
 -- What stands for the parameters of a data type, and what its fields are.
-use Rattle.std.specs.Prelude.{ℕ, suc, zero, List, [], ◌∷◌, ◌++◌, reverse}
+use Rattle.std.specs.Prelude.{suc, zero, List, [], ◌∷◌, ◌++◌, reverse}
 use Rattle.chw_types.specs.declared.declarations.ConDecl.{ConDecl}
 use Rattle.chw_types.specs.TypeTree.{TypeTree, ty_var, TypeTrees, no_types, type_and}
 use Rattle.chw_types.specs.TypeMoves.{Substitution}

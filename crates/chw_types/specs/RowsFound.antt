@@ -1,8 +1,8 @@
 -- Which arguments of data types have to be representable, as functions for the code. The relation is `Representable`.
-use Rattle.std.specs.Prelude.{ℕ, suc, ◌==◌, Bool, true, false, ◌&&◌, ◌||◌, if◌then◌else◌, nat_lt, List, [], ◌∷◌, length, Option, Some, None}
+use Rattle.std.specs.Prelude.{ℕ, suc, ◌==◌, Bool, true, false, ◌&&◌, if◌then◌else◌, nat_lt, List, [], ◌∷◌, length, Option, Some, None}
 use Rattle.std.specs.List.{slice_get}
 use Rattle.chw_types.specs.declared.rows.Row.{Row}
-use Rattle.chw_types.specs.declared.rows.Row.TheVariants.{Unknown, Open, Never, Asks}
+use Rattle.chw_types.specs.declared.rows.Row.TheVariants.{Unknown, Asks}
 use Rattle.chw_types.specs.TypeTree.{TypeTree, ty_var, scalar, vector, data_of, TypeTrees, no_types, type_and}
 
 abbrev pub unknown_row : Option Row → Bool

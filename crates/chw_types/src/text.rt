@@ -165,12 +165,7 @@ fn applied(
 }
 
 // The text of a type of two parts, from the texts of the parts.
-fn pair_text(
-    alloc: Global,
-    t: &Ty,
-    left: Vec<u8>,
-    right: Vec<u8>,
-) -> Result<Vec<u8>, NoMemory>
+fn pair_text(alloc: Global, t: &Ty, left: Vec<u8>, right: Vec<u8>) -> Result<Vec<u8>, NoMemory>
     ensures { IfOk result (λ r. r.items ≡ pair_text t.now left.items right.items) }
 {
     match &t.node {

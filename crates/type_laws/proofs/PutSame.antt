@@ -1,5 +1,6 @@
 -- The same put into the same.
 use Rattle.std.proofs.Common.{◌≡◌, ℕ, suc, zero, Bool, true, false, ◌&&◌, ◌⊎◌, inl, inr, refl, sym, ◌∙◌, subst}
+use Rattle.std.proofs.lemmas.Bool.{and_parts}
 use Rattle.chw_types.specs.TypeTree.{TypeTree, ty_var, nat_lit, nat_sum, nat_product, TypeTrees}
 use Rattle.chw_types.specs.TypeMoves.{Renaming, lift, rename, rename_all, Substitution, up, sub, sub_all}
 use Rattle.chw_types.specs.Polynomials.{greatest, multiplied, is_natural, SameNaturals}
@@ -39,11 +40,6 @@ polys_as (same_fun h g) k = refl
 polys_as (same_signal h g) k = refl
 polys_as (same_for_all h) k = refl
 
-both : (a b : Bool) → (a && b) ≡ true → (a ≡ true) × (b ≡ true)
-both true true h = (refl, refl)
-both true false h = absurd (cc)
-both false b h = absurd (cc)
-
 -- what is put for a variable of the natural is a natural
 abbrev PutsNaturals : Substitution → TypeTree → Type 0
 PutsNaturals σ t = (y : ℕ) → StandsIn t y → is_natural (σ y) ≡ true
@@ -52,8 +48,8 @@ sub_natural : (t : TypeTree) (σ : Substitution) → is_natural t ≡ true → P
 unfolding is_natural sub
 sub_natural (ty_var x) σ n h = h x refl
 sub_natural (nat_lit k) σ n h = refl
-sub_natural (nat_sum a b) σ n h = let w = both (is_natural a) (is_natural b) n in λ i. sub_natural a σ w.0 (λ y s. h y (inl s)) i && sub_natural b σ w.1 (λ y s. h y (inr s)) i
-sub_natural (nat_product a b) σ n h = let w = both (is_natural a) (is_natural b) n in λ i. sub_natural a σ w.0 (λ y s. h y (inl s)) i && sub_natural b σ w.1 (λ y s. h y (inr s)) i
+sub_natural (nat_sum a b) σ n h = let w = and_parts (is_natural a) (is_natural b) n in λ i. sub_natural a σ w.0 (λ y s. h y (inl s)) i && sub_natural b σ w.1 (λ y s. h y (inr s)) i
+sub_natural (nat_product a b) σ n h = let w = and_parts (is_natural a) (is_natural b) n in λ i. sub_natural a σ w.0 (λ y s. h y (inl s)) i && sub_natural b σ w.1 (λ y s. h y (inr s)) i
 sub_natural _ σ n h = absurd (cc)
 
 abbrev pub SamePuts : Substitution → Substitution → Type 0

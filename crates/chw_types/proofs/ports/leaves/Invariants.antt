@@ -1,4 +1,3 @@
-use Rattle.std.proofs.Common.{◌≡◌}
 use Rattle.chw_types.specs.RowsRight.{IsWholeTable}
 use Rattle.chw_types.proofs.Weights.{all_whole}
 use Rattle.chw_types.proofs.LeavesFound.{Searching}

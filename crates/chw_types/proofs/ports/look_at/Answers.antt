@@ -1,4 +1,4 @@
-use Rattle.std.proofs.Common.{sym, ap, subst, ◌∙◌, refl, length, arith, inr, ◌++◌, map}
+use Rattle.std.proofs.Common.{sym, ap, subst, ◌∙◌, refl, length, inr, ◌++◌, map}
 use Rattle.chw_types.specs.TypeView.{tree_of, trees_of}
 use Rattle.chw_types.specs.Ports.{IsNoPort}
 use Rattle.chw_types.specs.PortsFound.{IsProduct}

@@ -1,4 +1,4 @@
-use Rattle.std.proofs.Common.{sym, ap, ◌∙◌, refl, length, arith, rules}
+use Rattle.std.proofs.Common.{sym, ap, ◌∙◌, refl, length, rules}
 use Rattle.std.proofs.lemmas.Option.{slice_get_read}
 use Rattle.std.proofs.lemmas.Bool.{ltb-true}
 use Rattle.chw_types.proofs.LeavesFound.{single}

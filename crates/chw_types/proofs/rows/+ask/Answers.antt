@@ -1,4 +1,4 @@
-use Rattle.std.proofs.Common.{◌≡◌, arith, subst, sym, ap, ◌∙◌, false, true, length}
+use Rattle.std.proofs.Common.{◌≡◌, arith, subst, sym, ap, ◌∙◌, false, length}
 use Rattle.chw_types.specs.TypeView.{tree_of, trees_of}
 use Rattle.chw_types.specs.RowsFound.{fits, fits_args}
 use Rattle.chw_types.proofs.RowLoops.{data_fits, fits_args_lengths, fits_stops}

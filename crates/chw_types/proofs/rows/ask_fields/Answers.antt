@@ -1,4 +1,4 @@
-use Rattle.std.proofs.Common.{◌≡◌, subst, sym, false, true, length}
+use Rattle.std.proofs.Common.{◌≡◌, subst, false, true, length}
 use Rattle.chw_types.specs.RowsFound.{fits_all}
 use Rattle.chw_types.proofs.RowLoops.{fields_stop, fields_fit, fields_marked}
 use Rattle.chw_types.proofs.rows.ask_fields.Goals as goal

@@ -1,4 +1,4 @@
-use Rattle.std.proofs.Common.{length, arith, subst, sym, ◌∙◌, ◌≡◌, ℕ}
+use Rattle.std.proofs.Common.{length, arith, subst, sym, ◌≡◌}
 use Rattle.chw_types.specs.RowsRight.{IsWholeTable}
 use Rattle.chw_types.proofs.Settling.{start_table}
 use Rattle.chw_types.proofs.rows.no_rows.Goals as goal

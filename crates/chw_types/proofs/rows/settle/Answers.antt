@@ -1,5 +1,4 @@
-use Rattle.std.proofs.Common.{◌≡◌, sym, ap, ◌∙◌, subst}
-use Rattle.std.specs.Prelude.{Some, None}
+use Rattle.std.proofs.Common.{sym, ap, ◌∙◌}
 use Rattle.chw_types.specs.RowsFound.{unknown_in}
 use Rattle.chw_types.proofs.Settling.{found_unknown, whole_settled}
 use Rattle.chw_types.proofs.rows.settle.Goals as goal

@@ -1,10 +1,9 @@
-use Rattle.std.proofs.Common.{◌≡◌, ◌+◌, ◌*◌, ◌<◌, ◌++◌, ◌∷◌, length, arith, sym, ap, ◌∙◌, subst, refl, []}
+use Rattle.std.proofs.Common.{◌≡◌, ◌<◌, ◌++◌, ◌∷◌, length, arith, sym, ap, ◌∙◌, subst, []}
 use Rattle.std.specs.Prelude.{reverse, Some, None}
 use Rattle.std.specs.List.{slice_get}
 use Rattle.std.proofs.lemmas.List.{length-append, nil_from_length}
 use Rattle.chw_types.specs.declared.declarations.Data.{Data}
 use Rattle.chw_types.specs.Arguments.{all_fields}
-use Rattle.chw_types.specs.References.{HasNoCycle}
 use Rattle.chw_types.specs.RowsFound.{unknown_rows, unknown_among}
 use Rattle.chw_types.specs.RowsRight.{IsRowOf}
 use Rattle.chw_types.proofs.Settling.{Working, first_below, began, top_below, top_has_row, next_unknown, next_below, went_on, went_back, fewer_unknown, opened_count, ended}
