@@ -31,15 +31,13 @@ fn ends_at_limits(rt: HostRuntime) -> Result<(), Fail> {
     let datas: &[Data] = &[];
     assert!(rt; is_ordered(datas));
     let rows = [
-        (33, Scalar::B, 32, Ok(1056)),
-        (1024, Scalar::U, 4, Ok(4096)),
-        (33, Scalar::B, 125, Err(NoLayout::Data(4125))),
-        (257, Scalar::U, 0, Ok(0)),
-        (1024, Scalar::U, 0, Ok(0)),
-        (1025, Scalar::U, 0, Err(NoLayout::Length(1025))),
+        (32, Scalar::B, 32, Ok(1024)),
+        (33, Scalar::B, 32, Err(NoLayout::Data(1056))),
+        (256, Scalar::U, 0, Ok(0)),
+        (257, Scalar::U, 0, Err(NoLayout::Length(257))),
         (1, Scalar::S, 128, Ok(128)),
         (1, Scalar::S, 129, Err(NoLayout::Scalar(129))),
-        (1025, Scalar::S, 129, Err(NoLayout::Scalar(129))),
+        (300, Scalar::S, 129, Err(NoLayout::Scalar(129))),
     ];
     for (len, sort, bits, wanted) in rows {
         let t = vector(alloc, len, sort, bits)?;
