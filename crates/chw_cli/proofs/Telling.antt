@@ -28,3 +28,11 @@ told_by gives written faults r kind is line Takes status s t _ e f takes (put w)
     (subst (λ v. Told gives written faults kind s t v) (sym f) (told (subst (λ l. TellsLine gives written faults l s t) e w)))
 told_by gives written faults r kind is line Takes status s t _ e f takes (no_memory w) =
     subst (λ q. Told gives written faults q s t Lost) (sym is) (untold (untold_line gives line (line_of kind) Takes (TakesMemory kind) s t e takes w))
+
+-- a line that was put and took memory to make
+pub put_when_made : {S : Type 0} (gives : S → List ℕ → Result (Unit {0}) (Or SinkFault) → S → Type 0) (written : S → Option (List ℕ)) (faults : S → ℕ)
+    (line other : List ℕ) (status : Status) (s t : S) (end : Status) → line ≡ other → Puts gives written faults line ⊥ status s t end
+    → Puts gives written faults other (Unit {0}) status s t end
+put_when_made gives written faults line other status s t _ e (put w) = put (subst (λ l. TellsLine gives written faults l s t) e w)
+put_when_made gives written faults line other status s t _ e (no_memory w) =
+    no_memory (untold_line gives line other ⊥ (Unit {0}) s t e (λ no. absurd no) w)

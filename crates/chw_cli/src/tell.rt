@@ -1,5 +1,5 @@
 //! The one line by which a refusal is told.
-ghost use Rattle.std.specs.Prelude.{◌≡◌, Unit, IfOk, ⊥};
+ghost use Rattle.std.specs.Prelude.{◌≡◌, IfOk};
 ghost use Rattle.chw_cli.specs.Lines.{line_of};
 ghost use Rattle.chw_cli.specs.Outcome.{Told};
 ghost use Rattle.chw_cli.specs.Telling.{Puts, place_line};

@@ -4,36 +4,36 @@ use Rattle.chw_cli.proofs.tell.tell.Goals as goal
 
 pub returns-in-Words : goal.returns-in-Words
 returns-in-Words g c =
-    told_by g.E.Sink.put_gives g.E.Sink.written g.E.Sink.faults c.args.refusal.now _ c.in-Words.is _ _ _ _ _ _ refl refl absurd c.put_line.ensures
+    told_by g.E.Sink.put_gives g.E.Sink.written g.E.Sink.faults c.args.refusal.now _ c.in-Words.is _ ⊥ _ _ _ _ refl refl (λ no. absurd no) c.put_line.ensures
 
 pub returns-in-LongText : goal.returns-in-LongText
 returns-in-LongText g c =
-    told_by g.E.Sink.put_gives g.E.Sink.written g.E.Sink.faults c.args.refusal.now _ c.in-LongText.is _ _ _ _ _ _ refl refl absurd c.put_line-in-LongText.ensures
+    told_by g.E.Sink.put_gives g.E.Sink.written g.E.Sink.faults c.args.refusal.now _ c.in-LongText.is _ ⊥ _ _ _ _ refl refl (λ no. absurd no) c.put_line-in-LongText.ensures
 
 pub returns-in-Form : goal.returns-in-Form
 returns-in-Form g c =
-    told_by g.E.Sink.put_gives g.E.Sink.written g.E.Sink.faults c.args.refusal.now _ c.in-Form.is _ _ _ _ _ _ refl refl absurd c.put_line-in-Form.ensures
+    told_by g.E.Sink.put_gives g.E.Sink.written g.E.Sink.faults c.args.refusal.now _ c.in-Form.is _ ⊥ _ _ _ _ refl refl (λ no. absurd no) c.put_line-in-Form.ensures
 
 pub returns-in-TooLarge : goal.returns-in-TooLarge
 returns-in-TooLarge g c =
-    told_by g.E.Sink.put_gives g.E.Sink.written g.E.Sink.faults c.args.refusal.now _ c.in-TooLarge.is _ _ _ _ _ _ refl refl absurd c.put_line-in-TooLarge.ensures
+    told_by g.E.Sink.put_gives g.E.Sink.written g.E.Sink.faults c.args.refusal.now _ c.in-TooLarge.is _ ⊥ _ _ _ _ refl refl (λ no. absurd no) c.put_line-in-TooLarge.ensures
 
 pub returns-in-Write : goal.returns-in-Write
 returns-in-Write g c =
-    told_by g.E.Sink.put_gives g.E.Sink.written g.E.Sink.faults c.args.refusal.now _ c.in-Write.is _ _ _ _ _ _ refl refl absurd c.put_line-in-Write.ensures
+    told_by g.E.Sink.put_gives g.E.Sink.written g.E.Sink.faults c.args.refusal.now _ c.in-Write.is _ ⊥ _ _ _ _ refl refl (λ no. absurd no) c.put_line-in-Write.ensures
 
 pub returns-in-Memory : goal.returns-in-Memory
 returns-in-Memory g c =
-    told_by g.E.Sink.put_gives g.E.Sink.written g.E.Sink.faults c.args.refusal.now _ c.in-Memory.is _ _ _ _ _ _ refl refl absurd c.put_line-in-Memory.ensures
+    told_by g.E.Sink.put_gives g.E.Sink.written g.E.Sink.faults c.args.refusal.now _ c.in-Memory.is _ ⊥ _ _ _ _ refl refl (λ no. absurd no) c.put_line-in-Memory.ensures
 
 pub returns-in-Lex : goal.returns-in-Lex
 returns-in-Lex g c =
-    told_by g.E.Sink.put_gives g.E.Sink.written g.E.Sink.faults c.args.refusal.now _ c.in-Lex.is _ _ _ _ _ _ refl refl (λ _. tt) c.tell_place.ensures
+    told_by g.E.Sink.put_gives g.E.Sink.written g.E.Sink.faults c.args.refusal.now _ c.in-Lex.is _ (Unit {0}) _ _ _ _ refl refl (λ _. tt) c.tell_place.ensures
 
 pub returns-in-Syntax : goal.returns-in-Syntax
 returns-in-Syntax g c =
-    told_by g.E.Sink.put_gives g.E.Sink.written g.E.Sink.faults c.args.refusal.now _ c.in-Syntax.is _ _ _ _ _ _ refl refl (λ _. tt) c.tell_place-in-Syntax.ensures
+    told_by g.E.Sink.put_gives g.E.Sink.written g.E.Sink.faults c.args.refusal.now _ c.in-Syntax.is _ (Unit {0}) _ _ _ _ refl refl (λ _. tt) c.tell_place-in-Syntax.ensures
 
 pub returns-in-Depth : goal.returns-in-Depth
 returns-in-Depth g c =
-    told_by g.E.Sink.put_gives g.E.Sink.written g.E.Sink.faults c.args.refusal.now _ c.in-Depth.is _ _ _ _ _ _ refl refl absurd c.put_line-in-Depth.ensures
+    told_by g.E.Sink.put_gives g.E.Sink.written g.E.Sink.faults c.args.refusal.now _ c.in-Depth.is _ ⊥ _ _ _ _ refl refl (λ no. absurd no) c.put_line-in-Depth.ensures

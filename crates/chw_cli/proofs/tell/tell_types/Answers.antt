@@ -7,7 +7,7 @@ use Rattle.chw_cli.proofs.tell.tell_types.Goals as goal
 
 pub returns-in-Ok : goal.returns-in-Ok
 returns-in-Ok g c =
-    told_by g.E.Sink.put_gives g.E.Sink.written g.E.Sink.faults (Types c.args.fault.now) (Types c.args.fault.now) refl _ _ _ _ _ _ (c.as_slice.ensures.value ∙ c.in-Ok.ensures) refl absurd c.put_bytes.ensures
+    told_by g.E.Sink.put_gives g.E.Sink.written g.E.Sink.faults (Types c.args.fault.now) (Types c.args.fault.now) refl _ ⊥ _ _ _ _ (c.as_slice.ensures.value ∙ c.in-Ok.ensures) refl (λ no. absurd no) c.put_bytes.ensures
 
 pub returns-in-Err : goal.returns-in-Err
 returns-in-Err g c = untold (silent c.args.err.now tt)
