@@ -1,6 +1,6 @@
 use Rattle.std.proofs.Common.{◌≡◌, Bool, true, false, not, if◌then◌else◌, map, sym, ap, ◌∙◌}
-use Rattle.netlist.specs.Text.{clock_item, input_item, output_item}
-use Rattle.verilog_print.proofs.Items.{stands, stands_map, three_runs}
+use Rattle.netlist.specs.Text.{clock_items, input_item, output_item}
+use Rattle.verilog_print.proofs.Items.{stands, stands_clocks, stands_map, three_runs}
 use Rattle.verilog_print.proofs.header.put_header.Goals as goal
 use Rattle.verilog_print.proofs.header.put_header.Goals.{then-clocks, else-clocks}
 
@@ -18,5 +18,7 @@ some_before c =
 pub returns : goal.returns
 returns c =
     let ports = c.args.ports.now in
-    let clocks = stands_map clock_item ports.domains false c.is_empty-clocks.result c.is_empty-clocks.ensures in
-    three_runs (map clock_item ports.domains) (map (input_item ports.domains) ports.inputs) (map (output_item ports.domains) ports.outputs) _ _ c.args.out.now.items _ _ _ (rw c.as_slice.ensures at c.in_ok-put_clocks.ensures) c.in_ok-put_inputs.ensures c.in_ok-put_outputs.ensures (sym clocks) (some_before c)
+    let clocks = stands_clocks ports.resets 0 ports.domains c.is_empty-clocks.result c.is_empty-clocks.ensures in
+    three_runs (clock_items ports.resets 0 ports.domains) (map (input_item ports.domains) ports.inputs)
+    (map (output_item ports.domains) ports.outputs) _ _ c.args.out.now.items _ _ _ c.in_ok-put_clocks.ensures c.in_ok-put_inputs.ensures
+    c.in_ok-put_outputs.ensures (sym clocks) (some_before c)
