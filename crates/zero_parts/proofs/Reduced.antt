@@ -7,7 +7,8 @@ use Rattle.chw_types.proofs.SameLaws.{same_self, same_through}
 use Rattle.type_laws.proofs.Factors.{times_times}
 use Rattle.type_laws.proofs.PutSame.{natural_as}
 use Rattle.zero_parts.specs.WithoutZeros.{is_numeral, plus, by, reduced}
-use Rattle.zero_parts.proofs.Tight.{numeral_is, both}
+use Rattle.zero_parts.proofs.Tight.{numeral_is}
+use Rattle.std.proofs.lemmas.Bool.{and_parts}
 
 pub coefficient_append : (p q : Summands) (m : Monomial) → coefficient (p ++ q) m ≡ coefficient p m + coefficient q m
 coefficient_append [] q m = omega arith
@@ -126,12 +127,12 @@ unfolding is_natural reduced
 same_reduced (ty_var x) n = same_self (ty_var x)
 same_reduced (nat_lit k) n = same_self (nat_lit k)
 same_reduced (nat_sum a b) n =
-    let w = both (is_natural a) (is_natural b) n in
+    let w = and_parts (is_natural a) (is_natural b) n in
     let left = same_reduced a w.0 in
     let right = same_reduced b w.1 in
     same_through (same_sum left right) (same_plus (reduced a) (reduced b) (reduced_natural a left w.0) (reduced_natural b right w.1))
 same_reduced (nat_product a b) n =
-    let w = both (is_natural a) (is_natural b) n in
+    let w = and_parts (is_natural a) (is_natural b) n in
     let left = same_reduced a w.0 in
     let right = same_reduced b w.1 in
     same_through (same_product left right) (same_by (reduced a) (reduced b) (reduced_natural a left w.0) (reduced_natural b right w.1))

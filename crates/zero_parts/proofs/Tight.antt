@@ -1,6 +1,6 @@
 -- Naturals without parts that don't matter: what is written without zeros is one, or it is 0.
 use Rattle.std.proofs.Common.{◌≡◌, ℕ, suc, zero, ◌≤◌, Bool, true, false, ◌&&◌, ◌||◌, ◌⊎◌, inl, inr, if◌then◌else◌, refl, ap, arith}
-use Rattle.std.proofs.lemmas.Bool.{eqb-true}
+use Rattle.std.proofs.lemmas.Bool.{and_parts, eqb-true}
 use Rattle.chw_types.specs.TypeTree.{TypeTree, ty_var, nat_lit, nat_sum, nat_product, domain, scalar, vector, data_of, fun, signal, for_all}
 use Rattle.chw_types.specs.Polynomials.{is_natural}
 use Rattle.zero_parts.specs.WithoutZeros.{is_numeral, plus, by, reduced}
@@ -50,11 +50,6 @@ tight_by a b h g = at (is_numeral 0 a) (is_numeral 1 b) (is_numeral 0 b) (is_num
     at false false false true e i f j = g
     at false false false false e i f j = inr (tight_product (tight_if a h e) (tight_if b g f) j i)
 
-pub both : (a b : Bool) → (a && b) ≡ true → (a ≡ true) × (b ≡ true)
-both true true h = (refl, refl)
-both true false h = absurd (cc)
-both false b h = absurd (cc)
-
 numeral_tight : (n : ℕ) (b : Bool) → is_numeral 0 (nat_lit n) ≡ b → ZeroOrTight (nat_lit n)
 numeral_tight n true e = inl e
 numeral_tight n false e = inr (tight_numeral (positive n e))
@@ -67,8 +62,8 @@ pub reduced_tight : (t : TypeTree) → is_natural t ≡ true → ZeroOrTight (re
 unfolding is_natural reduced
 reduced_tight (ty_var x) n = inr tight_var
 reduced_tight (nat_lit k) n = numeral_tight k (is_numeral 0 (nat_lit k)) refl
-reduced_tight (nat_sum a b) n = let w = both (is_natural a) (is_natural b) n in tight_plus (reduced a) (reduced b) (reduced_tight a w.0) (reduced_tight b w.1)
-reduced_tight (nat_product a b) n = let w = both (is_natural a) (is_natural b) n in tight_by (reduced a) (reduced b) (reduced_tight a w.0) (reduced_tight b w.1)
+reduced_tight (nat_sum a b) n = let w = and_parts (is_natural a) (is_natural b) n in tight_plus (reduced a) (reduced b) (reduced_tight a w.0) (reduced_tight b w.1)
+reduced_tight (nat_product a b) n = let w = and_parts (is_natural a) (is_natural b) n in tight_by (reduced a) (reduced b) (reduced_tight a w.0) (reduced_tight b w.1)
 reduced_tight (domain d) n = absurd (cc)
 reduced_tight (scalar s w) n = absurd (cc)
 reduced_tight (vector m t) n = absurd (cc)
