@@ -1,15 +1,11 @@
 //! How many leaves a port has.
-ghost use Rattle.std.specs.Prelude.{◌≡◌, ◌≤◌, ◌++◌, map, reverse, IfOk, OnOk, IfSome, IfNone, MatchOption};
+ghost use Rattle.std.specs.Prelude.{◌≤◌, IfOk, IfSome, IfNone, MatchOption};
 ghost use Rattle.chw_check.specs.Counting.{CountsOn, HasLeaves, HasMoreLeaves};
-ghost use Rattle.chw_types.specs.Arguments.{arguments};
 ghost use Rattle.chw_types.specs.Ports.{IsNoPort};
-ghost use Rattle.chw_types.specs.PortsFound.{IsNoProduct, IsProduct};
 ghost use Rattle.chw_types.specs.References.{HasNoCycle};
-ghost use Rattle.chw_types.specs.TypeMoves.{sub};
-ghost use Rattle.chw_types.specs.TypeView.{trees_of};
 
 use chw_base::NoMemory;
-use chw_types::{Data, Ty, TyNode, leaves, put_arguments};
+use chw_types::{Data, Ty, TyNode, leaves, product_fields, push_fields};
 use std::alloc::Global;
 
 /// How many leaves a closed type has, where it is a port with no more than so many. Nothing comes where it is no port, or has more.
@@ -62,37 +58,4 @@ fn look_at(
         Some(found) => Ok(Some(found.len())),
         None => Ok(None),
     }
-}
-
-// The fields of a data type of one constructor with at least one field.
-fn product_fields(datas: &[Data], at: u32, args: usize) -> Option<&[Ty]>
-    ensures some { IfSome result (λ fs. IsProduct datas.now at args fs.now) }
-    ensures none { IfNone result (IsNoProduct datas.now at args) }
-{
-    let it = datas.get(at as usize)?;
-    let cons = it.cons.as_slice();
-    if it.params.len() != args || cons.len() != 1 {
-        return None;
-    }
-    let fields = cons[0].fields.as_slice();
-    if fields.is_empty() {
-        return None;
-    }
-    Some(fields)
-}
-
-// Puts the fields with the arguments put in on the list, the first field last.
-fn push_fields(
-    alloc: Global,
-    fields: &[Ty],
-    args: &[Ty],
-    todo: &mut Vec<Ty>,
-) -> Result<(), NoMemory>
-    ensures { OnOk result (todo.new.items ≡ todo.old.items ++ map (λ f. sub f (arguments (trees_of args.now))) (reverse fields.now)) }
-{
-    for i in 0..fields.len() {
-        let field = &fields[fields.len() - 1 - i];
-        todo.push(put_arguments(alloc, field, args)?)?;
-    }
-    Ok(())
 }

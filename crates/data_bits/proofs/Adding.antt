@@ -1,6 +1,6 @@
 -- What the loops that encode keep.
 use Rattle.std.proofs.Common.{◌≡◌, ℕ, suc, zero, ◌+◌, ◌<◌, ◌≤◌, Bool, refl, sym, ap, subst, ◌∙◌, List, [], ◌∷◌, ◌++◌, length, get_or, take, arith, append_assoc}
-use Rattle.std.proofs.lemmas.List.{take_more, take-append-drop, drop_all, append-nil}
+use Rattle.std.proofs.lemmas.List.{take_all, take_more, append-nil}
 use Rattle.chw_base.specs.declared.limits.TheConstants.{DATA_BITS}
 use Rattle.chw_types.specs.declared.declarations.Data.{Data}
 use Rattle.chw_types.specs.TypeTree.{TypeTree}
@@ -93,16 +93,13 @@ first_more (x ∷ datas) (suc i) it l e =
     let p : suc i + 1 ≡ suc (i + 1) = omega arith in
     ap (first_constructor (x ∷ datas)) p ∙ ap (λ n. length x.cons + n) w ∙ (let q : length x.cons + (first_constructor datas i + length it.cons) ≡ length x.cons + first_constructor datas i + length it.cons = omega arith in q)
 
-pub take_whole : {X : Type 0} → (i : ℕ) (xs : List X) → length xs ≤ i → take i xs ≡ xs
-take_whole i xs l = sym (append-nil (take i xs)) ∙ ap (λ ys. take i xs ++ ys) (sym (drop_all i xs l)) ∙ take-append-drop i xs
-
 pub elements_whole : (datas : List Data) (t : TypeTree) (vs : List Datum) (i : ℕ) (old new : List Bool) → length vs ≤ i → Adds (EncodesElements datas t (datums_of (take i vs))) old new → Adds (EncodesElements datas t (datums_of vs)) old new
-elements_whole datas t vs i old new l a = (a.0, subst (λ us. EncodesElements datas t (datums_of us) a.0) (take_whole i vs l) a.1, a.2)
+elements_whole datas t vs i old new l a = (a.0, subst (λ us. EncodesElements datas t (datums_of us) a.0) (take_all i vs l) a.1, a.2)
 
 pub fields_whole : (datas : List Data) (fs : List TypeTree) (σ : Substitution) (vs : List Datum) (i : ℕ) (old new : List Bool) → length vs ≤ i → length fs ≤ i → Adds (EncodesFields datas (take i fs) σ (datums_of (take i vs))) old new → Adds (EncodesFields datas fs σ (datums_of vs)) old new
 fields_whole datas fs σ vs i old new l k a = (
   a.0,
-  subst (λ gs. EncodesFields datas gs σ (datums_of vs) a.0) (take_whole i fs k) (subst (λ us. EncodesFields datas (take i fs) σ (datums_of us) a.0) (take_whole i vs l) a.1),
+  subst (λ gs. EncodesFields datas gs σ (datums_of vs) a.0) (take_all i fs k) (subst (λ us. EncodesFields datas (take i fs) σ (datums_of us) a.0) (take_all i vs l) a.1),
   a.2,
 )
 

@@ -3,7 +3,8 @@ use Rattle.std.proofs.Common.{◌≡◌, ℕ, suc, zero, ◌+◌, ◌-◌, ◌*�
 use Rattle.std.specs.Prelude.{Option, None, Some, IfSome, IfNone, IsTrue, replicate}
 use Rattle.std.proofs.Math.Nat.{mod-eq_of_lt}
 use Rattle.std.specs.List.{slice_get}
-use Rattle.std.proofs.lemmas.List.{take_more, drop_more, take-append-drop, drop_all, append-nil, length-replicate}
+use Rattle.std.proofs.lemmas.Option.{slice_get_within}
+use Rattle.std.proofs.lemmas.List.{nil_from_length, take_all, take_more, drop_more, take-append-drop, drop_all, append-nil, length-replicate}
 use Rattle.chw_base.specs.declared.limits.TheConstants.{DATA_BITS}
 use Rattle.chw_bits.specs.Bits.{number_of, bits_of}
 use Rattle.chw_bits.proofs.Numbers.{length-bits_of}
@@ -26,8 +27,7 @@ use Rattle.chw_layout.proofs.Tags.{tag_suffices, tag_shortest}
 use Rattle.chw_layout.proofs.Encodings.{BitsMean, encoded_length, append_split, data_parts}
 use Rattle.data_bits.specs.Decoding.{IsRow, ArePadded, FieldsWithin}
 use Rattle.data_bits.specs.Encoding.{Fits}
-use Rattle.data_bits.proofs.Adding.{elements_end, fields_end, take_whole}
-use Rattle.data_bits.proofs.Encoded.{at_below}
+use Rattle.data_bits.proofs.Adding.{elements_end, fields_end}
 
 one_width : {datas : List Data} {t : TypeTree} (a b : ℕ) → HasWidth datas t a → HasWidth datas t b → a ≡ b
 one_width a b d e = let p : fits a ≡ fits b = measured_once d e in cc
@@ -170,17 +170,13 @@ row_none datas t n w bits i values rest part more (suc left) k d l e x r is vs h
 pub row_fails : (datas : List Data) (t : TypeTree) (n w : ℕ) (bits : List Bool) (i : ℕ) (values : List Datum) (rest part more : List Bool) → i < n → HasWidth datas t w → length part ≡ w → rest ≡ part ++ more → ((v : Datum) → Encodes datas t v part → ⊥) → RowRead datas t n w bits i values rest → (vs : Datums) → IsRow datas t n bits vs → ⊥
 row_fails datas t n w bits i values rest part more k d l e x r = row_none datas t n w bits i values rest part more r.left k d l e x r refl
 
-nothing : (xs : List Bool) → length xs ≡ 0 → xs ≡ []
-nothing [] e = refl
-nothing (x ∷ xs) e = absurd (omega arith)
-
 pub row_ends : (datas : List Data) (t : TypeTree) (n w : ℕ) (bits : List Bool) (i : ℕ) (values : List Datum) (rest : List Bool) → n ≤ i → RowRead datas t n w bits i values rest → IsRow datas t n bits (datums_of values)
 row_ends datas t n w bits i values rest k r =
     let c = r.count in
     let z : r.left ≡ 0 = omega arith in
     let q : length rest ≡ 0 * w = r.room ∙ ap (λ y. y * w) z in
     let p : length rest ≡ 0 = omega arith in
-    let e : bits ≡ r.done = r.is ∙ ap (λ y. r.done ++ y) (nothing rest p) ∙ append-nil r.done in
+    let e : bits ≡ r.done = r.is ∙ ap (λ y. r.done ++ y) (nil_from_length rest p) ∙ append-nil r.done in
     record { many = count_same values ∙ r.many ∙ (let s : i ≡ n = omega arith in s); encoded = subst (EncodesElements datas t (datums_of values)) (sym e) r.read }
 
 -- the bits of a vector
@@ -288,7 +284,7 @@ pub fields_done : (datas : List Data) (fs : List TypeTree) (σ : Substitution) (
 fields_done datas fs σ bits i values rest l z r =
     record {
       bits = r.done;
-      encoded = subst (λ gs. EncodesFields datas gs σ (datums_of values) r.done) (take_whole i fs l) r.read;
+      encoded = subst (λ gs. EncodesFields datas gs σ (datums_of values) r.done) (take_all i fs l) r.read;
       is = padded_to bits r.done (length rest) (r.is ∙ ap (λ x. r.done ++ x) z);
     }
 
@@ -304,12 +300,7 @@ fields_not_zero datas fs σ bits i values rest l z r vs h =
 
 -- data
 pub data_known : {datas : List Data} {d w : ℕ} {ts : TypeTrees} → HasWidth datas (data_of d ts) w → d < length datas
-data_known {datas} {d} h = let x = data_measured h in within datas d x.it x.known
-  where
-    within : (datas : List Data) (d : ℕ) (it : Data) → slice_get datas d ≡ Some it → d < length datas
-    within [] d it e = absurd (cc)
-    within (x ∷ datas) zero it e = omega arith
-    within (x ∷ datas) (suc d) it e = let w = within datas d it e in omega arith
+data_known {datas} {d} h = let x = data_measured h in slice_get_within datas d x.it x.known
 
 pub tag_room : (datas : List Data) (d l k : ℕ) (ts : TypeTrees) (it : Data) → slice_get datas d ≡ Some it → HasWidth datas (data_of d ts) l → k ≡ tag_width (length it.cons) → k ≤ l
 tag_room datas d l k ts it known h e = let x = cons_width it known h in let p = x.is in omega arith
@@ -338,7 +329,7 @@ data_split datas d k ts it bits first rest v mean known e l j x =
     let t = tag_width (length it.cons) in
     let z = p.width - length (bits_of t p.i ++ p.bits) in
     let s = append_split (bits_of t p.i) first (p.bits ++ replicate z false) rest (length-bits_of t p.i ∙ sym (l ∙ e)) (sym (append_assoc (bits_of t p.i) p.bits (replicate z false)) ∙ sym p.is ∙ j) in
-    let below = at_below it.cons p.i p.c p.at in
+    let below = slice_get_within it.cons p.i p.c p.at in
     let enough = tag_suffices (length it.cons) in
     record {
       i = p.i;
@@ -353,7 +344,7 @@ data_split datas d k ts it bits first rest v mean known e l j x =
 pub tag_fails : (datas : List Data) (d k : ℕ) (ts : TypeTrees) (it : Data) (bits first rest : List Bool) → BitsMean → slice_get datas d ≡ Some it → k ≡ tag_width (length it.cons) → length first ≡ k → bits ≡ first ++ rest → length it.cons ≤ number_of first → (v : Datum) → Encodes datas (data_of d ts) v bits → ⊥
 tag_fails datas d k ts it bits first rest mean known e l j past v x =
     let s = data_split datas d k ts it bits first rest v mean known e l j x in
-    let below = at_below it.cons s.i s.c s.at in
+    let below = slice_get_within it.cons s.i s.c s.at in
     let t = s.tag in
     absurd (omega arith)
 

@@ -2,6 +2,7 @@
 use Rattle.std.proofs.Common.{◌≡◌, ℕ, suc, zero, ◌+◌, ◌-◌, ◌<◌, ◌≤◌, ◌^◌, Bool, false, refl, sym, ap, subst, ◌∙◌, List, [], ◌∷◌, ◌++◌, length, arith, append_assoc, length-append}
 use Rattle.std.specs.Prelude.{Some, replicate}
 use Rattle.std.specs.List.{slice_get}
+use Rattle.std.proofs.lemmas.Option.{slice_get_within}
 use Rattle.chw_bits.specs.Bits.{bits_of}
 use Rattle.chw_types.specs.declared.declarations.ConDecl.{ConDecl}
 use Rattle.chw_types.specs.declared.declarations.Data.{Data}
@@ -118,15 +119,10 @@ chosen_fit datas d n ts tag width fields f ch =
       within = let p = x.is in let q = x.within in let r = y.within in omega arith;
     }
 
-pub at_below : (cs : List ConDecl) (i : ℕ) (c : ConDecl) → slice_get cs i ≡ Some c → i < length cs
-at_below [] i c e = absurd (cc)
-at_below (x ∷ cs) zero c e = omega arith
-at_below (x ∷ cs) (suc i) c e = let w = at_below cs i c e in omega arith
-
 -- the tag fits its width
 pub tag_small : (datas : List Data) (d n tag width : ℕ) (fields : List TypeTree) → IsChosen datas d n tag width fields → tag < 2 ^ width
 tag_small datas d n tag width fields ch =
-    let l = at_below ch.it.cons tag ch.c ch.at in
+    let l = slice_get_within ch.it.cons tag ch.c ch.at in
     let k = tag_suffices (length ch.it.cons) in
     subst (λ w. tag < 2 ^ w) (sym ch.tag_is) (let p : tag < 2 ^ tag_width (length ch.it.cons) = omega arith in p)
 

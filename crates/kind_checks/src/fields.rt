@@ -1,7 +1,6 @@
 //! Kinds of single types, and of the fields of data types.
 ghost use Rattle.std.specs.Prelude.{reverse, MatchOption};
 ghost use Rattle.std.specs.Bool.{Decides};
-ghost use Rattle.chw_types.specs.Kinds.{IsOfTerms};
 ghost use Rattle.chw_typing.specs.Programs.{setting_of};
 ghost use Rattle.chw_typing.specs.Scopes.{HasKind, IsTermType};
 ghost use Rattle.kind_checks.specs.Fits.{DataFits, HasSomeKind};
@@ -32,16 +31,9 @@ pub(crate) fn is_term_type(program: &Program, kinds: &[Kind], ty: &Ty) -> bool
     ensures { Decides result (IsTermType (setting_of program.now) (reverse kinds.now) ty.now) }
 {
     match kind_in(program, kinds, ty) {
-        Some(kind) => is_of_terms(kind),
+        Some(kind) => kind.is_of_terms(),
         None => false,
     }
-}
-
-// Whether terms have types of this kind.
-fn is_of_terms(kind: Kind) -> bool
-    ensures { Decides result (IsOfTerms kind) }
-{
-    matches!(kind, Kind::Val | Kind::Cir)
 }
 
 // Whether each field of a constructor has a type that terms have.

@@ -2,14 +2,14 @@
 use Rattle.std.proofs.Common.{◌≡◌, ℕ, suc, zero, ◌+◌, ◌<◌, ◌≤◌, inl, inr, ◌⊎◌, refl, sym, ap, subst, ◌∙◌, List, [], ◌∷◌, ◌++◌, length, get_or, take, arith}
 use Rattle.std.specs.Prelude.{Some}
 use Rattle.std.specs.List.{slice_get}
-use Rattle.std.proofs.lemmas.List.{take_more}
+use Rattle.std.proofs.lemmas.List.{take_all, take_more}
+use Rattle.std.proofs.lemmas.Option.{slice_get_within}
 use Rattle.chw_types.specs.declared.declarations.ConDecl.{ConDecl}
 use Rattle.chw_types.specs.declared.declarations.Data.{Data}
 use Rattle.chw_types.specs.TypeTree.{TypeTree}
 use Rattle.chw_types.specs.Arguments.{all_fields}
 use Rattle.chw_types.specs.References.{Mentions, MentionedIn, HasNoCycle}
 use Rattle.layout_rows.specs.Order.{MentionsBelow, AllBelow}
-use Rattle.data_bits.proofs.Adding.{take_whole}
 
 pub none_below : (n : ℕ) → AllBelow [] n
 none_below n = λ d m. absurd m
@@ -24,7 +24,7 @@ fields_more ts i n t l e b a =
     (below_join (take i ts) (t ∷ []) n a (λ d m. elim m as (λ x. d < n) [ inl h ↦ b d h | inr h ↦ absurd h ]))
 
 pub fields_end : (ts : List TypeTree) (i n : ℕ) → length ts ≤ i → AllBelow (take i ts) n → AllBelow ts n
-fields_end ts i n l a = subst (λ us. AllBelow us n) (take_whole i ts l) a
+fields_end ts i n l a = subst (λ us. AllBelow us n) (take_all i ts l) a
 
 all_join : (cs es : List ConDecl) → all_fields (cs ++ es) ≡ all_fields cs ++ all_fields es
 all_join [] es = refl
@@ -40,7 +40,7 @@ cons_more cs i n c l e b a =
     (below_join (all_fields (take i cs)) (all_fields (c ∷ [])) n a (below_join c.fields [] n b (none_below n)))
 
 pub cons_end : (cs : List ConDecl) (i n : ℕ) → length cs ≤ i → AllBelow (all_fields (take i cs)) n → AllBelow (all_fields cs) n
-cons_end cs i n l a = subst (λ us. AllBelow (all_fields us) n) (take_whole i cs l) a
+cons_end cs i n l a = subst (λ us. AllBelow (all_fields us) n) (take_all i cs l) a
 
 -- the data types before this one refer only to earlier ones
 abbrev pub OrderedTo : List Data → ℕ → Type 0
@@ -70,17 +70,12 @@ ordered_more datas n it l e b a = λ d other k f. step d other k f
         split zero (suc n) k = inl (omega arith)
         split (suc d) (suc n) k = elim (split d n (omega arith)) [ inl h ↦ inl (omega arith) | inr h ↦ inr (omega arith) ]
 
-within : (datas : List Data) (d : ℕ) (it : Data) → slice_get datas d ≡ Some it → d < length datas
-within [] d it e = absurd (cc)
-within (x ∷ datas) zero it e = omega arith
-within (x ∷ datas) (suc d) it e = let w = within datas d it e in omega arith
-
 pub ordered_end : (datas : List Data) (n : ℕ) → length datas ≤ n → OrderedTo datas n → HasNoCycle datas
 ordered_end datas n l a =
     record {
       place = λ d. d;
       within = λ d k. k;
-      earlier = λ d e k r. a d r.0 (let w = within datas d r.0 r.1 in omega arith) r.1 e r.2;
+      earlier = λ d e k r. a d r.0 (let w = slice_get_within datas d r.0 r.1 in omega arith) r.1 e r.2;
     }
 
 pub no_datas : (datas : List Data) → datas ≡ [] → HasNoCycle datas

@@ -26,9 +26,3 @@ has_functions Val Val = true
 has_functions Val Cir = true
 has_functions Cir Cir = true
 has_functions _ _ = false
-
--- terms have types of the kind
-abbrev pub is_of_terms : Kind → Bool
-is_of_terms Val = true
-is_of_terms Cir = true
-is_of_terms _ = false

@@ -4,7 +4,7 @@ ghost use Rattle.chw_types.specs.SameTypes.{SameTypes};
 ghost use Rattle.chw_types.specs.Kinds.{IsOfTerms};
 ghost use Rattle.chw_typing.specs.Scopes.{HasKind, IsTermType};
 ghost use Rattle.term_types.specs.Settings.{setting_in};
-ghost use Rattle.term_types.specs.Kinding.{has_functions, is_of_terms, LacksKind, LacksKindUpTo, IsWithKind};
+ghost use Rattle.term_types.specs.Kinding.{has_functions, LacksKind, LacksKindUpTo, IsWithKind};
 
 use chw_base::NoMemory;
 use chw_terms::Scene;
@@ -78,16 +78,5 @@ pub(crate) fn kind_of_terms(scene: &Scene, kinds: &[Kind], ty: &Ty) -> Option<Ki
     let Some(kind) = kind_in(scene, kinds, ty) else {
         return None;
     };
-    if is_of_terms(kind) { Some(kind) } else { None }
-}
-
-// Whether terms have types of this kind.
-fn is_of_terms(kind: Kind) -> bool
-    ensures { result ≡ is_of_terms kind }
-{
-    match kind {
-        Kind::Val => true,
-        Kind::Cir => true,
-        _ => false,
-    }
+    if kind.is_of_terms() { Some(kind) } else { None }
 }

@@ -1,6 +1,5 @@
 //! Leaving out what doesn't matter to the polynomials of naturals.
 ghost use Rattle.std.specs.Prelude.{◌≡◌, IfOk};
-ghost use Rattle.chw_types.specs.Polynomials.{is_natural};
 ghost use Rattle.chw_types.specs.SameTypes.{SameTypes};
 ghost use Rattle.zero_parts.specs.WithoutZeros.{is_numeral, plus, by, reduced, reduced_if, without_zeros as without_zeros_of};
 ghost use Rattle.zero_parts.specs.Leaving.{HasEachKind};
@@ -18,20 +17,6 @@ pub fn without_zeros(alloc: Global, t: &Ty) -> Result<Ty, NoMemory>
     ensures kind { IfOk result (λ r. HasEachKind t.now r) }
 {
     Ok(leave(alloc, t)?)
-}
-
-// Whether a type has only variables, numerals, sums and products.
-#[tactic(auto, unfolding(chw_types::specs::Polynomials::is_natural))]
-fn is_natural(t: &Ty) -> bool
-    ensures { result ≡ is_natural t.now }
-{
-    match &t.node {
-        TyNode::Var(_) => true,
-        TyNode::NatLit(_) => true,
-        TyNode::Sum(a, b) => is_natural(a) && is_natural(b),
-        TyNode::Times(a, b) => is_natural(a) && is_natural(b),
-        _ => false,
-    }
 }
 
 // Whether a type is this numeral.
@@ -100,8 +85,8 @@ fn leave(alloc: Global, t: &Ty) -> Result<Ty, NoMemory>
     match &t.node {
         TyNode::Var(_) => t.copy(alloc),
         TyNode::NatLit(_) => t.copy(alloc),
-        TyNode::Sum(_, _) => reduced_if(alloc, is_natural(t), t),
-        TyNode::Times(_, _) => reduced_if(alloc, is_natural(t), t),
+        TyNode::Sum(_, _) => reduced_if(alloc, t.is_natural(), t),
+        TyNode::Times(_, _) => reduced_if(alloc, t.is_natural(), t),
         TyNode::DomOf(_) => t.copy(alloc),
         TyNode::Unsigned(w) => Ty::scalar(alloc, Scalar::U, leave(alloc, w)?),
         TyNode::Signed(w) => Ty::scalar(alloc, Scalar::S, leave(alloc, w)?),

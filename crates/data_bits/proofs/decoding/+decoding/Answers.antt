@@ -16,7 +16,8 @@ use Rattle.chw_layout.specs.Encodes.{Encodes}
 use Rattle.data_bits.specs.Encoding.{Fits}
 use Rattle.data_bits.specs.Decoding.{IsRow, ArePadded, FieldsWithin}
 use Rattle.data_bits.proofs.Encoded.{elements_fit}
-use Rattle.data_bits.proofs.Unfolded.{whole, whole_vector, fields_whole, field_lighter, constructor_lighter}
+use Rattle.chw_types.proofs.Weights.{whole, whole_vector}
+use Rattle.data_bits.proofs.Unfolded.{fields_whole, field_lighter, constructor_lighter}
 use Rattle.data_bits.proofs.Decoded.{scalar_decoded, width_small, row_begins, row_room, row_goes_on, row_fails, row_ends, vector_decoded, vector_none, vector_length, fields_begin, field_has_width, field_room, fields_go_on, fields_fail, fields_done, fields_not_zero, data_known, tag_room, tag_narrow, data_fields, tag_fails, data_fails, data_decoded, bits_mean, length_first, read_at, none_of, value_some, row_some, padded_some, not_true}
 use Rattle.data_bits.proofs.decoding.+decoding.Goals as goal
 

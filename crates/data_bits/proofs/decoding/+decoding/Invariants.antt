@@ -2,7 +2,8 @@ use Rattle.std.proofs.Common.{◌+◌, ◌*◌}
 use Rattle.chw_types.specs.Arguments.{arguments}
 use Rattle.chw_types.specs.TypeTree.{data_of}
 use Rattle.chw_types.specs.TypeView.{trees_of}
-use Rattle.data_bits.proofs.Unfolded.{whole, fields_whole}
+use Rattle.chw_types.proofs.Weights.{whole}
+use Rattle.data_bits.proofs.Unfolded.{fields_whole}
 use Rattle.data_bits.proofs.Decoded.{RowRead, FieldsRead}
 use Rattle.data_bits.proofs.decoding.+decoding.Given as goal
 

@@ -1,14 +1,15 @@
 use Rattle.std.proofs.Common.{sym, ◌∙◌}
+use Rattle.std.proofs.lemmas.Bool.{false≢true}
 use Rattle.std.specs.Prelude.{reverse}
 use Rattle.term_types.specs.Settings.{setting_in}
-use Rattle.term_types.proofs.Settled.{terms_found, of_others, of_none}
+use Rattle.term_types.proofs.Settled.{of_others, of_none}
 use Rattle.term_types.proofs.found.kind_of_terms.Goals as goal
 
 pub returns-in_default : goal.returns-in_default
 returns-in_default c = of_none (setting_in c.args.scene.now) (reverse c.args.kinds.now) c.args.ty.now c.in_default.ensures
 
 pub returns-then-is_of_terms : goal.returns-then-is_of_terms
-returns-then-is_of_terms c = (c.in-Some.ensures, terms_found c.in-Some.kind (sym c.is_of_terms.ensures ∙ c.if-is_of_terms.true))
+returns-then-is_of_terms c = (c.in-Some.ensures, c.is_of_terms.ensures.0 c.if-is_of_terms.true)
 
 pub returns-else-is_of_terms : goal.returns-else-is_of_terms
-returns-else-is_of_terms c = of_others (setting_in c.args.scene.now) (reverse c.args.kinds.now) c.args.ty.now c.in-Some.kind c.in-Some.ensures (sym c.is_of_terms.ensures ∙ c.if-is_of_terms.false)
+returns-else-is_of_terms c = of_others (setting_in c.args.scene.now) (reverse c.args.kinds.now) c.args.ty.now c.in-Some.kind c.in-Some.ensures (λ of. false≢true (sym c.if-is_of_terms.false ∙ c.is_of_terms.ensures.1 of))
