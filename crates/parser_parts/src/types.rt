@@ -23,8 +23,7 @@ pub fn do_first_type(alloc: Global, values: &mut Stack<Value>) -> Result<(), NoM
     let Some(ty) = pop::<TypeTree>(values) else {
         return Ok(());
     };
-    let mut types = Stack::new(alloc);
-    values.push(Value::Types(types.with(ty)?))
+    values.push(Value::Types(Stack::new(alloc).with(ty)?))
 }
 
 pub fn do_more_type(_alloc: Global, values: &mut Stack<Value>) -> Result<(), NoMemory>
