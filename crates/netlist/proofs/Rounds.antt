@@ -1,9 +1,8 @@
 -- A cycle of wires, turned round.
-use Rattle.std.proofs.Common.{◌≡◌, ℕ, ◌+◌, ◌-◌, ◌<◌, ◌≤◌, ◌⊎◌, inl, inr, List, ◌++◌, length, take, drop, reverse, get_or, sym, ◌∙◌, ap, arith, length-append, length-drop, refl}
+use Rattle.std.proofs.Common.{◌≡◌, ℕ, ◌+◌, ◌-◌, ◌<◌, ◌⊎◌, inl, inr, List, ◌++◌, length, take, drop, reverse, get_or, sym, ◌∙◌, ap, arith, length-append, length-drop, refl}
 use Rattle.std.proofs.lemmas.Bool.{cases_eq, cases_lt}
 use Rattle.std.proofs.lemmas.List.{get_or_append_left, get_or-append_right, get_or-drop, get_or-reverse, get_or-take, length-reverse, length-take-le}
 use Rattle.graph_order.specs.Orders.{IsCycle as IsRound, LeastFirst as LeastFirstOf}
-use Rattle.graph_order.specs.References.{Refers}
 use Rattle.netlist.specs.Drivers.{IsTable, waits}
 use Rattle.netlist.specs.Feeds.{Feeds}
 use Rattle.netlist.specs.Orders.{IsCycle, LeastFirst}

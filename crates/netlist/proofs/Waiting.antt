@@ -1,11 +1,11 @@
 -- The references of the graph of wires, and which wires feed which.
-use Rattle.std.proofs.Common.{◌≡◌, ℕ, ◌+◌, ◌-◌, ◌<◌, ◌≤◌, List, [], length, get_or, map, reverse, refl, sym, ◌∙◌, ap, subst, arith, Option, Some, None, option_map, slice_get, inl, inr, ◌∷◌, zero, suc}
+use Rattle.std.proofs.Common.{◌≡◌, ℕ, ◌-◌, ◌<◌, ◌≤◌, List, [], length, get_or, map, reverse, refl, sym, ◌∙◌, ap, arith, Option, Some, None, option_map, slice_get, inl, inr, ◌∷◌, zero, suc}
 use Rattle.std.specs.Prelude.{option_and_then}
 use Rattle.std.proofs.lemmas.Bool.{cases_lt}
 use Rattle.std.proofs.lemmas.List.{get_or-reverse, get_or_past, length-map, length-reverse}
-use Rattle.std.proofs.lemmas.Option.{get_or_from_slice_get, same_Some, slice_get-get_or, slice_get-map, slice_get_past, slice_get_within}
+use Rattle.std.proofs.lemmas.Option.{get_or_from_slice_get, slice_get-get_or, slice_get-map, slice_get_within}
 use Rattle.chw_base.specs.declared.index.WireId.{WireId}
-use Rattle.graph_order.specs.References.{Refers, reference_at, reference_count}
+use Rattle.graph_order.specs.References.{Refers, reference_at}
 use Rattle.netlist.specs.Drivers.{IsTable, waits, waits_at, waits_of}
 use Rattle.netlist.specs.Feeds.{Feeds, awaited, awaited_at, awaited_wire, target_at}
 use Rattle.netlist.specs.declared.net.Cell.{Cell}

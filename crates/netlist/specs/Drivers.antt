@@ -7,8 +7,10 @@ use Rattle.netlist.specs.declared.net.Cell.{Cell}
 pub record IsTable (wires : ℕ) (cells : List Cell) (drivers : List (Option ℕ)) : Type 0 where
   pub size : length drivers ≡ wires
   pub few : length cells ≤ wires
-  pub finds : (place w : ℕ) → target_at cells place ≡ Some w → slice_index_or drivers w None ≡ Some place
-  pub drives : (place w : ℕ) → slice_index_or drivers w None ≡ Some place → target_at cells place ≡ Some w
+  pub finds : (place w : ℕ) → target_at cells place ≡ Some w
+      → slice_index_or drivers w None ≡ Some place
+  pub drives : (place w : ℕ) → slice_index_or drivers w None ≡ Some place
+      → target_at cells place ≡ Some w
 
 -- the wires that a driver waits for, the last one first
 abbrev pub waits_of : Option Cell → List ℕ

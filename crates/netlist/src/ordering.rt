@@ -3,7 +3,7 @@ ghost use Rattle.std.specs.Prelude.{◌≡◌, ◌<◌, ◌++◌, length, drop, 
 ghost use Rattle.chw_base.specs.Outcome.{IfFault};
 ghost use Rattle.graph_order.specs.Orders.{IsOrder as OrdersNodes};
 ghost use Rattle.netlist.specs.Drivers.{IsTable, waits};
-ghost use Rattle.netlist.specs.Orders.{IsLoop, IsOrder, OrdersCells, wire_numbers};
+ghost use Rattle.netlist.specs.Orders.{IsLoop, IsOrder, wire_numbers};
 ghost use Rattle.netlist.specs.Sound.{Sound};
 
 use crate::drivers::{driver_of, drivers};

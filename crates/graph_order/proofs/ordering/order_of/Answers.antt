@@ -1,4 +1,4 @@
-use Rattle.std.proofs.Common.{◌≡◌, length, arith}
+use Rattle.std.proofs.Common.{arith}
 use Rattle.graph_order.proofs.Ends.{ordered}
 use Rattle.graph_order.proofs.Exclusion.{excludes, leads_back, places}
 use Rattle.graph_order.proofs.ordering.order_of.Goals as goal

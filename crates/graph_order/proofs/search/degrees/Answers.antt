@@ -1,4 +1,4 @@
-use Rattle.std.proofs.Common.{◌<◌, ◌∙◌, length, ap, arith, sym, ◌++◌, ◌∷◌, []}
+use Rattle.std.proofs.Common.{◌<◌, length, arith, sym}
 use Rattle.graph_order.proofs.Searching.{degrees_more}
 use Rattle.graph_order.proofs.search.degrees.Goals as goal
 

@@ -1,4 +1,4 @@
-use Rattle.std.proofs.Common.{◌≡◌, ◌-◌, ◌∙◌, [], length, ap, get_or, sym, None, slice_get}
+use Rattle.std.proofs.Common.{◌-◌, ◌∙◌, [], length, ap, get_or, sym, None, slice_get}
 use Rattle.netlist.specs.Drivers.{waits, waits_at}
 use Rattle.netlist.proofs.Waiting.{names_at, reference_by}
 use Rattle.netlist.proofs.waits.WaitsGraph.reference.Goals as goal
