@@ -9,7 +9,6 @@ use Rattle.type_laws.proofs.Factors.{times_times}
 use Rattle.type_laws.proofs.PutSame.{natural_as}
 use Rattle.zero_parts.specs.WithoutZeros.{is_numeral, plus, by, reduced}
 use Rattle.zero_parts.proofs.Tight.{numeral_is}
-use Rattle.std.proofs.lemmas.Bool.{and_parts}
 
 pub coefficient_append : (p q : Summands) (m : Monomial) → coefficient (p ++ q) m ≡ coefficient p m + coefficient q m
 coefficient_append [] q m = omega arith
