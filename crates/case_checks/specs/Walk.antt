@@ -2,32 +2,22 @@
 use Rattle.std.specs.Prelude.{List, ◌⊎◌}
 use Rattle.chw_types.specs.declared.declarations.Data.{Data}
 use Rattle.chw_terms.specs.TermTree.{TermTree, lam, app, ty_lam, ty_app, letrec, vec_lit, case_of, Terms, no_terms, term_and, Group, no_bindings, bind, Alts, no_alts, alt}
+use Rattle.chw_typing.specs.AllCases.{AllCases, AllCasesOfAlts, AllCasesOfGroup, AllCasesOfTerms}
 use Rattle.case_checks.specs.declared.lacks.Lacks.{Lacks}
 use Rattle.case_checks.specs.LeavesOut.{LeavesOut, LeavesNothing}
 
-abbrev mutual
-  -- no case in the term leaves anything out
-  pub KeepsAll : List Data → TermTree → Type 0
-  KeepsAll datas (lam t e) = KeepsAll datas e
-  KeepsAll datas (app f a) = KeepsAll datas f × KeepsAll datas a
-  KeepsAll datas (ty_lam k e) = KeepsAll datas e
-  KeepsAll datas (ty_app f t) = KeepsAll datas f
-  KeepsAll datas (letrec g e) = GroupKeepsAll datas g × KeepsAll datas e
-  KeepsAll datas (vec_lit t es) = TermsKeepAll datas es
-  KeepsAll datas (case_of e alts) = LeavesNothing datas alts × KeepsAll datas e × AltsKeepAll datas alts
-  KeepsAll datas _ = Unit {0}
+-- no case in the term leaves anything out
+abbrev pub KeepsAll : List Data → TermTree → Type 0
+KeepsAll datas e = AllCases (LeavesNothing datas) e
 
-  pub TermsKeepAll : List Data → Terms → Type 0
-  TermsKeepAll datas no_terms = Unit {0}
-  TermsKeepAll datas (term_and e es) = KeepsAll datas e × TermsKeepAll datas es
+abbrev pub TermsKeepAll : List Data → Terms → Type 0
+TermsKeepAll datas es = AllCasesOfTerms (LeavesNothing datas) es
 
-  pub GroupKeepsAll : List Data → Group → Type 0
-  GroupKeepsAll datas no_bindings = Unit {0}
-  GroupKeepsAll datas (bind t e g) = KeepsAll datas e × GroupKeepsAll datas g
+abbrev pub GroupKeepsAll : List Data → Group → Type 0
+GroupKeepsAll datas g = AllCasesOfGroup (LeavesNothing datas) g
 
-  pub AltsKeepAll : List Data → Alts → Type 0
-  AltsKeepAll datas no_alts = Unit {0}
-  AltsKeepAll datas (alt q e more) = KeepsAll datas e × AltsKeepAll datas more
+abbrev pub AltsKeepAll : List Data → Alts → Type 0
+AltsKeepAll datas alts = AllCasesOfAlts (LeavesNothing datas) alts
 
 abbrev mutual
   -- the first case of the term that leaves something out leaves this out: a case stands before those in it, and else the order is that of the text

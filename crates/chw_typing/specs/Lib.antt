@@ -1,3 +1,4 @@
+pub mod AllCases
 pub mod Alternatives
 pub mod Examples
 pub mod HeadTypes

@@ -8,37 +8,27 @@ use Rattle.chw_types.specs.BuiltIn.{built_in}
 use Rattle.chw_types.specs.Ports.{Leaves}
 use Rattle.chw_terms.specs.declared.program.Def.{Def}
 use Rattle.chw_terms.specs.declared.program.Program.{Program}
-use Rattle.chw_terms.specs.TermTree.{TermTree, lam, app, ty_lam, ty_app, letrec, vec_lit, case_of, Terms, no_terms, term_and, Group, no_bindings, bind, Alts, no_alts, alt}
+use Rattle.chw_terms.specs.TermTree.{TermTree, Terms, Group, Alts}
 use Rattle.chw_terms.specs.References.{IsField, DataRefers, DefRefers}
 use Rattle.graph_order.specs.References.{HasNoCycle}
 use Rattle.chw_terms.specs.Tidy.{HasItsKind}
 use Rattle.chw_typing.specs.Scopes.{Setting, IsTermType}
+use Rattle.chw_typing.specs.AllCases.{AllCases, AllCasesOfAlts, AllCasesOfGroup, AllCasesOfTerms}
 use Rattle.chw_typing.specs.Alternatives.{IsCovered}
 use Rattle.chw_typing.specs.Typing.{HasTypeUpTo}
 
-abbrev mutual
-  -- each case in the term has an alternative for whatever it looks at
-  pub IsComplete : List Data → TermTree → Type 0
-  IsComplete datas (lam t e) = IsComplete datas e
-  IsComplete datas (app f a) = IsComplete datas f × IsComplete datas a
-  IsComplete datas (ty_lam k e) = IsComplete datas e
-  IsComplete datas (ty_app f t) = IsComplete datas f
-  IsComplete datas (letrec g e) = GroupIsComplete datas g × IsComplete datas e
-  IsComplete datas (vec_lit t es) = AllAreComplete datas es
-  IsComplete datas (case_of e alts) = IsCovered datas alts × IsComplete datas e × AltsAreComplete datas alts
-  IsComplete datas _ = Unit {0}
+-- each case in the term has an alternative for whatever it looks at
+abbrev pub IsComplete : List Data → TermTree → Type 0
+IsComplete datas e = AllCases (IsCovered datas) e
 
-  pub AllAreComplete : List Data → Terms → Type 0
-  AllAreComplete datas no_terms = Unit {0}
-  AllAreComplete datas (term_and e es) = IsComplete datas e × AllAreComplete datas es
+abbrev pub AllAreComplete : List Data → Terms → Type 0
+AllAreComplete datas es = AllCasesOfTerms (IsCovered datas) es
 
-  pub GroupIsComplete : List Data → Group → Type 0
-  GroupIsComplete datas no_bindings = Unit {0}
-  GroupIsComplete datas (bind t e g) = IsComplete datas e × GroupIsComplete datas g
+abbrev pub GroupIsComplete : List Data → Group → Type 0
+GroupIsComplete datas g = AllCasesOfGroup (IsCovered datas) g
 
-  pub AltsAreComplete : List Data → Alts → Type 0
-  AltsAreComplete datas no_alts = Unit {0}
-  AltsAreComplete datas (alt q e more) = IsComplete datas e × AltsAreComplete datas more
+abbrev pub AltsAreComplete : List Data → Alts → Type 0
+AltsAreComplete datas alts = AllCasesOfAlts (IsCovered datas) alts
 
 -- the type leads from ports, with so many leaves together, to a port with so many leaves
 pub data LeadsToPort (datas : List Data) : TypeTree → ℕ → ℕ → Type 0 where
