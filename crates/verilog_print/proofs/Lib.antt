@@ -1,3 +1,4 @@
 pub mod Declared
 pub mod Items
+pub mod Joined
 pub mod Noted
