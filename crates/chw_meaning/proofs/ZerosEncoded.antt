@@ -3,6 +3,7 @@ use Rattle.std.specs.Prelude.{Bool, replicate, false, ◌-◌, ◌*◌, ◌^◌,
 use Rattle.std.proofs.Common.{◌≡◌, ℕ, suc, zero, ◌+◌, ◌≤◌, List, [], ◌∷◌, ◌++◌, length, refl, sym, ap, ◌∙◌, subst, arith}
 use Rattle.std.proofs.lemmas.List.{replicate-append-replicate, length-replicate}
 use Rattle.std.proofs.Math.Nat.{zero-div}
+use Rattle.chw_base.specs.declared.limits.TheConstants.{DATA_BITS}
 use Rattle.chw_bits.specs.Bits.{bits_of}
 use Rattle.chw_types.specs.declared.declarations.Data.{Data}
 use Rattle.chw_types.specs.TypeTree.{TypeTree, scalar, vector, data_of}
@@ -55,7 +56,7 @@ mutual
       let more : w + n * w ≡ suc n * w = omega arith in
       subst (EncodesElements datas t (datum_and v vs)) (replicate-append-replicate w (n * w) false ∙ ap (λ k. replicate k false) more) (element_bits (zero_bits d z) (each_zero d zs))
 
-  fields_zero : {datas : List Data} {fs : List TypeTree} {σ : Substitution} {ds : Datums} (s : ℕ) → MeasuredFields datas fs σ (fits s) → s ≤ 1024 → AreZeroFields datas fs σ ds → EncodesFields datas fs σ ds (replicate s false)
+  fields_zero : {datas : List Data} {fs : List TypeTree} {σ : Substitution} {ds : Datums} (s : ℕ) → MeasuredFields datas fs σ (fits s) → s ≤ DATA_BITS → AreZeroFields datas fs σ ds → EncodesFields datas fs σ ds (replicate s false)
   fields_zero {datas} {σ = σ} s d le no_zero_field = subst (λ k. EncodesFields datas [] σ no_data (replicate k false)) (no_width s (no_fields d)) no_field_bits
   fields_zero {datas} {σ = σ} s d le (zero_field_and {f = f} {fs = fs} {d = v} {ds = vs} z zs) =
       let of = field_width le d in
