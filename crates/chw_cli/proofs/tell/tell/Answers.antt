@@ -1,4 +1,5 @@
-use Rattle.std.proofs.Common.{refl}
+use Rattle.std.proofs.Common.{refl, sym}
+use Rattle.chw_cli.proofs.Limits.{depth_line, long_text_line, too_large_line}
 use Rattle.chw_cli.proofs.Telling.{told_by}
 use Rattle.chw_cli.proofs.tell.tell.Goals as goal
 
@@ -8,7 +9,7 @@ returns-in-Words g c =
 
 pub returns-in-LongText : goal.returns-in-LongText
 returns-in-LongText g c =
-    told_by g.E.Sink.put_gives g.E.Sink.written g.E.Sink.faults c.args.refusal.now _ c.in-LongText.is _ ⊥ _ _ _ _ refl refl (λ no. absurd no) c.put_line-in-LongText.ensures
+    told_by g.E.Sink.put_gives g.E.Sink.written g.E.Sink.faults c.args.refusal.now _ c.in-LongText.is _ ⊥ _ _ _ _ (sym long_text_line) refl (λ no. absurd no) c.put_line-in-LongText.ensures
 
 pub returns-in-Form : goal.returns-in-Form
 returns-in-Form g c =
@@ -16,7 +17,7 @@ returns-in-Form g c =
 
 pub returns-in-TooLarge : goal.returns-in-TooLarge
 returns-in-TooLarge g c =
-    told_by g.E.Sink.put_gives g.E.Sink.written g.E.Sink.faults c.args.refusal.now _ c.in-TooLarge.is _ ⊥ _ _ _ _ refl refl (λ no. absurd no) c.put_line-in-TooLarge.ensures
+    told_by g.E.Sink.put_gives g.E.Sink.written g.E.Sink.faults c.args.refusal.now _ c.in-TooLarge.is _ ⊥ _ _ _ _ (sym too_large_line) refl (λ no. absurd no) c.put_line-in-TooLarge.ensures
 
 pub returns-in-Write : goal.returns-in-Write
 returns-in-Write g c =
@@ -36,4 +37,4 @@ returns-in-Syntax g c =
 
 pub returns-in-Depth : goal.returns-in-Depth
 returns-in-Depth g c =
-    told_by g.E.Sink.put_gives g.E.Sink.written g.E.Sink.faults c.args.refusal.now _ c.in-Depth.is _ ⊥ _ _ _ _ refl refl (λ no. absurd no) c.put_line-in-Depth.ensures
+    told_by g.E.Sink.put_gives g.E.Sink.written g.E.Sink.faults c.args.refusal.now _ c.in-Depth.is _ ⊥ _ _ _ _ (sym depth_line) refl (λ no. absurd no) c.put_line-in-Depth.ensures
