@@ -6,6 +6,7 @@ pub mod InMemory
 pub mod MemReading
 pub mod MemWriting
 pub mod Names
+pub mod Ordered
 pub mod Outcome
 pub mod Passing
 pub mod Reading
