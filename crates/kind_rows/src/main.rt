@@ -5,7 +5,8 @@ use chw_base::{Name, Or};
 use chw_terms::Def;
 use chw_types::{Data, Ty};
 use data_kinds::{definition_cycle, find_kinds};
-use row_notation::{Item, Items, Unread, kind_name, print_rows, put, put_number, read};
+use row_notation::{Item, Items, kind_name, put_number, read};
+use row_tables::{Unread, print_rows, put};
 use std::alloc::Global;
 use std::io;
 

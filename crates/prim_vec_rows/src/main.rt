@@ -6,7 +6,8 @@ use chw_prims::Prim;
 use chw_terms::{Arg, Head, Term};
 use chw_types::Ty;
 use prim_vec::{can_unroll, unroll};
-use row_notation::{Unread, print_rows, put, put_term, read};
+use row_notation::{put_term, read};
+use row_tables::{Unread, print_rows, put};
 use std::alloc::Global;
 use std::io;
 

@@ -8,7 +8,8 @@ use chw_names::least::Least;
 use chw_parser::parse;
 use chw_resolve::program_of;
 use chw_terms::Program;
-use row_notation::{Unread, print_rows, put, put_data, put_names, put_number, put_term, put_type};
+use row_notation::{put_data, put_names, put_number, put_term, put_type};
+use row_tables::{Unread, print_rows, put};
 use std::alloc::Global;
 use std::io;
 

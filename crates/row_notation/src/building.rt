@@ -1,8 +1,9 @@
 //! What groups in parentheses say.
-use crate::items::{Item, Items, TermForm, TypeForm, Unread};
+use crate::items::{Item, Items, TermForm, TypeForm};
 use chw_base::{DataId, Name, Or, Seq};
 use chw_terms::{Alt, Arg, Binding, Head, Pattern, Term};
 use chw_types::{ConDecl, Data, Kind, Scalar, Ty};
+use row_tables::Unread;
 use std::alloc::Global;
 
 /// What a group of these items says.

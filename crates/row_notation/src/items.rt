@@ -2,12 +2,9 @@
 use chw_base::{Name, Or, TyIx, VarIx};
 use chw_terms::{Alt, Binding, Head, Pattern, Term};
 use chw_types::{ConDecl, Data, Kind, Ty, TyNode};
+use row_tables::Unread;
 use std::alloc::Global;
 use std::vec::IntoIter;
-
-/// The text is none of the notation, or has something else where this was looked for.
-#[derive(Clone, Copy, Debug)]
-pub struct Unread;
 
 /// What a word or a group in parentheses says.
 #[derive(Drop)]

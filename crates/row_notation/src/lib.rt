@@ -20,10 +20,8 @@ pub mod building;
 pub mod items;
 pub mod reading;
 pub mod showing;
-pub mod table;
 pub mod words;
 
-pub use items::{Item, Items, Unread};
+pub use items::{Item, Items};
 pub use reading::read;
-pub use showing::{kind_name, put, put_data, put_names, put_number, put_term, put_type};
-pub use table::print_rows;
+pub use showing::{kind_name, put_data, put_names, put_number, put_term, put_type};

@@ -1,8 +1,9 @@
 //! The items of a text.
 use crate::building::group_of;
-use crate::items::{Item, Items, Unread};
+use crate::items::{Item, Items};
 use crate::words::item_of;
 use chw_base::Or;
+use row_tables::Unread;
 use std::alloc::Global;
 use std::mem;
 

@@ -5,11 +5,7 @@ use chw_prims::name;
 use chw_terms::{Arg, Head, Pattern, Scalar, Term};
 use chw_types::{Data, Kind, Ty, TyNode};
 use itoa::Buffer;
-
-/// Writes a text.
-pub fn put(out: &mut Vec<u8>, text: &str) -> Result<(), NoMemory> {
-    Ok(out.extend_from_slice(text.as_bytes())?)
-}
+use row_tables::put;
 
 /// Writes a sign and a number.
 pub fn put_number(out: &mut Vec<u8>, sign: &str, number: u32) -> Result<(), NoMemory> {

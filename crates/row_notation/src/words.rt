@@ -1,10 +1,11 @@
 //! What single words say.
-use crate::items::{Item, TermForm, TypeForm, Unread};
+use crate::items::{Item, TermForm, TypeForm};
 use chw_base::{ConId, DefId, DomId, MadeId, Name, NoMemory, Or, TyIx, VarIx};
 use chw_bits::Bits;
 use chw_prims::named;
 use chw_terms::{Pattern, Term};
 use chw_types::{Kind, Scalar, Ty};
+use row_tables::Unread;
 use std::alloc::Global;
 
 /// What a word says.

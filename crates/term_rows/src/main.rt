@@ -5,7 +5,8 @@ mod spine;
 
 use chw_base::Or;
 use chw_terms::{depth, evaluate, numeral, occurs, put, put_type_in, shift, shift_types};
-use row_notation::{Items, Unread, print_rows, put_number, put_term, put_type, read};
+use row_notation::{Items, put_number, put_term, put_type, read};
+use row_tables::{Unread, print_rows};
 use spine::put_spine;
 use std::alloc::Global;
 use std::io;
@@ -64,14 +65,14 @@ fn put_evaluated(alloc: Global, mut items: Items, out: &mut Vec<u8>) -> Result<(
     put_type(out, &evaluated)?;
     match numeral(&evaluated) {
         Some(number) => Ok(put_number(out, ", the numeral ", number)?),
-        None => Ok(row_notation::put(out, ", no numeral")?),
+        None => Ok(row_tables::put(out, ", no numeral")?),
     }
 }
 
 fn put_occurs(mut items: Items, out: &mut Vec<u8>) -> Result<(), Or<Unread>> {
     let at = items.var()?;
     let occurs = occurs(&items.term()?, at);
-    Ok(row_notation::put(out, if occurs { "true" } else { "false" })?)
+    Ok(row_tables::put(out, if occurs { "true" } else { "false" })?)
 }
 
 fn put_depth(mut items: Items, out: &mut Vec<u8>) -> Result<(), Or<Unread>> {

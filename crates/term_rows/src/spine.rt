@@ -2,7 +2,8 @@
 use chw_base::{NoMemory, Or, TyIx, VarIx};
 use chw_terms::{Head, Term, depth, occurs, put, put_type_in, shift};
 use chw_types::Ty;
-use row_notation::{Items, Unread, put_number};
+use row_notation::{Items, put_number};
+use row_tables::Unread;
 use std::alloc::Global;
 
 /// Writes what the calls give for a spine of this many arguments, each of them with a type argument.
@@ -54,6 +55,6 @@ fn spine(alloc: Global, count: u32) -> Result<Term, NoMemory> {
 }
 
 fn put_answer(out: &mut Vec<u8>, question: &str, answer: bool) -> Result<(), NoMemory> {
-    row_notation::put(out, question)?;
-    row_notation::put(out, if answer { ": yes" } else { ": no" })
+    row_tables::put(out, question)?;
+    row_tables::put(out, if answer { ": yes" } else { ": no" })
 }

@@ -8,7 +8,8 @@ use chw_prims::schema;
 use chw_terms::Head;
 use chw_types::{kind_of, put_arguments, put_type, same, shift_type, type_text};
 use ports::{both, put_leaves, put_representable};
-use row_notation::{Item, Items, Unread, kind_name, print_rows, put, read};
+use row_notation::{Item, Items, kind_name, read};
+use row_tables::{Unread, print_rows, put};
 use std::alloc::Global;
 use std::io;
 

@@ -4,7 +4,8 @@ ghost use Rattle.chw_types.specs.References.{HasNoCycle};
 
 use chw_base::{Name, NoMemory, Or, Seq, TyIx};
 use chw_types::{ConDecl, Data, Kind, Ty, leaves, representable, type_text};
-use row_notation::{Items, Unread, put};
+use row_notation::Items;
+use row_tables::{Unread, put};
 use std::alloc::Global;
 
 /// `data Both (a : Cir) (b : Cir) = Both a b;`

@@ -5,7 +5,7 @@ mod found;
 
 use chw_base::Or;
 use found::types;
-use row_notation::{Unread, print_rows, put};
+use row_tables::{Unread, print_rows, put};
 use std::alloc::Global;
 use std::io;
 

@@ -3,7 +3,8 @@
 
 use chw_base::Or;
 use chw_types::type_text;
-use row_notation::{Unread, print_rows, read};
+use row_notation::read;
+use row_tables::{Unread, print_rows};
 use std::alloc::Global;
 use std::io;
 use zero_parts::without_zeros;

@@ -1,11 +1,18 @@
 //! Tables of rows.
-use crate::items::Unread;
-use crate::showing::put;
 use chw_base::{NoMemory, Or};
 use std::alloc::Global;
 use std::io::{self, Print};
 use std::rt::{Env, Files};
 use std::{env, fs};
+
+/// The text of a row is none of its notation, or names no call.
+#[derive(Clone, Copy, Debug)]
+pub struct Unread;
+
+/// Writes a text.
+pub fn put(out: &mut Vec<u8>, text: &str) -> Result<(), NoMemory> {
+    Ok(out.extend_from_slice(text.as_bytes())?)
+}
 
 /// Writes the rows of the files that the program's words name, each with its answer.
 pub fn print_rows<

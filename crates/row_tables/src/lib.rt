@@ -1,0 +1,6 @@
+//! Tables of tests: a row is a line of a file, and a program writes each row with what its call gives.
+#![tactic(auto)]
+
+pub mod table;
+
+pub use table::{Unread, print_rows, put};
