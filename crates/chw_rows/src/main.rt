@@ -8,7 +8,7 @@
 mod run;
 
 use chw_base::{Name, NoMemory, Or};
-use row_tables::{Unread, bytes_of, print_rows};
+use row_tables::{Unread, bytes_of, print_rows, words_of};
 use run::{Given, put_run};
 use std::alloc::Global;
 use std::io;
@@ -29,15 +29,8 @@ fn answer(alloc: Global, call: &str, text: &str, out: &mut Vec<u8>) -> Result<()
 
 // Writes what is answered to the words between quotation marks, where the file has the text behind them.
 fn put_words(alloc: Global, row: &str, out: &mut Vec<u8>) -> Result<(), Or<Unread>> {
-    let mut words = Vec::new(alloc);
-    let mut text = "";
-    for (place, piece) in row.split('"').enumerate() {
-        if place % 2 == 1 {
-            words.push(Name::from(bytes_of(alloc, piece)?))?;
-        } else {
-            text = piece;
-        }
-    }
+    let words = words_of(alloc, row)?;
+    let (_, text) = row.rsplit_once('"').unwrap_or(("", row));
     let text = bytes_of(alloc, text.trim_start())?;
     Ok(put_run(
         alloc,

@@ -1,6 +1,6 @@
 //! Texts in rows.
 use crate::table::{Unread, put};
-use chw_base::{NoMemory, Or};
+use chw_base::{Name, NoMemory, Or};
 use itoa::Buffer;
 use std::alloc::Global;
 
@@ -52,4 +52,38 @@ pub fn put_number(out: &mut Vec<u8>, sign: &str, number: u32) -> Result<(), NoMe
     let mut digits = Buffer::new();
     put(out, sign)?;
     put(out, digits.format(number))
+}
+
+/// The words of a text, each between quotation marks.
+pub fn words_of(alloc: Global, text: &str) -> Result<Vec<Name>, Or<Unread>> {
+    let mut words = Vec::new(alloc);
+    for (place, piece) in text.split('"').enumerate() {
+        if place % 2 == 1 {
+            words.push(Name::from(bytes_of(alloc, piece)?))?;
+        }
+    }
+    Ok(words)
+}
+
+/// Writes bytes as `bytes_of` reads them: those that are no visible characters of ASCII by their digits.
+pub fn put_bytes(out: &mut Vec<u8>, bytes: &[u8]) -> Result<(), NoMemory> {
+    for byte in bytes {
+        if *byte >= b' ' && *byte <= b'~' {
+            out.push(*byte)?;
+        } else {
+            put(out, "{{")?;
+            out.push(digit(*byte / 16))?;
+            out.push(digit(*byte % 16))?;
+            put(out, "}}")?;
+        }
+    }
+    Ok(())
+}
+
+// The hexadecimal digit of a number below 16.
+fn digit(number: u8) -> u8 {
+    b"0123456789abcdef"
+        .get(usize::from(number))
+        .copied()
+        .unwrap_or(b'?')
 }
