@@ -15,7 +15,7 @@ use parser_parts::{Parts, Stack};
 use std::alloc::Global;
 
 /// What the stack wants next.
-#[derive(Clone, Copy, Debug)]
+#[derive(Clone, Copy)]
 pub enum Wanted {
     /// A token that is this symbol.
     Take(Symbol),

@@ -3,7 +3,7 @@ use chw_grammar::Terminal;
 use parser_parts::Action;
 
 /// What a production has in one place.
-#[derive(Clone, Copy, Debug)]
+#[derive(Clone, Copy)]
 pub enum Symbol {
     /// This token.
     Token(Terminal),
@@ -20,7 +20,7 @@ pub enum Symbol {
 }
 
 /// The sorts of words.
-#[derive(Clone, Copy, Debug)]
+#[derive(Clone, Copy)]
 pub enum WordSort {
     Lower,
     Upper,
@@ -29,7 +29,7 @@ pub enum WordSort {
 }
 
 /// The rules of the grammar, in the form in which the next token alone says how each goes on.
-#[derive(Clone, Copy, Debug)]
+#[derive(Clone, Copy)]
 pub enum Rule {
     /// A whole description.
     Program,

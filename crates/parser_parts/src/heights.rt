@@ -7,14 +7,14 @@ use crate::stack::Stack;
 use chw_base::NoMemory;
 
 /// The height of a part, and how many items it has if it is a list.
-#[derive(Clone, Copy, Debug, PartialEq, Eq)]
+#[derive(Clone, Copy)]
 pub struct Measure {
     pub height: u32,
     pub count: u32,
 }
 
 /// What becomes of the heights of the newest parts.
-#[derive(Clone, Copy, Debug)]
+#[derive(Clone, Copy)]
 pub enum Shape {
     /// A list without items.
     NoItems,

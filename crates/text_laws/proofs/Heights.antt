@@ -1,5 +1,5 @@
 -- Trees that agree in all but the places of their words are equally high.
-use Rattle.std.specs.Prelude.{◌≡◌, ℕ, suc, ◌+◌, ◌-◌, max, List, [], ◌∷◌, map, refl}
+use Rattle.std.specs.Prelude.{◌≡◌, suc, max, List, [], ◌∷◌, map, refl}
 use Rattle.std.proofs.Common.{sym, ap, ◌∙◌}
 use Rattle.chw_grammar.specs.declared.program.Tree.{Tree}
 use Rattle.chw_grammar.specs.declared.program.Declaration.{Declaration}
