@@ -2,6 +2,10 @@ pub mod CornersShown
 pub mod DesignsShown
 pub mod Endless
 pub mod GivenOnce
+pub mod Holding
+pub mod LayoutsSound
+pub mod MeansOnce
+pub mod MeantSound
 pub mod Once
 pub mod ShownSound
 pub mod Sound

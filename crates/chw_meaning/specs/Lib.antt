@@ -3,7 +3,9 @@ pub mod Designs
 pub mod Eval
 pub mod Gives
 pub mod Laws
+pub mod Layouts
 pub mod Means
+pub mod Meant
 pub mod Run
 pub mod Shown
 pub mod Steps
