@@ -10,6 +10,7 @@ pub mod Once
 pub mod ShownSound
 pub mod Sound
 pub mod Still
+pub mod TopsShown
 pub mod WholeShown
 pub mod Widths
 pub mod ZerosEncoded

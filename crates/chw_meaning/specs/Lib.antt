@@ -9,6 +9,8 @@ pub mod Meant
 pub mod Run
 pub mod Shown
 pub mod Steps
+pub mod Tops
+pub mod TopsShown
 pub mod Values
 pub mod Whole
 pub mod Writing

@@ -1,4 +1,5 @@
--- A whole program: the accumulator, with its ports, a history that fits them, and what its output means.
+-- A whole program: the accumulator, with its ports, a history that fits them, and what its output
+-- means.
 use Rattle.std.specs.Prelude.{ℕ, [], ◌∷◌, codes}
 use Rattle.chw_clock.specs.declared.event.Event.{Event}
 use Rattle.chw_bits.specs.Bits.{bits_of}
