@@ -11,6 +11,8 @@ pub enum Symbol {
     Word(WordSort),
     /// A token that is a kind.
     Kind,
+    /// A token that is the lower name `reset`.
+    Reset,
     /// What a rule of the grammar says.
     Part(Rule),
     /// No token: what was read so far becomes a part of the tree.
@@ -33,6 +35,8 @@ pub enum Rule {
     Program,
     /// The declarations that are left, and the top.
     Declarations,
+    /// What is behind the name of a domain: `;`, or `reset` and `;`.
+    DomainEnd,
     /// The parameters that are left.
     Parameters,
     /// A constructor and its fields.

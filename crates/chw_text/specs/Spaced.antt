@@ -9,7 +9,7 @@ use Rattle.chw_grammar.specs.declared.word.Word.{Word}
 use Rattle.chw_grammar.specs.Lexemes.{Lexeme}
 use Rattle.chw_grammar.specs.TypeTree.{Tys}
 use Rattle.chw_grammar.specs.TermTree.{Tms}
-use Rattle.chw_grammar.specs.Text.{sign, parts_lexemes, more_lexemes, elements_lexemes, more_elements_lexemes, constructors_lexemes, more_constructor_lexemes, port_names_lexemes, port_lexemes}
+use Rattle.chw_grammar.specs.Text.{sign, lower, reset_word, parts_lexemes, more_lexemes, elements_lexemes, more_elements_lexemes, constructors_lexemes, more_constructor_lexemes, port_names_lexemes, port_lexemes}
 
 -- the tokens with a space behind each
 abbrev pub spaced : List Lexeme → List ℕ
@@ -32,6 +32,11 @@ opening false = []
 abbrev pub closing : Bool → List Lexeme
 closing true = sign the.Close ∷ []
 closing false = []
+
+-- what shows that a domain has a reset
+abbrev pub reset_part : Bool → List Lexeme
+reset_part true = lower reset_word ∷ []
+reset_part false = []
 
 -- the sign before an item of this index
 abbrev pub before_item : ℕ → Terminal → List Lexeme

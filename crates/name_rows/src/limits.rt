@@ -96,7 +96,7 @@ fn tree(alloc: Global, shape: &Shape) -> Result<Tree, NoMemory> {
     };
     let mut declarations = Vec::new(alloc);
     for _ in 0..shape.domains {
-        declarations.push(Declaration::Domain(word(alloc, "D")?))?;
+        declarations.push(Declaration::Domain(word(alloc, "D")?, false))?;
     }
     for _ in 1..shape.data_types {
         declarations.push(data(alloc, &plain)?)?;

@@ -16,7 +16,7 @@ pub fn act(alloc: Global, action: Action, values: &mut Stack<Value>) -> Result<(
 {
     match action {
         Action::NoDeclarations => declarations::do_no_declarations(alloc, values),
-        Action::Domain => declarations::do_domain(alloc, values),
+        Action::Domain(has_reset) => declarations::do_domain(has_reset, values),
         Action::Definition => declarations::do_definition(alloc, values),
         Action::DataType => declarations::do_data_type(alloc, values),
         Action::NoParameters => declarations::do_no_parameters(alloc, values),

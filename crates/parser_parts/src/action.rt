@@ -4,7 +4,8 @@
 #[derive(Clone, Copy, Debug)]
 pub enum Action {
     NoDeclarations,
-    Domain,
+    /// The flag says whether the domain has a reset.
+    Domain(bool),
     Definition,
     DataType,
     NoParameters,

@@ -19,13 +19,14 @@ pub fn do_no_declarations(alloc: Global, values: &mut Stack<Value>) -> Result<()
     values.push(Value::Declarations(Stack::new(alloc)))
 }
 
-pub fn do_domain(_alloc: Global, values: &mut Stack<Value>) -> Result<(), NoMemory>
-    ensures { IfOk result (λ _. (vs : List Value) → made Action.Domain values.old ≡ Some vs → values.new ≡ vs) }
+pub fn do_domain(has_reset: bool, values: &mut Stack<Value>) -> Result<(), NoMemory>
+    ensures { IfOk result (λ _. (vs : List Value) → made (Action.Domain has_reset) values.old ≡ Some vs → values.new ≡ vs) }
 {
     let Some((name, declarations)) = pop_two::<Word, Stack<Declaration>>(values) else {
         return Ok(());
     };
-    values.push(Value::Declarations(declarations.with(Declaration::Domain(name))?))
+    let domain = Declaration::Domain(name, has_reset);
+    values.push(Value::Declarations(declarations.with(domain)?))
 }
 
 pub fn do_definition(_alloc: Global, values: &mut Stack<Value>) -> Result<(), NoMemory>

@@ -162,7 +162,7 @@ pub fn shape_of(action: Action) -> Shape
         | Action::MoreTerm => Shape::Item(1),
         Action::Parameter | Action::Constructor | Action::Alternative => Shape::Item(2),
         Action::Binding => Shape::Item(3),
-        Action::Domain => Shape::NodeItem(1),
+        Action::Domain(_) => Shape::NodeItem(1),
         Action::Definition | Action::DataType => Shape::NodeItem(3),
         Action::DefaultPattern => Shape::Node(0),
         Action::Variable
