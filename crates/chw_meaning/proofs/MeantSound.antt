@@ -343,7 +343,7 @@ module _ (represents : MeasuredIsRepresentable) (is_value : EncodedIsValue) wher
   -- the ports are the program's, and have the leaves that were found
   ports_from : (d : ℕ) (p : Program) (top : TopFound) → IsTop p top.it top.leaves.ins top.leaves.outs → If Ports (λ ports. (x : HasPorts p ports) × (x.ins ≡ top.leaves.ins)) (top_ports_by d p top)
   ports_from d p top x =
-      if_both (λ ins outs. record { domains = p.domains; resets = []; inputs = ins; outputs = outs }) (ports_of_sound d p.datas top.leaves.ins p.top.inputs) (ports_of_sound d p.datas top.leaves.outs p.top.outputs) (λ ins outs y z. (record { it = top.it; ins = top.leaves.ins; outs = top.leaves.outs; top = x; domains = refl; resets = refl; inputs = y; outputs = z }, refl))
+      if_both (λ ins outs. record { domains = p.domains; resets = p.resets; inputs = ins; outputs = outs }) (ports_of_sound d p.datas top.leaves.ins p.top.inputs) (ports_of_sound d p.datas top.leaves.outs p.top.outputs) (λ ins outs y z. (record { it = top.it; ins = top.leaves.ins; outs = top.leaves.outs; top = x; domains = refl; resets = refl; inputs = y; outputs = z }, refl))
 
   pub ports_sound : (d : ℕ) (p : Program) → If Ports (λ ports. HasPorts p ports) (ports_by d p)
   ports_sound d p = if_it (top_sound d p) (λ top x. if_so (ports_from d p top x) (λ ports y. y.0))

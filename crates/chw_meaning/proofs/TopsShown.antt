@@ -6,7 +6,7 @@ use Rattle.chw_meaning.specs.Laws.{GivenIsSo, PortsAreSo, FitIsSo, MeantIsSo}
 use Rattle.chw_meaning.specs.Layouts.{measured_by, encoded_by, guessed_by}
 use Rattle.chw_meaning.specs.Meant.{yields_by, port_given_by, on_inputs_by, port_leaves_by, type_leaves_by}
 use Rattle.chw_meaning.specs.Run.{zero_by, eval}
-use Rattle.chw_meaning.specs.TopsShown.{PairInShown, WithoutWidthShown, EndlessPartShown, TwoInputsShown, OtherTickShown, BothTickShown, PairOutShown, ProductOutShown, RecursiveOutShown, ProductInShown, VectorOutShown, NestedVectorShown, ValueInShown}
+use Rattle.chw_meaning.specs.TopsShown.{PairInShown, WithoutWidthShown, EndlessPartShown, TwoInputsShown, OtherTickShown, BothTickShown, PairOutShown, ProductOutShown, RecursiveOutShown, ProductInShown, VectorOutShown, NestedVectorShown, ValueInShown, ResetShown}
 
 -- how deep the examples are evaluated
 abbrev deep : ℕ
@@ -65,3 +65,7 @@ module _ (given : GivenIsSo) (ports : PortsAreSo) (fit : FitIsSo) (meaning : Mea
   pub value_in_shown : ValueInShown
   unfolding eval zero_by sub rename up natural_value measured_by encoded_by guessed_by yields_by port_given_by on_inputs_by port_leaves_by type_leaves_by
   value_in_shown = given deep _ _ _ _ _ _ _ refl
+
+  pub reset_shown : ResetShown
+  unfolding eval zero_by sub rename up natural_value measured_by encoded_by guessed_by yields_by port_given_by on_inputs_by port_leaves_by type_leaves_by
+  reset_shown = (ports deep _ _ refl, fit deep _ _ _ refl, meaning deep _ _ _ _ refl, meaning deep _ _ _ _ refl, meaning deep _ _ _ _ refl, meaning deep _ _ _ _ refl)

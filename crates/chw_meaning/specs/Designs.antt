@@ -32,11 +32,24 @@ plus_one = lam byte (prim_on AddU (nat 8 ∷ []) (var 0 ∷ number 8 1 ∷ []))
 abbrev pub counter : TypeTree → TermTree
 counter d = let_one (signal d byte) (register d byte (number 8 0) (fmap d byte byte plus_one (var 0))) (var 0)
 
--- \(x : Signal A byte) . letrec { s : Signal A byte = register @A @byte 0u8 t;
+-- \(x : Signal A byte) . letrec { s : Signal A byte = register @A @byte n t;
 --   t : Signal A byte = ap @A @byte @byte (fmap @A @byte @(byte -> byte) (addU @8) s) x; } in s
+abbrev pub accumulator_from : ℕ → TermTree
+accumulator_from n =
+    lam s (letrec (bind s (register a_clock byte (number 8 n) (var 0)) (bind s sums no_bindings))
+    (var 1))
+  where
+    s : TypeTree
+    s = signal a_clock byte
+
+    sums : TermTree
+    sums =
+        ap_on a_clock byte byte
+        (fmap a_clock byte (fun byte byte) (prim_on AddU (nat 8 ∷ []) []) (var 1)) (var 2)
+
+-- the accumulator from 0
 abbrev pub accumulator_of : TermTree
-accumulator_of =
-    lam (signal a_clock byte) (letrec (bind (signal a_clock byte) (register a_clock byte (number 8 0) (var 0)) (bind (signal a_clock byte) (ap_on a_clock byte byte (fmap a_clock byte (fun byte byte) (prim_on AddU (nat 8 ∷ []) []) (var 1)) (var 2)) no_bindings)) (var 1))
+accumulator_of = accumulator_from 0
 
 abbrev pub accumulator : Thunk
 accumulator = applied (here accumulator_of) (words 8 (5 ∷ 7 ∷ 0 ∷ []))

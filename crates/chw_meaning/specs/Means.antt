@@ -44,15 +44,15 @@ pub record IsTop (p : Program) (it : Def) (ins outs : List Leaf) : Type 0 where
   pub held : slice_get p.defs p.top.«def».number ≡ Some it
   pub leads : LeadsFrom p.datas it.ty ins outs
 
--- the ports of a program: its domains, none of which has a reset so far, and those leaves of its
--- top whose width isn't 0
+-- the ports of a program: its domains, those of them that have a reset, and those leaves of its top
+-- whose width isn't 0
 pub record HasPorts (p : Program) (ports : Ports) : Type 0 where
   pub it : Def
   pub ins : List Leaf
   pub outs : List Leaf
   pub top : IsTop p it ins outs
   pub domains : ports.domains ≡ p.domains
-  pub resets : ports.resets ≡ []
+  pub resets : ports.resets ≡ p.resets
   pub inputs : PortsOf p.datas ins p.top.inputs ports.inputs
   pub outputs : PortsOf p.datas outs p.top.outputs ports.outputs
 

@@ -267,7 +267,7 @@ abbrev pub top_ports_by : ℕ → Program → TopFound → Option Ports
 top_ports_by d p top =
     with_both (ports_of_by d p.datas top.leaves.ins p.top.inputs)
     (ports_of_by d p.datas top.leaves.outs p.top.outputs)
-    (λ ins outs. record { domains = p.domains; resets = []; inputs = ins; outputs = outs })
+    (λ ins outs. record { domains = p.domains; resets = p.resets; inputs = ins; outputs = outs })
 
 abbrev pub ports_by : ℕ → Program → Option Ports
 ports_by d p = with_it (top_by d p) (top_ports_by d p)

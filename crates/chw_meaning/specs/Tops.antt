@@ -18,15 +18,17 @@ use Rattle.chw_meaning.specs.Gives.{at_types}
 use Rattle.chw_meaning.specs.Values.{History}
 use Rattle.chw_meaning.specs.Eval.{dom}
 use Rattle.chw_meaning.specs.Writing.{types, call, prim_on, con_on, nat, unsigned, number, fmap, pure, register, endless, case_one, def_of, pair_of}
-use Rattle.chw_meaning.specs.Designs.{byte, a_clock, b_clock, first_of, second_of, mealy, twelve, multiply_add, sums_of, memory_of, pair_c, pair_c_of, pair_c_on, crossing_of, through_a_pair_of}
+use Rattle.chw_meaning.specs.Designs.{byte, a_clock, b_clock, accumulator_from, first_of, second_of, mealy, twelve, multiply_add, sums_of, memory_of, pair_c, pair_c_of, pair_c_on, crossing_of, through_a_pair_of}
 
--- a program of these domains, of these data types behind the built-in ones, and of these
--- definitions, the last of which is the top, whose inputs and outputs have these names
-abbrev pub whole : (domains : List (List ℕ)) → List Data → List Def → Def
+-- a program of these domains, of which these have a reset, of these data types behind the built-in
+-- ones, and of these definitions, the last of which is the top, whose inputs and outputs have these
+-- names
+abbrev pub whole : (domains : List (List ℕ)) → (resets : List ℕ) → List Data → List Def → Def
     → (inputs outputs : List (List ℕ)) → Program
-whole domains datas defs main inputs outputs =
+whole domains resets datas defs main inputs outputs =
     record {
       domains = domains;
+      resets = map dom resets;
       datas = built_in ++ datas;
       defs = defs ++ (main ∷ []);
       top = record {
@@ -36,10 +38,11 @@ whole domains datas defs main inputs outputs =
       };
     }
 
--- the ports of a program with these domains, none of which has a reset
-abbrev pub ports_of : (domains : List (List ℕ)) → (inputs outputs : List Port) → Ports
-ports_of domains inputs outputs =
-    record { domains = domains; resets = []; inputs = inputs; outputs = outputs }
+-- ports with these domains, of which these have a reset
+abbrev pub ports_of : (domains : List (List ℕ)) → (resets : List ℕ) → (inputs outputs : List Port)
+    → Ports
+ports_of domains resets inputs outputs =
+    record { domains = domains; resets = map dom resets; inputs = inputs; outputs = outputs }
 
 abbrev pub port : List ℕ → (domain width : ℕ) → Port
 port name domain width = record { name = name; dom = dom domain; width = width }
@@ -86,7 +89,7 @@ mealy_def =
 -- the sums of products of the two words of each input
 abbrev pub summing : Program
 summing =
-    whole one_domain []
+    whole one_domain [] []
     (first_def ∷ second_def ∷ mealy_def
     ∷ def_of (fun twelve (fun (pair twelve twelve) (pair twelve twelve))) multiply_add ∷ [])
     (def_of (fun (in_a (pair twelve twelve)) (in_a twelve)) sums_of)
@@ -115,7 +118,7 @@ unit = data_of 4 no_types
 --   PairC (fmap (fst @byte @Unit) x) (pure Unit); top main (x, z) (o, q);
 abbrev pub without_width : Program
 without_width =
-    whole one_domain (pair_c ∷ unit_data ∷ []) (first_def ∷ [])
+    whole one_domain [] (pair_c ∷ unit_data ∷ []) (first_def ∷ [])
     (def_of from_to
     (lam (in_a (pair byte unit)) (lam (in_a (unsigned 0)) (pair_c_on (in_a byte) (in_a unit)
     (fmap a_clock (pair byte unit) byte (at_types (global 0) (types (byte ∷ unit ∷ []))) (var 1))
@@ -131,7 +134,7 @@ without_width =
 -- top main (z, x) (q, o); where ENDLESS is a term of Unit whose evaluation never ends
 abbrev pub endless_without_width : Program
 endless_without_width =
-    whole one_domain (pair_c ∷ unit_data ∷ []) [] (def_of from_to
+    whole one_domain [] (pair_c ∷ unit_data ∷ []) [] (def_of from_to
     (lam (in_a (unsigned 0)) (lam (in_a (pair unit byte))
     (pair_c_on (in_a unit) (in_a (pair unit byte)) (pure a_clock unit (endless unit))
     (fmap a_clock (pair unit byte) (pair unit byte) again (var 0))))))
@@ -155,7 +158,7 @@ one_byte = at_event (0 ∷ []) (bits_of 8 0x2a ∷ []) ∷ []
 -- top main (r, w) (o);
 abbrev pub remembering : Program
 remembering =
-    whole (codes "Sys" ∷ codes "B" ∷ []) [] []
+    whole (codes "Sys" ∷ codes "B" ∷ []) [] [] []
     (def_of (fun (in_a (unsigned 3)) (fun (in_a writing) (in_a byte)))
     (lam (in_a (unsigned 3)) (lam (in_a writing) (call memory_of (var 1 ∷ var 0 ∷ [])))))
     (codes "r" ∷ codes "w" ∷ []) (codes "o" ∷ [])
@@ -194,7 +197,7 @@ flagged = pair (unsigned 3) bool
 --   (vec @flagged [Pair 0u3 False, Pair 1u3 True, Pair 2u3 False]) r w
 abbrev pub remembering_pairs : Program
 remembering_pairs =
-    whole one_domain [] []
+    whole one_domain [] [] []
     (def_of (fun (in_a (unsigned 2)) (fun (in_a writing) (in_a flagged)))
     (lam (in_a (unsigned 2)) (lam (in_a writing)
     (prim_on BlockRam (a_clock ∷ nat 2 ∷ nat 2 ∷ flagged ∷ []) (content ∷ var 1 ∷ var 0 ∷ [])))))
@@ -225,7 +228,7 @@ flag_of n truth = pair_of (word (bits_of 3 n)) (built truth no_data)
 -- domain A; domain B; a counter in A, and a register in B of it; top main () (p, o);
 abbrev pub two_outputs : Program
 two_outputs =
-    whole (codes "A" ∷ codes "B" ∷ []) (pair_c ∷ []) []
+    whole (codes "A" ∷ codes "B" ∷ []) [] (pair_c ∷ []) []
     (def_of (pair_c_of (in_a byte) (in_b byte)) crossing_of) [] (codes "p" ∷ codes "o" ∷ [])
 
 abbrev pub five_ticks : List Event
@@ -235,15 +238,16 @@ five_ticks =
 -- the pair of signals made of each other; top main () (p, o);
 abbrev pub recursive_outputs : Program
 recursive_outputs =
-    whole one_domain (pair_c ∷ []) []
+    whole one_domain [] (pair_c ∷ []) []
     (def_of (pair_c_of (in_a byte) (in_a byte)) through_a_pair_of) [] (codes "p" ∷ codes "o" ∷ [])
 
+-- domain A; domain B reset;
 -- \(p : PairC (PairC (Signal A byte) (Signal B Bool)) (Signal B (Unsigned 3))) .
 --   case p of { PairC q c -> case q of { PairC a e -> PairC (register @B @(Unsigned 3) 5u3 c)
 --   (PairC a (register @A @byte 1u8 a)); }; }; top main (x, y, z) (o, q, p);
 abbrev pub products : Program
 products =
-    whole (codes "A" ∷ codes "B" ∷ []) (pair_c ∷ []) []
+    whole (codes "A" ∷ codes "B" ∷ []) (1 ∷ []) (pair_c ∷ []) []
     (def_of (fun input (pair_c_of (in_b (unsigned 3)) (pair_c_of (in_a byte) (in_a byte))))
     (lam input (case_one (var 0) 5 2 (case_one (var 1) 5 2
     (pair_c_on (in_b (unsigned 3)) (pair_c_of (in_a byte) (in_a byte))
@@ -282,7 +286,7 @@ three_bytes = vector (nat 3) byte
 --   vreplace @3 @1 @byte v (truncU @1 @7 (vget @0 @2 @byte v)) 9u8) x
 abbrev pub vectors : Program
 vectors =
-    whole one_domain [] [] (def_of (fun (in_a three_bytes) (in_a three_bytes))
+    whole one_domain [] [] [] (def_of (fun (in_a three_bytes) (in_a three_bytes))
     (lam (in_a three_bytes) (fmap a_clock three_bytes three_bytes with_nine (var 0))))
     (codes "x" ∷ []) (codes "o" ∷ [])
   where
@@ -303,7 +307,7 @@ vector_events =
 -- \(x : ..) . fmap (\(v : Vec 2 three_bytes) . vconcat @2 @3 @byte v) x
 abbrev pub nested_vectors : Program
 nested_vectors =
-    whole one_domain [] [] (def_of (fun (in_a two) (in_a six))
+    whole one_domain [] [] [] (def_of (fun (in_a two) (in_a six))
     (lam (in_a two) (fmap a_clock two six
     (lam two (prim_on VConcat (nat 2 ∷ nat 3 ∷ byte ∷ []) (var 0 ∷ []))) (var 0))))
     (codes "x" ∷ []) (codes "o" ∷ [])
@@ -316,3 +320,18 @@ nested_vectors =
 
 abbrev pub nested_events : List Event
 nested_events = at_event (0 ∷ []) (bits_of 48 0x2ef09abbc702 ∷ []) ∷ []
+
+-- domain Sys reset; and the accumulator from 3; top main (x) (o);
+abbrev pub resetting : Program
+resetting =
+    whole one_domain (0 ∷ []) [] [] (def_of (fun (in_a byte) (in_a byte)) (accumulator_from 3))
+    (codes "x" ∷ []) (codes "o" ∷ [])
+
+-- the inputs 5, 7, 1 and 0, with a reset at the second event
+abbrev pub reset_events : List Event
+reset_events =
+    at_event (0 ∷ []) (x 5) ∷ at_reset (0 ∷ []) (0 ∷ []) (x 7) ∷ at_event (0 ∷ []) (x 1)
+    ∷ at_event (0 ∷ []) (x 0) ∷ []
+  where
+    x : ℕ → List (List Bool)
+    x n = bits_of 8 n ∷ []

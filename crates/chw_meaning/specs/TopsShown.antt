@@ -14,7 +14,7 @@ use Rattle.chw_meaning.specs.Gives.{value_in, stream_in, Gives}
 use Rattle.chw_meaning.specs.Means.{HasPorts, Fit, Means}
 use Rattle.chw_meaning.specs.Writing.{bare, ticks, unsigned, pair_of}
 use Rattle.chw_meaning.specs.Designs.{byte, plus_one, pair_c_of}
-use Rattle.chw_meaning.specs.Tops.{ports_of, port, after, one_domain, in_a, summing, summing_events, unit, without_width, endless_without_width, one_byte, remembering, reads_and_writes, reads_beside, remembering_pairs, pair_events, flag_of, two_outputs, five_ticks, recursive_outputs, products, product_events, bytes_of, vectors, vector_events, nested_vectors, nested_events}
+use Rattle.chw_meaning.specs.Tops.{ports_of, port, after, one_domain, in_a, summing, summing_events, unit, without_width, endless_without_width, one_byte, remembering, reads_and_writes, reads_beside, remembering_pairs, pair_events, flag_of, two_outputs, five_ticks, recursive_outputs, products, product_events, bytes_of, vectors, vector_events, nested_vectors, nested_events, resetting, reset_events}
 
 -- at event n, counted from 1, output k is this value
 abbrev pub Shows : Program → List Event → (n k : ℕ) → Datum → Type 0
@@ -27,7 +27,7 @@ ShowsWord p es n k width number = Shows p es n k (word (bits_of width number))
 -- a pair as an input: 0, 1, 5 and 14
 abbrev pub PairInShown : Type 0
 PairInShown =
-    HasPorts summing (ports_of one_domain (port (codes "x") 0 24 ∷ []) (port (codes "o") 0 12 ∷ []))
+    HasPorts summing (ports_of one_domain [] (port (codes "x") 0 24 ∷ []) (port (codes "o") 0 12 ∷ []))
     × Fit summing (after 4 summing_events)
     × ShowsWord summing summing_events 1 0 12 0
     × ShowsWord summing summing_events 2 0 12 1
@@ -36,7 +36,7 @@ PairInShown =
 
 -- only leaves with a width are ports
 abbrev pub one_port_each : Ports
-one_port_each = ports_of one_domain (port (codes "x") 0 8 ∷ []) (port (codes "o") 0 8 ∷ [])
+one_port_each = ports_of one_domain [] (port (codes "x") 0 8 ∷ []) (port (codes "o") 0 8 ∷ [])
 
 -- an input and an output without width, behind those that have one
 abbrev pub WithoutWidthShown : Type 0
@@ -67,7 +67,7 @@ EndlessPartShown =
 -- nothing
 abbrev pub TwoInputsShown : Type 0
 TwoInputsShown =
-    HasPorts remembering (ports_of (codes "Sys" ∷ codes "B" ∷ [])
+    HasPorts remembering (ports_of (codes "Sys" ∷ codes "B" ∷ []) []
     (port (codes "r") 0 3 ∷ port (codes "w") 0 12 ∷ []) (port (codes "o") 0 8 ∷ []))
     × Fit remembering (after 7 reads_and_writes)
     × ShowsWord remembering reads_and_writes 1 0 8 0
@@ -106,7 +106,7 @@ BothTickShown =
 -- 1 and True
 abbrev pub PairOutShown : Type 0
 PairOutShown =
-    HasPorts remembering_pairs (ports_of one_domain
+    HasPorts remembering_pairs (ports_of one_domain []
     (port (codes "r") 0 2 ∷ port (codes "w") 0 7 ∷ []) (port (codes "o") 0 4 ∷ []))
     × Fit remembering_pairs (after 8 pair_events)
     × Shows remembering_pairs pair_events 1 0 (flag_of 0 0)
@@ -119,7 +119,7 @@ PairOutShown =
 -- the events 1, 3 and 4, and o is 0, 1 and 2 at the events 2, 4 and 5
 abbrev pub ProductOutShown : Type 0
 ProductOutShown =
-    HasPorts two_outputs (ports_of (codes "A" ∷ codes "B" ∷ []) []
+    HasPorts two_outputs (ports_of (codes "A" ∷ codes "B" ∷ []) [] []
     (port (codes "p") 0 8 ∷ port (codes "o") 1 8 ∷ []))
     × Fit two_outputs (after 5 five_ticks)
     × ShowsWord two_outputs five_ticks 1 0 8 0
@@ -134,13 +134,14 @@ abbrev pub RecursiveOutShown : Type 0
 RecursiveOutShown =
     ShowsWord recursive_outputs five_ticks 1 0 8 0 × ShowsWord recursive_outputs five_ticks 1 1 8 0
 
--- a product of a product and a signal as the input, and another as the outputs o, q and p
+-- a product of a product and a signal as the input, and another as the outputs o, q and p; the second
+-- domain has a reset, which is asserted at the events 6 and 7
 abbrev pub ProductInShown : Type 0
 ProductInShown =
-    HasPorts products (ports_of (codes "A" ∷ codes "B" ∷ [])
+    HasPorts products (ports_of (codes "A" ∷ codes "B" ∷ []) (1 ∷ [])
     (port (codes "x") 0 8 ∷ port (codes "y") 1 1 ∷ port (codes "z") 1 3 ∷ [])
     (port (codes "o") 1 3 ∷ port (codes "q") 0 8 ∷ port (codes "p") 0 8 ∷ []))
-    × Fit products (after 5 product_events)
+    × Fit products (after 9 product_events)
     × ShowsAll 1 5 0xc2 0x01
     × ShowsAll 2 6 0x47 0xc2
     × ShowsAll 3 2 0x1d 0x47
@@ -159,7 +160,7 @@ ProductInShown =
 -- vectors as inputs and outputs, with their elements in order
 abbrev pub VectorOutShown : Type 0
 VectorOutShown =
-    HasPorts vectors (ports_of one_domain (port (codes "x") 0 24 ∷ []) (port (codes "o") 0 24 ∷ []))
+    HasPorts vectors (ports_of one_domain [] (port (codes "x") 0 24 ∷ []) (port (codes "o") 0 24 ∷ []))
     × Fit vectors (after 3 vector_events)
     × Shows vectors vector_events 1 0 (bytes_of (0x09 ∷ 0x66 ∷ 0x5b ∷ []))
     × Shows vectors vector_events 2 0 (bytes_of (0xbf ∷ 0x09 ∷ 0xfa ∷ []))
@@ -177,3 +178,14 @@ abbrev pub ValueInShown : Type 0
 ValueInShown =
     Gives bare plus_one (fun byte byte) (value_in (word (bits_of 8 5)) ∷ []) (ticks 1) 0
     (word (bits_of 8 6))
+
+-- a domain that has a reset: the register is 3 after the event with the reset, and goes on from there
+abbrev pub ResetShown : Type 0
+ResetShown =
+    HasPorts resetting
+    (ports_of one_domain (0 ∷ []) (port (codes "x") 0 8 ∷ []) (port (codes "o") 0 8 ∷ []))
+    × Fit resetting (after 4 reset_events)
+    × ShowsWord resetting reset_events 1 0 8 3
+    × ShowsWord resetting reset_events 2 0 8 8
+    × ShowsWord resetting reset_events 3 0 8 3
+    × ShowsWord resetting reset_events 4 0 8 4

@@ -3,7 +3,7 @@
 //! were worked by hand.
 ghost use Rattle.chw_meaning.specs.Shown.{CounterShown, AccumulatorShown, SumsShown, MemoryShown, CrossingShown, SwappingShown, PairShown, SignedShown, FilterShown, OneResetShown, MoreResetsShown, OtherResetShown, ResetMemoryShown};
 ghost use Rattle.chw_meaning.specs.Whole.{WholeProgram};
-ghost use Rattle.chw_meaning.specs.TopsShown.{PairInShown, WithoutWidthShown, EndlessPartShown, TwoInputsShown, OtherTickShown, BothTickShown, PairOutShown, ProductOutShown, RecursiveOutShown, ProductInShown, VectorOutShown, NestedVectorShown, ValueInShown};
+ghost use Rattle.chw_meaning.specs.TopsShown.{PairInShown, WithoutWidthShown, EndlessPartShown, TwoInputsShown, OtherTickShown, BothTickShown, PairOutShown, ProductOutShown, RecursiveOutShown, ProductInShown, VectorOutShown, NestedVectorShown, ValueInShown, ResetShown};
 ghost use Rattle.chw_meaning.specs.Corners.{EndlessHasNone, LookedAtHasNone, LazyCases, OtherCases, Recursion, Polymorphism, SignalsOfFunctions, PartialConstructors, VectorsOfSignals, OneElement, Indices, Replacing, Folds, Orders, WidthZero, Words, Turns};
 
 use crate::laws::computed_meaning_is_so;
@@ -86,6 +86,13 @@ pub fn of_inputs()
     ensures two { TwoInputsShown }
     ensures product { ProductInShown }
     ensures value { ValueInShown }
+{
+    computed_meaning_is_so();
+}
+
+/// A whole program whose domain has a reset.
+pub fn of_a_reset()
+    ensures { ResetShown }
 {
     computed_meaning_is_so();
 }
