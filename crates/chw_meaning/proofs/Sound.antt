@@ -20,62 +20,8 @@ use Rattle.chw_meaning.specs.Zeros.{IsZero, zero_scalar, zero_vector, zero_data,
 use Rattle.chw_meaning.specs.Values.{History, con_head, prim_head, Value, bits, con_of, vec_of, closure, ty_closure, partial, Thunk, closed, applied, member, field, element, sample, stream, known, Thunks, none, thunk_and, thunk_at, closed_type, joined, in_group, body_at, fields_from, value_of, item_at}
 use Rattle.chw_meaning.specs.Steps.{Ram, Step, gives, goes_to, computes, samples, delays, remembers, looks_up, stuck, step}
 use Rattle.chw_meaning.specs.Eval.{plus, Choice, goes_on, takes, looks, choice, arm_of, result, dom, Evals, e_var, e_global, e_lam, e_app, e_ty_lam, e_ty_app, e_letrec, e_con, e_prim, e_lit, e_vec, e_goes_on, e_takes, e_looks, Forces, f_closed, f_applied, f_member, f_field, f_element, f_sample, f_stream, f_known, Applies, a_closure, a_runs, TyApplies, t_closure, t_runs, Runs, r_gives, r_goes_to, r_computes, r_samples, r_first, r_later, r_zero_first, r_zero_outside, r_word, r_looks_up, Looks, l_empty, l_bits, Words, no_words, word_and, Word, w_content, w_kept, w_elsewhere, w_written}
-use Rattle.chw_meaning.specs.Run.{Found, found, after, turn, and_then, with_it, seen, changed, bits_in, fields_in, elements_in, with_both, zero_by, zeros_by, zero_data_by, zero_con_by, zero_fields_by, eval, chosen, force, apply, apply_type, run, delayed, look, words, remembered, at_address, word_at, written, replaced_at}
-
--- what was found, if anything, is so
-pub record Holds (A : Type 0) (P : A → ℕ → Type 0) (o : Option (Found A)) : Type 0 where
-  pub of : (r : Found A) → o ≡ Some r → P r.value r.turns
-
-nothing : {A : Type 0} {P : A → ℕ → Type 0} → Holds A P None
-nothing = record { of = λ r e. cc }
-
-one : {A : Type 0} {P : A → ℕ → Type 0} {x : A} {n : ℕ} → P x n → Holds A P (found x n)
-one {A} {P} {x} {n} h = record { of = λ r e. let same : record { value = x; turns = n } ≡ r = cc in subst (λ (r : Found A). P r.value r.turns) same h }
-
-turned : {A : Type 0} {P : A → ℕ → Type 0} {o : Option (Found A)} → Holds A (λ x n. P x (suc n)) o → Holds A P (turn o)
-turned {o = None} h = nothing
-turned {o = Some s} h = one (h.of s refl)
-
-mapped : {A : Type 0} {P Q : A → ℕ → Type 0} {o : Option (Found A)} → Holds A P o → ((x : A) (n : ℕ) → P x n → Q x n) → Holds A Q o
-mapped h f = record { of = λ r e. f r.value r.turns (h.of r e) }
-
-after_so_many : {A : Type 0} {P : A → ℕ → Type 0} {o : Option (Found A)} (m : ℕ) → Holds A (λ x n. P x (plus m n)) o → Holds A P (after m o)
-after_so_many {o = None} m h = nothing
-after_so_many {o = Some s} m h = one (h.of s refl)
-
-then : {A B : Type 0} {P : A → ℕ → Type 0} {Q : B → ℕ → Type 0} {o : Option (Found A)} {go : A → Option (Found B)} → Holds A P o → ((x : A) (m : ℕ) → P x m → Holds B (λ y n. Q y (plus m n)) (go x)) → Holds B Q (and_then o go)
-then {o = None} h f = nothing
-then {o = Some s} h f = after_so_many s.turns (f s.value s.turns (h.of s refl))
-
-at_it : {A B : Type 0} {Q : B → ℕ → Type 0} {go : A → Option (Found B)} (o : Option A) → ((x : A) → o ≡ Some x → Holds B Q (go x)) → Holds B Q (with_it o go)
-at_it None f = nothing
-at_it (Some x) f = f x refl
-
-seen_as : {A B : Type 0} {P : A → ℕ → Type 0} {Q : B → ℕ → Type 0} {o : Option (Found A)} (f : A → Option B) → Holds A P o → ((x : A) (m : ℕ) → P x m → (y : B) → f x ≡ Some y → Q y m) → Holds B Q (seen f o)
-seen_as {o = None} f h g = nothing
-seen_as {o = Some s} f h g = at_it (f s.value) (λ y e. one (g s.value s.turns (h.of s refl) y e))
-
--- what is there is so
-pub record If (A : Type 0) (P : A → Type 0) (o : Option A) : Type 0 where
-  pub of : (x : A) → o ≡ Some x → P x
-
-if_none : {A : Type 0} {P : A → Type 0} → If A P None
-if_none = record { of = λ x e. cc }
-
-if_some : {A : Type 0} {P : A → Type 0} {a : A} → P a → If A P (Some a)
-if_some {A} {P} {a} h = record { of = λ x e. let same : a ≡ x = cc in subst P same h }
-
-if_so : {A : Type 0} {P Q : A → Type 0} {o : Option A} → If A P o → ((x : A) → P x → Q x) → If A Q o
-if_so h g = record { of = λ x e. g x (h.of x e) }
-
-if_changed : {A B : Type 0} {P : A → Type 0} {Q : B → Type 0} (f : A → B) {o : Option A} → If A P o → ((x : A) → P x → Q (f x)) → If B Q (changed f o)
-if_changed f {o = None} h g = if_none
-if_changed f {o = Some x} h g = if_some (g x (h.of x refl))
-
-if_both : {A B C : Type 0} {P : A → Type 0} {Q : B → Type 0} {R : C → Type 0} (f : A → B → C) {o : Option A} {u : Option B} → If A P o → If B Q u → ((x : A) (y : B) → P x → Q y → R (f x y)) → If C R (with_both o u f)
-if_both f {o = None} h k g = if_none
-if_both f {o = Some x} {u = None} h k g = if_none
-if_both f {o = Some x} {u = Some y} h k g = if_some (g x y (h.of x refl) (k.of y refl))
+use Rattle.chw_meaning.specs.Run.{Found, changed, bits_in, fields_in, elements_in, zero_by, zeros_by, zero_data_by, zero_con_by, zero_fields_by, eval, chosen, force, apply, apply_type, run, delayed, look, words, remembered, at_address, word_at, written, replaced_at}
+use Rattle.chw_meaning.proofs.Holding.{Holds, nothing, one, turned, mapped, then, at_it, seen_as, If, if_none, if_some, if_so, if_changed, if_both}
 
 mutual
   unfolding zero_by
@@ -131,7 +77,7 @@ fields_found (closure t γ δ) ths e = cc
 fields_found (ty_closure t γ δ) ths e = cc
 fields_found (partial hd ts xs) ths e = cc
 
-elements_found : (v : Value) (ths : Thunks) → elements_in v ≡ Some ths → v ≡ vec_of ths
+pub elements_found : (v : Value) (ths : Thunks) → elements_in v ≡ Some ths → v ≡ vec_of ths
 elements_found (vec_of xs) ths e = cc
 elements_found (bits a) ths e = cc
 elements_found (con_of c xs) ths e = cc
@@ -139,7 +85,7 @@ elements_found (closure t γ δ) ths e = cc
 elements_found (ty_closure t γ δ) ths e = cc
 elements_found (partial hd ts xs) ths e = cc
 
-forced_as : {p : Program} {n : ℕ} {th : Thunk} {h : History} {v w : Value} → v ≡ w → Forces p n th h v → Forces p n th h w
+pub forced_as : {p : Program} {n : ℕ} {th : Thunk} {h : History} {v w : Value} → v ≡ w → Forces p n th h v → Forces p n th h w
 forced_as {p} {n} {th} {h} e f = subst (λ v. Forces p n th h v) e f
 
 -- results of primitives on words

@@ -28,7 +28,8 @@ abbrev pub plus : ℕ → ℕ → ℕ
 plus zero k = k
 plus (suc m) k = suc (plus m k)
 
--- what a case does: it goes on with an alternative, or with the fields of the scrutinee's thunk, or it looks at the scrutinee
+-- what a case does: it goes on with an alternative, or with the fields of the scrutinee's thunk,
+-- or it looks at the scrutinee
 pub data Choice : Type 0 where
   goes_on : TermTree → Choice
   takes : ℕ → TermTree → Choice
@@ -75,7 +76,8 @@ bound _ _ = none
 -- the first alternative that is for the value
 abbrev pub arm_of : Value → Alts → Option Arm
 arm_of v no_alts = None
-arm_of v (alt q e more) = if matches v q then Some (record { fields = bound v q; body = e }) else arm_of v more
+arm_of v (alt q e more) =
+    if matches v q then Some (record { fields = bound v q; body = e }) else arm_of v more
 
 -- the result of a primitive on words: a comparison and a reduction give False or True
 abbrev pub truth_of : List Bool → Value
@@ -94,7 +96,8 @@ abbrev pub dom : ℕ → DomId
 dom d = record { number = d }
 
 mutual
-  -- in its environment of thunks and closed types, the term has the value at the history, in so many turns
+  -- in its environment of thunks and closed types, the term has the value at the history, in so
+  -- many turns
   pub data Evals (p : Program) : ℕ → TermTree → Thunks → TypeTrees → History → Value → Type 0 where
     e_var : {n x : ℕ} {γ : Thunks} {δ : TypeTrees} {h : History} {v : Value} {th : Thunk} → thunk_at γ x ≡ Some th → Forces p n th h v → Evals p (suc n) (var x) γ δ h v
     e_global : {n d : ℕ} {γ : Thunks} {δ : TypeTrees} {h : History} {v : Value} {it : Def} → slice_get p.defs d ≡ Some it → Evals p n it.body none no_types h v → Evals p (suc n) (global d) γ δ h v
@@ -155,7 +158,8 @@ mutual
     no_words : {h : History} → Words p zero [] none h []
     word_and : {m n k : ℕ} {ks : List ℕ} {th : Thunk} {ths : Thunks} {h : History} {b : List Bool} {bs : List (List Bool)} → Looks p m k th h b → Words p n ks ths h bs → Words p (plus m n) (k ∷ ks) (thunk_and th ths) h (b ∷ bs)
 
-  -- the word at an address of a block RAM, as it is before the write of this history's present event
+  -- the word at an address of a block RAM, as it is before the write of this history's present
+  -- event
   pub data Word (p : Program) : ℕ → Ram → History → ℕ → Value → Type 0 where
     w_content : {n a : ℕ} {ram : Ram} {g : History} {v : Value} → before g (dom ram.dom) ≡ None → Forces p n (element a ram.content) g v → Word p n ram g a v
     w_kept : {m n a : ℕ} {ram : Ram} {g g' : History} {v : Value} → before g (dom ram.dom) ≡ Some g' → Forces p m ram.write g' (con_of 2 none) → Word p n ram g' a v → Word p (suc (plus m n)) ram g a v
