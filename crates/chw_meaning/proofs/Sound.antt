@@ -20,7 +20,7 @@ use Rattle.chw_meaning.specs.Zeros.{IsZero, zero_scalar, zero_vector, zero_data,
 use Rattle.chw_meaning.specs.Values.{History, con_head, prim_head, Value, bits, con_of, vec_of, closure, ty_closure, partial, Thunk, closed, applied, member, field, element, sample, stream, known, Thunks, none, thunk_and, thunk_at, closed_type, joined, in_group, body_at, fields_from, value_of, item_at}
 use Rattle.chw_meaning.specs.Steps.{Ram, Step, gives, goes_to, computes, samples, delays, remembers, looks_up, stuck, step}
 use Rattle.chw_meaning.specs.Eval.{plus, Choice, goes_on, takes, looks, choice, arm_of, result, dom, last_tick, Evals, e_var, e_global, e_lam, e_app, e_ty_lam, e_ty_app, e_letrec, e_con, e_prim, e_lit, e_vec, e_goes_on, e_takes, e_looks, Forces, f_closed, f_applied, f_member, f_field, f_element, f_sample, f_stream, f_known, Applies, a_closure, a_runs, TyApplies, t_closure, t_runs, Runs, r_gives, r_goes_to, r_computes, r_samples, r_first, r_later, r_zero_first, r_zero_outside, r_word, r_looks_up, Looks, l_empty, l_bits, Words, no_words, word_and, Word, w_content, w_kept, w_elsewhere, w_written}
-use Rattle.chw_meaning.specs.Run.{Found, changed, bits_in, fields_in, elements_in, zero_by, zeros_by, zero_data_by, zero_con_by, zero_fields_by, eval, chosen, force, apply, apply_type, run, delayed, look, words, remembered, at_address, word_at, written, replaced_at}
+use Rattle.chw_meaning.specs.Run.{changed, bits_in, fields_in, elements_in, zero_by, zeros_by, zero_data_by, zero_con_by, zero_fields_by, eval, chosen, force, apply, apply_type, run, delayed, look, words, remembered, at_address, word_at, written, replaced_at}
 use Rattle.chw_meaning.proofs.Holding.{Holds, nothing, one, turned, mapped, then, at_it, seen_as, If, if_none, if_some, if_so, if_changed, if_both}
 
 mutual
