@@ -1,6 +1,6 @@
 -- The functions that compute layouts give only what the relations have.
 use Rattle.std.specs.Prelude.{slice_get, nat_eq, true, false, cond, not, ◌&&◌}
-use Rattle.std.proofs.Common.{◌≡◌, ℕ, suc, zero, ◌+◌, ◌-◌, List, [], ◌∷◌, ◌++◌, length, Bool, Option, Some, None, refl, sym, ap, subst}
+use Rattle.std.proofs.Common.{◌≡◌, ℕ, suc, zero, ◌+◌, ◌-◌, List, [], ◌∷◌, ◌++◌, length, Bool, Option, Some, None, refl, subst}
 use Rattle.std.proofs.lemmas.Bool.{eqb-true}
 use Rattle.chw_bits.specs.Bits.{bits_of}
 use Rattle.chw_types.specs.declared.declarations.ConDecl.{ConDecl}

@@ -1,5 +1,5 @@
 -- A program has one list of ports, and an output at most one meaning at a history.
-use Rattle.std.specs.Prelude.{slice_get, replicate}
+use Rattle.std.specs.Prelude.{replicate}
 use Rattle.std.proofs.Common.{◌≡◌, ℕ, suc, zero, List, [], ◌∷◌, ◌++◌, length, refl, sym, ap, ◌∙◌, subst}
 use Rattle.chw_base.specs.declared.index.DomId.{DomId}
 use Rattle.chw_clock.specs.declared.event.Port.{Port}

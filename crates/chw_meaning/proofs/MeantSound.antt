@@ -23,13 +23,12 @@ use Rattle.chw_layout.specs.Encodes.{first_constructor, IsValueOf, Encodes}
 use Rattle.chw_layout.specs.EncodingPromises.{EncodedIsValue}
 use Rattle.chw_layout.specs.Measured.{HasWidth}
 use Rattle.chw_layout.specs.Refusals.{MeasuredIsRepresentable}
-use Rattle.chw_meaning.specs.Zeros.{IsZero, IsWide}
-use Rattle.chw_meaning.specs.Values.{History, Value, bits, con_of, vec_of, closure, ty_closure, partial, Thunk, closed, applied, field, stream, known, Thunks, none, thunk_and, thunk_at}
+use Rattle.chw_meaning.specs.Zeros.{IsWide}
+use Rattle.chw_meaning.specs.Values.{History, Value, bits, con_of, vec_of, closure, ty_closure, partial, Thunk, closed, applied, stream, known, Thunks, none, thunk_and, thunk_at}
 use Rattle.chw_meaning.specs.Eval.{dom, Forces}
 use Rattle.chw_meaning.specs.Gives.{Yields, y_empty, y_word, y_elements, y_built, YieldEach, yield_none, yield_each, YieldFields, yield_no_field, yield_field, Input, value_in, stream_in, at_types, PortGiven, given_stream, given_product, FieldsGiven, given_no_field, given_field, Given, given_value, given_port, OnInputs, on_all, on_next, LeafOf, leaf_of, PortLeaves, leaf_signal, leaves_product, FieldLeaves, no_field_leaves, field_leaves, HasLeaves, leaf_value, leaves_port, Gives}
 use Rattle.chw_meaning.specs.Means.{LeadsFrom, leads_to, leads_from, PortsOf, no_ports, port_and, no_port_and, IsPortAt, port_here, port_later, port_past, IsTop, HasPorts, Decoded, decoded_none, decoded_and, Streams, no_streams, stream_and, stream_of_one, Fit, Means}
-use Rattle.chw_meaning.specs.Run.{elements_in, with_both, changed, zero_by, force}
-use Rattle.chw_meaning.specs.Layouts.{measured_by, width_by, encoded_by, decoded_by}
+use Rattle.chw_meaning.specs.Run.{elements_in}
 use Rattle.chw_meaning.specs.Meant.{first_there, word_in, Made, made_in, of_data, yields_by, yields_at, yields_each_by, yields_fields_by, domain_in, fields_of_one, all_encoded_by, Supplied, supplied, port_given_by, product_given_by, fields_given_by, given_by, Arrow, arrow_in, on_inputs_by, port_leaves_by, product_leaves_by, field_leaves_by, leaves_by, gives_by, type_leaves_by, fields_types_by, all_leaves_by, Sides, sides, leads_by, TopFound, top_by, port_before, ports_of_by, top_ports_by, ports_by, all_decoded_by, stream_by, next_input, streams_by, bits_fit, event_fits, history_fits, fits_by, after_leaf, here_or, leaf_at_by, means_by}
 use Rattle.chw_meaning.proofs.Holding.{Holds, nothing, one, turned, then, at_it, seen_as, at_found, as_found, in_turns, If, if_none, if_some, if_so, if_changed, if_both, if_at, if_it, if_only}
 use Rattle.chw_meaning.proofs.Sound.{zero_sound, force_sound, elements_found, forced_as}

@@ -2,7 +2,7 @@
 -- where the evaluation is at most so deep.
 use Rattle.std.specs.Prelude.{ℕ, suc, zero, min, Bool, true, false, nat_lt, nat_eq, List, [], ◌∷◌, replicate, reverse, Option, Some, None, slice_get}
 use Rattle.chw_bits.specs.Bits.{number_of}
-use Rattle.chw_clock.specs.Histories.{before, taken}
+use Rattle.chw_clock.specs.Histories.{taken}
 use Rattle.chw_types.specs.declared.declarations.ConDecl.{ConDecl}
 use Rattle.chw_types.specs.declared.declarations.Data.{Data}
 use Rattle.chw_types.specs.TypeTree.{TypeTree, scalar, vector, data_of, TypeTrees, no_types, type_and}
@@ -16,7 +16,7 @@ use Rattle.chw_layout.specs.Encodes.{first_constructor}
 use Rattle.chw_layout.specs.Measured.{closed_value}
 use Rattle.chw_meaning.specs.Values.{History, con_head, prim_head, Value, bits, con_of, vec_of, closure, ty_closure, partial, Thunk, closed, applied, member, field, element, sample, stream, known, Thunks, none, thunk_and, thunk_at, closed_type, joined, in_group, body_at, fields_from, closed_all, value_of, item_at}
 use Rattle.chw_meaning.specs.Steps.{Ram, Step, gives, goes_to, computes, samples, delays, remembers, looks_up, stuck, step}
-use Rattle.chw_meaning.specs.Eval.{plus, Choice, goes_on, takes, looks, choice, arm_of, result, dom}
+use Rattle.chw_meaning.specs.Eval.{plus, Choice, goes_on, takes, looks, choice, arm_of, result, dom, last_tick}
 
 -- what was found, and in how many turns
 pub record Found (A : Type 0) : Type 0 where
@@ -169,7 +169,7 @@ unfoldable mutual
       seen (λ bs. changed (result q) (word_value q nats (reverse bs))) (words d p widths ths h)
   run (suc d) p (samples f s) h = turn (and_then (force d p f h) (λ v. apply d p v (sample s h) h))
   run (suc d) p (delays c i s) h = delayed d p (taken h (dom c)) i s h
-  run (suc d) p (remembers ram) h = remembered d p (before h (dom ram.dom)) ram
+  run (suc d) p (remembers ram) h = remembered d p (last_tick ram h) ram
   run (suc d) p (looks_up last k v i) h =
       and_then (look d p k i h) (λ b. force d p (element (min (number_of b) last) v) h)
   run (suc d) p stuck h = None
@@ -202,7 +202,7 @@ unfoldable mutual
   -- a block RAM at an address, which is one of its content or not
   pub at_address : ℕ → Program → Bool → Ram → History → ℕ → Option (Found Value)
   at_address zero p inside ram g a = None
-  at_address (suc d) p true ram g a = word_at d p (before g (dom ram.dom)) ram g a
+  at_address (suc d) p true ram g a = word_at d p (last_tick ram g) ram g a
   at_address (suc d) p false ram g a =
       with_it (zero_by d p.datas ram.payload) (λ z. found (value_of z) 0)
 
@@ -217,7 +217,7 @@ unfoldable mutual
   pub written : ℕ → Program → Value → Ram → History → ℕ → Option (Found Value)
   written zero p v ram g a = None
   written (suc d) p (con_of (suc (suc zero)) none) ram g a =
-      word_at d p (before g (dom ram.dom)) ram g a
+      word_at d p (last_tick ram g) ram g a
   written (suc d) p (con_of (suc (suc (suc zero))) (thunk_and pair none)) ram g a = and_then (look d p ram.address (field 1 pair) g) (λ b. replaced_at d p (nat_eq (number_of b) a) pair ram g a)
   written (suc d) p _ ram g a = None
 
@@ -225,4 +225,4 @@ unfoldable mutual
   pub replaced_at : ℕ → Program → Bool → Thunk → Ram → History → ℕ → Option (Found Value)
   replaced_at zero p here pair ram g a = None
   replaced_at (suc d) p true pair ram g a = force d p (field 0 pair) g
-  replaced_at (suc d) p false pair ram g a = word_at d p (before g (dom ram.dom)) ram g a
+  replaced_at (suc d) p false pair ram g a = word_at d p (last_tick ram g) ram g a

@@ -5,7 +5,6 @@ use Rattle.chw_clock.specs.declared.event.Event.{Event}
 use Rattle.chw_clock.specs.declared.event.Ports.{Ports}
 use Rattle.chw_bits.specs.Bits.{bits_of}
 use Rattle.chw_types.specs.TypeTree.{TypeTree, fun}
-use Rattle.chw_types.specs.TypeMoves.{sub}
 use Rattle.chw_prims.specs.Schemas.{pair}
 use Rattle.chw_terms.specs.declared.program.Program.{Program}
 use Rattle.chw_terms.specs.TermTree.{global}

@@ -1,6 +1,6 @@
 //! Worked examples of the meaning, each as the contract of a call that does nothing. The values of the designs are those of Clash's own
-//! simulation, but for the choices of this language: the first value of a block RAM, and places outside its content. The small terms
-//! were worked by hand.
+//! simulation, but for the choices of this language: the first value of a block RAM, and places outside its content. Those of the whole
+//! programs are Clash's own or those of another program that was written for this language. The small terms were worked by hand.
 ghost use Rattle.chw_meaning.specs.Shown.{CounterShown, AccumulatorShown, SumsShown, MemoryShown, CrossingShown, SwappingShown, PairShown, SignedShown, FilterShown, OneResetShown, MoreResetsShown, OtherResetShown, ResetMemoryShown};
 ghost use Rattle.chw_meaning.specs.Whole.{WholeProgram};
 ghost use Rattle.chw_meaning.specs.TopsShown.{PairInShown, WithoutWidthShown, EndlessPartShown, TwoInputsShown, OtherTickShown, BothTickShown, PairOutShown, ProductOutShown, RecursiveOutShown, ProductInShown, VectorOutShown, NestedVectorShown, ValueInShown, ResetShown};
