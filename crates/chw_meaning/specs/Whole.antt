@@ -14,7 +14,7 @@ use Rattle.chw_meaning.specs.Designs.{byte, a_clock, accumulator_of}
 -- domain Sys; def main : Signal Sys byte -> Signal Sys byte = and the accumulator; top main (x) (o);
 abbrev pub accumulating : Program
 accumulating =
-    record { domains = codes "Sys" ∷ []; datas = built_in; defs = record { name = codes "main"; ty = fun (signal a_clock byte) (signal a_clock byte); body = accumulator_of } ∷ []; top = record { «def» = record { number = 0 }; inputs = codes "x" ∷ []; outputs = codes "o" ∷ [] } }
+    record { domains = codes "Sys" ∷ []; resets = []; datas = built_in; defs = record { name = codes "main"; ty = fun (signal a_clock byte) (signal a_clock byte); body = accumulator_of } ∷ []; top = record { «def» = record { number = 0 }; inputs = codes "x" ∷ []; outputs = codes "o" ∷ [] } }
 
 -- one event with this input
 abbrev pub with_input : ℕ → Event
