@@ -49,7 +49,8 @@ domains_in (declaration.Domain w has_reset) = w.bytes ∷ []
 domains_in (declaration.Data w ps cs) = []
 domains_in (declaration.Def w t e) = []
 
--- the domains that have a reset, in order of declaration; the first domain that is declared here has this number
+-- the domains that have a reset, in order of declaration; the first domain declared here has this
+-- number
 abbrev pub resets_from : ℕ → List Declaration → List DomId
 resets_from d [] = []
 resets_from d (declaration.Domain w true ∷ ds) = record { number = d } ∷ resets_from (suc d) ds

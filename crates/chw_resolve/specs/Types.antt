@@ -72,7 +72,8 @@ abbrev mutual
   type_in g variables (type_product ts) = chain_of nat_product (types_in g variables ts)
   type_in g variables (type_named w ts) = at_arguments (data_types_in g) (named_type g w.bytes) (types_in g variables ts)
   type_in g variables (type_variable w) = ty_var (place_in variables w.bytes)
-  type_in g variables (type_numeral w) = nat_lit (unwrap_or (within TYPE_NUMERAL_BITS (number_of w.bytes)) 0)
+  type_in g variables (type_numeral w) =
+      nat_lit (unwrap_or (within TYPE_NUMERAL_BITS (number_of w.bytes)) 0)
 
   pub types_in : Globals → List (List ℕ) → Tys → TypeTrees
   types_in g variables written.no_types = no_types

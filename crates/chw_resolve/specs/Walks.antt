@@ -42,7 +42,8 @@ argument_in g types values (written.OfType t) = OfType (type_in g types t)
 
 -- a binding, where the variables of its group are in scope
 abbrev pub binding_in : Globals → (types values : List (List ℕ)) → WrittenBinding → Binding
-binding_in g types values b = record { ty = type_in g types b.ty; body = term_in g types values b.term }
+binding_in g types values b =
+    record { ty = type_in g types b.ty; body = term_in g types values b.term }
 
 -- an alternative
 abbrev pub alternative_in : Globals → (types values : List (List ℕ)) → Alternative → Alt
@@ -66,6 +67,8 @@ pub record IsDeclared (g : Globals) (ds : List Declaration) (all : Declared) : T
   pub datas : all.datas.items ≡ built_in ++ flat_map (datas_in g) ds
   pub defs : all.defs.items ≡ flat_map (defs_in g) ds
 
--- a declaration was gone through: what is listed of any further ones behind it is what was to be listed of it and of those
+-- a declaration was gone through: what is listed of further ones behind it is what was to be listed
+-- of it and of those
 abbrev pub ListsReset : Declaration → ℕ → (before after : List DomId) → ℕ → Type 0
-ListsReset d number before after next = (ds : List Declaration) → after ++ resets_from next ds ≡ before ++ resets_from number (d ∷ ds)
+ListsReset d number before after next =
+    (ds : List Declaration) → after ++ resets_from next ds ≡ before ++ resets_from number (d ∷ ds)
