@@ -16,13 +16,16 @@ fn main(rt: HostRuntime) -> io::Result<()> {
 
 // Writes what a call gives.
 fn answer(alloc: Global, call: &str, text: &str, out: &mut Vec<u8>) -> Result<(), Or<Unread>> {
-    let mut parts = read(alloc, text)?;
-    if parts.datas.len() > 100 {
-        return Err(Or::Fault(Unread));
-    }
+    let parts = read(alloc, text)?;
     match call {
-        "kinds" => put_kinds(alloc, &mut parts.datas, out),
-        "data_cycle" => put_cycle(&find_kinds(alloc, &mut parts.datas, &[])?, out),
+        "kinds" => put_kinds(alloc, parts.datas, out),
+        "data_cycle" => {
+            let mut datas = parts.datas;
+            if datas.len() > 100 {
+                return Err(Or::Fault(Unread));
+            }
+            put_cycle(&find_kinds(alloc, &mut datas, &[])?, out)
+        }
         "definition_cycle" => {
             let defs = definitions(alloc, parts.terms)?;
             if defs.len() > 100 {
@@ -35,9 +38,9 @@ fn answer(alloc: Global, call: &str, text: &str, out: &mut Vec<u8>) -> Result<()
 }
 
 // Writes the kinds of data types, where one domain is declared.
-fn put_kinds(alloc: Global, datas: &mut Vec<Data>, out: &mut Vec<u8>) -> Result<(), Or<Unread>> {
+fn put_kinds(alloc: Global, mut datas: Vec<Data>, out: &mut Vec<u8>) -> Result<(), Or<Unread>> {
     let domains = [Name::from(Vec::from_slice(alloc, b"Sys")?)];
-    if find_kinds(alloc, datas, &domains)?.is_some() {
+    if datas.len() > 100 || find_kinds(alloc, &mut datas, &domains)?.is_some() {
         return Err(Or::Fault(Unread));
     }
     for (place, data) in datas.iter().enumerate() {
