@@ -1,7 +1,7 @@
 //! Rows of descriptions, and of what their types, terms and declarations become.
 #![tactic(auto)]
 
-use chw_base::{NoMemory, Or};
+use chw_base::{DomId, NoMemory, Or};
 use chw_lexer::lex;
 use chw_names::Globals;
 use chw_names::least::Least;
@@ -17,7 +17,7 @@ fn main(rt: HostRuntime) -> io::Result<()> {
     print_rows(&rt, answer)
 }
 
-// Writes a part of the program of a text: the type or the body of the last definition, or the rest.
+// Writes a part of the program of a text: the type or the body of the last definition, the domains that have a reset, or the rest.
 fn answer(alloc: Global, call: &str, text: &str, out: &mut Vec<u8>) -> Result<(), Or<Unread>> {
     let program = program(alloc, text.as_bytes()).ok_or(Or::Fault(Unread))?;
     let last = program.defs.as_slice().last().ok_or(Or::Fault(Unread))?;
@@ -25,6 +25,7 @@ fn answer(alloc: Global, call: &str, text: &str, out: &mut Vec<u8>) -> Result<()
         "type" => Ok(put_type(out, &last.ty)?),
         "body" => Ok(put_term(out, &last.body)?),
         "rest" => Ok(put_program(out, &program)?),
+        "resets" => Ok(put_resets(out, program.resets.as_slice())?),
         _ => Err(Or::Fault(Unread)),
     }
 }
@@ -45,6 +46,15 @@ fn program(alloc: Global, text: &[u8]) -> Option<Program> {
         return None;
     };
     program_of(alloc, &tree, &globals).ok()
+}
+
+// Writes the numbers of the domains that have a reset.
+fn put_resets(out: &mut Vec<u8>, resets: &[DomId]) -> Result<(), NoMemory> {
+    put(out, "resets")?;
+    for reset in resets {
+        put_number(out, " ", reset.number)?;
+    }
+    Ok(())
 }
 
 // Writes the domains, the data types but for their kinds, the definitions' names, and the top.
