@@ -16,7 +16,7 @@ use row_tables::{Unread, print_rows, put, put_number};
 use std::alloc::Global;
 use std::io;
 use tables::{put_binders, put_names, put_walk};
-use trees::{put_limit, put_twice, put_unknown};
+use trees::put_found_in;
 
 fn main(rt: HostRuntime) -> io::Result<()> {
     print_rows(&rt, answer)
@@ -25,9 +25,7 @@ fn main(rt: HostRuntime) -> io::Result<()> {
 // Writes what a call gives.
 fn answer(alloc: Global, call: &str, text: &str, out: &mut Vec<u8>) -> Result<(), Or<Unread>> {
     match call {
-        "twice" => put_twice(alloc, text, out),
-        "unknown" => put_unknown(alloc, text, out),
-        "limit" => put_limit(alloc, text, out),
+        "twice" | "unknown" | "limit" => put_found_in(alloc, call, text, out),
         "literal" => Ok(put_literal(text, out)?),
         "numeral" => Ok(put_numeral(text, out)?),
         "names" => put_names(alloc, text, out),

@@ -10,16 +10,25 @@ pub fn put_names(alloc: Global, text: &str, out: &mut Vec<u8>) -> Result<(), Or<
     let words = words_of(alloc, text)?;
     let mut declared = Declared::new(alloc);
     for word in words.as_slice() {
-        put_comma(out)?;
-        match word.as_slice() {
-            [b'?', name @ ..] => put_found(out, "at ", declared.find(name))?,
-            name => {
-                let is_new = declared.declare(name)?;
-                put_number(out, if is_new { "new " } else { "old " }, declared.len())?;
-            }
-        }
+        put_name(&mut declared, word.as_slice(), out)?;
     }
     Ok(())
+}
+
+// Declares a name, or seeks it.
+fn put_name<'t>(
+    declared: &mut Declared<'t>,
+    word: &'t [u8],
+    out: &mut Vec<u8>,
+) -> Result<(), NoMemory> {
+    put_comma(out)?;
+    match word {
+        [b'?', name @ ..] => put_found(out, "at ", declared.find(name)),
+        name => {
+            let is_new = declared.declare(name)?;
+            put_number(out, if is_new { "new " } else { "old " }, declared.len())
+        }
+    }
 }
 
 // Writes what stands before an answer: nothing before the first one.
@@ -31,19 +40,28 @@ fn put_comma(out: &mut Vec<u8>) -> Result<(), NoMemory> {
 pub fn put_binders(alloc: Global, text: &str, out: &mut Vec<u8>) -> Result<(), Or<Unread>> {
     let mut scope = Scope::new(alloc);
     for word in text.split(' ') {
-        if word == "#" {
-            put_comma(out)?;
-            put_number(out, "open ", scope.len())?;
-        } else if let Some(name) = word.strip_prefix('?') {
-            put_comma(out)?;
-            put_found(out, "", scope.find(name.as_bytes()))?;
-        } else if let Some(count) = word.strip_prefix('-') {
-            unbind(&mut scope, count)?;
-        } else {
-            scope.bind(word.as_bytes())?;
-        }
+        put_binder(&mut scope, word, out)?;
     }
     Ok(())
+}
+
+// Binds a name, unbinds names, or tells of them.
+fn put_binder<'t>(
+    scope: &mut Scope<'t>,
+    word: &'t str,
+    out: &mut Vec<u8>,
+) -> Result<(), Or<Unread>> {
+    if let Some(name) = word.strip_prefix('?') {
+        put_comma(out)?;
+        Ok(put_found(out, "", scope.find(name.as_bytes()))?)
+    } else if let Some(count) = word.strip_prefix('-') {
+        unbind(scope, count)
+    } else if word == "#" {
+        put_comma(out)?;
+        Ok(put_number(out, "open ", scope.len())?)
+    } else {
+        Ok(scope.bind(word.as_bytes())?)
+    }
 }
 
 // Unbinds the last name, or as many as the count says.
@@ -70,20 +88,31 @@ pub fn put_walk(alloc: Global, text: &str, out: &mut Vec<u8>) -> Result<(), Or<U
     let mut scope = Scope::new(alloc);
     let mut open: Vec<&[u8]> = Vec::new(alloc);
     for step in 0..steps {
-        let index = step.wrapping_mul(step).wrapping_add(step / 3) % 5;
-        let name = NAMES.get(index as usize).copied().unwrap_or(b"");
-        if step % 7 < 4 {
-            scope.bind(name)?;
-            open.push(name)?;
-        } else {
-            scope.unbind();
-            let _ = open.pop();
-        }
-        if !agrees(&scope, open.as_slice()) {
-            put_number(out, "another after ", step)?;
-        }
+        put_step(&mut scope, &mut open, step, out)?;
     }
     Ok(put(out, "walked")?)
+}
+
+// Binds a name or unbinds one, and tells where one is found elsewhere.
+fn put_step(
+    scope: &mut Scope<'static>,
+    open: &mut Vec<&'static [u8]>,
+    step: u32,
+    out: &mut Vec<u8>,
+) -> Result<(), NoMemory> {
+    if step % 7 < 4 {
+        let index = step.wrapping_mul(step).wrapping_add(step / 3) % 5;
+        let name = NAMES.get(index as usize).copied().unwrap_or(b"");
+        scope.bind(name)?;
+        open.push(name)?;
+    } else {
+        scope.unbind();
+        let _ = open.pop();
+    }
+    if agrees(scope, open.as_slice()) {
+        return Ok(());
+    }
+    put_number(out, "another after ", step)
 }
 
 // Whether each name is found where a search finds it.

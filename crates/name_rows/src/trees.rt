@@ -2,7 +2,7 @@
 use chw_base::{NoMemory, Or};
 use chw_grammar::{Tree, Word};
 use chw_lexer::lex;
-use chw_limits::first_passed;
+use chw_limits::{Limit, first_passed};
 use chw_names::{twice, unknown};
 use chw_parser::parse;
 use row_tables::{Unread, bytes_of, put, put_number};
@@ -23,18 +23,22 @@ fn tree(alloc: Global, text: &str) -> Result<Tree, Or<Unread>> {
     }
 }
 
-/// Writes the first name that is declared twice, and its place.
-pub fn put_twice(alloc: Global, text: &str, out: &mut Vec<u8>) -> Result<(), Or<Unread>> {
+/// Writes what a call gives of the tree of a text.
+pub fn put_found_in(
+    alloc: Global,
+    call: &str,
+    text: &str,
+    out: &mut Vec<u8>,
+) -> Result<(), Or<Unread>> {
     let tree = tree(alloc, text)?;
-    Ok(put_word(twice(alloc, &tree)?, out)?)
+    Ok(match call {
+        "twice" => put_word(twice(alloc, &tree)?, out)?,
+        "unknown" => put_word(unknown(alloc, &tree)?, out)?,
+        _ => put_limit(first_passed(&tree), out)?,
+    })
 }
 
-/// Writes the first name that nothing declares, and its place.
-pub fn put_unknown(alloc: Global, text: &str, out: &mut Vec<u8>) -> Result<(), Or<Unread>> {
-    let tree = tree(alloc, text)?;
-    Ok(put_word(unknown(alloc, &tree)?, out)?)
-}
-
+// Writes a name and its place.
 fn put_word(word: Option<&Word>, out: &mut Vec<u8>) -> Result<(), NoMemory> {
     match word {
         Some(word) => {
@@ -45,13 +49,13 @@ fn put_word(word: Option<&Word>, out: &mut Vec<u8>) -> Result<(), NoMemory> {
     }
 }
 
-/// Writes the first limit that is passed, and its number.
-pub fn put_limit(alloc: Global, text: &str, out: &mut Vec<u8>) -> Result<(), Or<Unread>> {
-    match first_passed(&tree(alloc, text)?) {
+// Writes a limit and its number.
+fn put_limit(limit: Option<Limit>, out: &mut Vec<u8>) -> Result<(), NoMemory> {
+    match limit {
         Some(limit) => {
             put(out, limit.which.word())?;
-            Ok(put_number(out, " ", limit.number)?)
+            put_number(out, " ", limit.number)
         }
-        None => Ok(put(out, "none")?),
+        None => put(out, "none"),
     }
 }

@@ -1,10 +1,10 @@
 //! The tokens of a text.
 ghost use Rattle.std.specs.Prelude.{◌<◌, ◌^◌, length};
 
-use chw_base::Or;
+use chw_base::{NoMemory, Or};
 use chw_grammar::Terminal;
 use chw_lexer::laws::tokens_lie_in;
-use chw_lexer::{LexFault, lex, word};
+use chw_lexer::{LexFault, Sort, Token, lex, word};
 use row_tables::{Unread, put, put_bytes, put_number};
 use std::alloc::Global;
 
@@ -14,17 +14,33 @@ pub fn put_tokens(alloc: Global, text: &[u8], out: &mut Vec<u8>) -> Result<(), O
 {
     match lex(alloc, text) {
         Ok(tokens) => {
-            for (place, token) in tokens.as_slice().iter().enumerate() {
-                put(out, if place == 0 { "" } else { "; " })?;
-                put(out, format!(in alloc; "{:?}", token.sort)?.as_str())?;
-                put_number(out, " ", token.span.from)?;
-                put_number(out, " ", token.span.to)?;
+            for token in tokens.as_slice() {
+                put_token(*token, out)?;
             }
             Ok(put(out, if tokens.is_empty() { "none" } else { "" })?)
         }
         Err(Or::Fault(LexFault { at })) => Ok(put_number(out, "fault ", at)?),
         Err(Or::Memory) => Err(Or::Memory),
     }
+}
+
+fn put_token(token: Token, out: &mut Vec<u8>) -> Result<(), NoMemory> {
+    let sort = match token.sort {
+        Sort::Lower => "Lower ",
+        Sort::Upper => "Upper ",
+        Sort::Key => "Key ",
+        Sort::Numeral => "Numeral ",
+        Sort::Literal => "Literal ",
+        Sort::Symbol => "Symbol ",
+    };
+    put_mark(out)?;
+    put_number(out, sort, token.span.from)?;
+    put_number(out, " ", token.span.to)
+}
+
+// Writes what stands before an answer: nothing before the first one.
+fn put_mark(out: &mut Vec<u8>) -> Result<(), NoMemory> {
+    put(out, if out.is_empty() { "" } else { "; " })
 }
 
 /// Writes the word of each token and what it is to the grammar.
@@ -35,12 +51,15 @@ pub fn put_terminals(alloc: Global, text: &[u8], out: &mut Vec<u8>) -> Result<()
         return Err(Or::Fault(Unread));
     };
     tokens_lie_in();
-    for (place, token) in tokens.as_slice().iter().enumerate() {
-        let word = word(text, *token);
-        let terminal = Terminal::of(token.sort, word);
-        put(out, if place == 0 { "" } else { "; " })?;
-        put_bytes(out, word)?;
-        put(out, format!(in alloc; " {terminal:?}")?.as_str())?;
+    for token in tokens.as_slice() {
+        put_terminal(alloc, token.sort, word(text, *token), out)?;
     }
     Ok(())
+}
+
+fn put_terminal(alloc: Global, sort: Sort, word: &[u8], out: &mut Vec<u8>) -> Result<(), NoMemory> {
+    let terminal = Terminal::of(sort, word);
+    put_mark(out)?;
+    put_bytes(out, word)?;
+    put(out, format!(in alloc; " {terminal:?}")?.as_str())
 }
