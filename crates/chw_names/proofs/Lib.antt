@@ -1,5 +1,7 @@
 pub mod Declaring
 pub mod Earliest
+mod Primitives
+mod Sizes
 pub mod Spaces
 pub mod Steps
 pub mod TwiceTerms

@@ -6,11 +6,10 @@ use Rattle.chw_grammar.specs.declared.term_tree.Argument.{Argument}
 use Rattle.chw_grammar.specs.declared.term_tree.Argument.TheVariants.{OfTerm, OfType}
 use Rattle.chw_grammar.specs.declared.term_tree.Binding.{Binding}
 use Rattle.chw_grammar.specs.declared.word.Word.{Word}
-use Rattle.chw_grammar.specs.TermTree.{Tm, term_letrec, term_case, term_apply, term_vec}
-use Rattle.chw_grammar.specs.TypeTree.{Ty}
+use Rattle.chw_grammar.specs.TermTree.{Tm, term_letrec, term_case, term_apply}
 use Rattle.chw_grammar.specs.TermView.{terms_of, bindings_of, alternatives_of, arguments_of}
 use Rattle.chw_names.specs.Twices.{binding_words, binding_name, pattern_words, each_alternative, second_alternatives, term_twices, terms_twices, bindings_twices, alternatives_twices, arguments_twices}
-use Rattle.chw_names.specs.Words.{seconds, least_of, Meets}
+use Rattle.chw_names.specs.Words.{seconds, Meets}
 use Rattle.chw_names.proofs.Steps.{meets_then, meets_all}
 
 abbrev pub binding_twices : Binding → List Word
@@ -48,37 +47,33 @@ arguments_each [] = refl
 arguments_each (OfTerm e ∷ more) = ap (λ ws. term_twices e ++ ws) (arguments_each more)
 arguments_each (OfType t ∷ more) = arguments_each more
 
+-- what is met in a list, by what is met in its items
+pub bindings_meet : (bs : List Binding) (i : ℕ) {met last : Option Word} → length bs ≤ i → Meets met last (flat_map binding_twices (take i bs)) → Meets met last (bindings_twices (bindings_of bs))
+bindings_meet bs i {met = met} {last = last} le each = subst (Meets met last) (sym (bindings_each bs)) (meets_all binding_twices bs i le each)
+
+pub alternatives_meet : (alts : List Alternative) (i : ℕ) {met last : Option Word} → length alts ≤ i → Meets met last (flat_map alternative_twices (take i alts)) → Meets met last (alternatives_twices (alternatives_of alts))
+alternatives_meet alts i {met = met} {last = last} le each = subst (Meets met last) (sym (alternatives_each alts)) (meets_all alternative_twices alts i le each)
+
+pub arguments_meet : (args : List Argument) (i : ℕ) {met last : Option Word} → length args ≤ i → Meets met last (flat_map argument_twices (take i args)) → Meets met last (arguments_twices (arguments_of args))
+arguments_meet args i {met = met} {last = last} le each = subst (Meets met last) (sym (arguments_each args)) (meets_all argument_twices args i le each)
+
+pub terms_meet : (es : List Tm) (i : ℕ) {met last : Option Word} → length es ≤ i → Meets met last (flat_map term_twices (take i es)) → Meets met last (terms_twices (terms_of es))
+terms_meet es i {met = met} {last = last} le each = subst (Meets met last) (sym (terms_each es)) (meets_all term_twices es i le each)
+
 -- what is met in a term, by what is met in its parts
-pub letrec_meets : (bs named : List Binding) (e : Tm) (i : ℕ) {whole : Tm} {met m1 m2 last : Option Word} → term_letrec (bindings_of bs) e ≡ whole → length bs ≤ i → named ≡ bs
-    → Meets met m1 (seconds [] (flat_map binding_name named)) → Meets m1 m2 (flat_map binding_twices (take i bs)) → Meets m2 last (term_twices e) → Meets met last (term_twices whole)
-letrec_meets bs named e i {met = met} {m1 = m1} {last = last} is le same names bound body =
-    let names_here : Meets met m1 (seconds [] (flat_map binding_name bs)) = record { least = names.least ∙ ap (λ xs. least_of met (seconds [] (flat_map binding_name xs))) same } in
-    let all = meets_then (seconds [] (flat_map binding_name bs) ++ flat_map binding_twices bs) (term_twices e)
-    (meets_then (seconds [] (flat_map binding_name bs)) (flat_map binding_twices bs) names_here (meets_all binding_twices bs i le bound)) body in
-    subst (Meets met last)
-    (ap (λ ws. seconds [] ws ++ flat_map binding_twices bs ++ term_twices e) (sym (binding_words_are bs))
-    ∙ ap (λ ws. seconds [] (binding_words (bindings_of bs)) ++ ws ++ term_twices e) (sym (bindings_each bs)) ∙ ap term_twices is)
-    all
+pub letrec_meets : (bs : List Binding) (e : Tm) {whole : Tm} {met m1 m2 last : Option Word} → term_letrec (bindings_of bs) e ≡ whole → Meets met m1 (seconds [] (flat_map binding_name bs))
+    → Meets m1 m2 (bindings_twices (bindings_of bs)) → Meets m2 last (term_twices e) → Meets met last (term_twices whole)
+letrec_meets bs e {met = met} {last = last} is names bound body =
+    let each = bindings_twices (bindings_of bs) in
+    let all = meets_then (seconds [] (flat_map binding_name bs) ++ each) (term_twices e) (meets_then (seconds [] (flat_map binding_name bs)) each names bound) body in
+    subst (Meets met last) (ap (λ ws. seconds [] ws ++ each ++ term_twices e) (sym (binding_words_are bs)) ∙ ap term_twices is) all
 
-pub case_meets : (e : Tm) (alts placed : List Alternative) (i : ℕ) {whole : Tm} {met m1 m2 last : Option Word} → term_case e (alternatives_of alts) ≡ whole → length alts ≤ i → placed ≡ alts
-    → Meets met m1 (second_alternatives placed) → Meets m1 m2 (term_twices e) → Meets m2 last (flat_map alternative_twices (take i alts)) → Meets met last (term_twices whole)
-case_meets e alts placed i {met = met} {m1 = m1} {last = last} is le same places scrutinee each =
-    let places_here : Meets met m1 (second_alternatives alts) = record { least = places.least ∙ ap (λ xs. least_of met (second_alternatives xs)) same } in
-    let all = meets_then (second_alternatives alts ++ term_twices e) (flat_map alternative_twices alts)
-    (meets_then (second_alternatives alts) (term_twices e) places_here scrutinee) (meets_all alternative_twices alts i le each) in
-    subst (Meets met last)
-    (ap (λ q. second_alternatives q ++ term_twices e ++ flat_map alternative_twices alts) (sym (alternatives_are alts))
-    ∙ ap (λ ws. second_alternatives (each_alternative (alternatives_of alts)) ++ term_twices e ++ ws) (sym (alternatives_each alts)) ∙ ap term_twices is)
-    all
+pub case_meets : (e : Tm) (alts : List Alternative) {whole : Tm} {met m1 m2 last : Option Word} → term_case e (alternatives_of alts) ≡ whole → Meets met m1 (second_alternatives alts)
+    → Meets m1 m2 (term_twices e) → Meets m2 last (alternatives_twices (alternatives_of alts)) → Meets met last (term_twices whole)
+case_meets e alts {met = met} {last = last} is places scrutinee each =
+    let all = meets_then (second_alternatives alts ++ term_twices e) (alternatives_twices (alternatives_of alts)) (meets_then (second_alternatives alts) (term_twices e) places scrutinee) each in
+    subst (Meets met last) (ap (λ q. second_alternatives q ++ term_twices e ++ alternatives_twices (alternatives_of alts)) (sym (alternatives_are alts)) ∙ ap term_twices is) all
 
-pub apply_meets : (e : Tm) (args : List Argument) (i : ℕ) {whole : Tm} {met m1 last : Option Word} → term_apply e (arguments_of args) ≡ whole → length args ≤ i
-    → Meets met m1 (term_twices e) → Meets m1 last (flat_map argument_twices (take i args)) → Meets met last (term_twices whole)
-apply_meets e args i {met = met} {last = last} is le head each =
-    let all = meets_then (term_twices e) (flat_map argument_twices args) head (meets_all argument_twices args i le each) in
-    subst (Meets met last) (ap (λ ws. term_twices e ++ ws) (sym (arguments_each args)) ∙ ap term_twices is) all
-
-pub vec_meets : (t : Ty) (es : List Tm) (i : ℕ) {whole : Tm} {met last : Option Word} → term_vec t (terms_of es) ≡ whole → length es ≤ i
-    → Meets met last (flat_map term_twices (take i es)) → Meets met last (term_twices whole)
-vec_meets t es i {met = met} {last = last} is le each =
-    let all = meets_all term_twices es i le each in
-    subst (Meets met last) (sym (terms_each es) ∙ ap term_twices is) all
+pub apply_meets : (e : Tm) (args : List Argument) {whole : Tm} {met m1 last : Option Word} → term_apply e (arguments_of args) ≡ whole → Meets met m1 (term_twices e)
+    → Meets m1 last (arguments_twices (arguments_of args)) → Meets met last (term_twices whole)
+apply_meets e args {met = met} {last = last} is head each = subst (Meets met last) (ap term_twices is) (meets_then (term_twices e) (arguments_twices (arguments_of args)) head each)

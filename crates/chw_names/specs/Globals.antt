@@ -42,3 +42,7 @@ names_in space ds = with_names (built_in space) (names_of (flat_map (words_in sp
 -- the names of declarations
 abbrev pub globals_of : List Declaration → Globals
 globals_of ds = record { domains = names_in Domains ds; data_types = names_in DataTypes ds; constructors = names_in Constructors ds; definitions = names_in Definitions ds }
+
+-- no names in any name space
+abbrev pub no_names : Globals
+no_names = record { domains = []; data_types = []; constructors = []; definitions = [] }

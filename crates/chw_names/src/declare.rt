@@ -45,6 +45,7 @@ pub fn declare_apart<'t>(
     ensures { OnOk result (Meets least.old least.new (seconds [] words.now)) }
 {
     let mut names = Declared::new(alloc);
-    declare_all(&mut names, least, words)?;
-    Ok(())
+    let outcome = declare_all(&mut names, least, words);
+    drop(names);
+    outcome
 }

@@ -1,6 +1,6 @@
 //! The names that a description declares.
-ghost use Rattle.std.specs.Prelude.{◌≡◌, OnOk, IfOk};
-ghost use Rattle.chw_names.specs.Globals.{globals_of, names_in};
+ghost use Rattle.std.specs.Prelude.{◌≡◌, [], OnOk, IfOk};
+ghost use Rattle.chw_names.specs.Globals.{globals_of, names_in, no_names};
 ghost use Rattle.chw_names.specs.Twices.{global_twices, space_twices};
 ghost use Rattle.chw_names.specs.Words.{Meets};
 
@@ -31,30 +31,66 @@ impl<'t> Globals<'t> {
         ensures names { IfOk result (λ globals. globals ≡ globals_of declarations.now) }
         ensures twices { OnOk result (Meets least.old least.new (global_twices declarations.now)) }
     {
-        let domains = names_in(alloc, least, declarations, Space::Domains)?;
-        let data_types = names_in(alloc, least, declarations, Space::DataTypes)?;
-        let constructors = names_in(alloc, least, declarations, Space::Constructors)?;
-        let definitions = names_in(alloc, least, declarations, Space::Definitions)?;
-        Ok(Globals {
-            domains,
-            data_types,
-            constructors,
-            definitions,
-        })
+        let mut globals = Globals::none(alloc);
+        match globals.declare(least, declarations) {
+            Ok(()) => Ok(globals),
+            Err(fault) => {
+                drop(globals);
+                Err(fault)
+            }
+        }
+    }
+
+    /// No names.
+    fn none(alloc: Global) -> Globals<'t>
+        ensures { result ≡ no_names }
+    {
+        Globals {
+            domains: Declared::new(alloc),
+            data_types: Declared::new(alloc),
+            constructors: Declared::new(alloc),
+            definitions: Declared::new(alloc),
+        }
+    }
+
+    /// Declares the built-in names and those of declarations, where there are no names yet.
+    fn declare(
+        &mut self,
+        least: &mut Least<'t>,
+        declarations: &'t [Declaration],
+    ) -> Result<(), NoMemory>
+        ensures names { OnOk result (self.old ≡ no_names → self.new ≡ globals_of declarations.now) }
+        ensures twices { OnOk result (self.old ≡ no_names → Meets least.old least.new (global_twices declarations.now)) }
+    {
+        names_in(&mut self.domains, least, declarations, Space::Domains)?;
+        names_in(&mut self.data_types, least, declarations, Space::DataTypes)?;
+        names_in(
+            &mut self.constructors,
+            least,
+            declarations,
+            Space::Constructors,
+        )?;
+        names_in(
+            &mut self.definitions,
+            least,
+            declarations,
+            Space::Definitions,
+        )?;
+        Ok(())
     }
 }
 
-/// The names of one name space.
-fn names_in<'t>(
-    alloc: Global,
+/// Declares the built-in names of one name space and those of declarations, where there are no names yet.
+pub(crate) fn names_in<'t>(
+    names: &mut Declared<'t>,
     least: &mut Least<'t>,
     declarations: &'t [Declaration],
     space: Space,
-) -> Result<Declared<'t>, NoMemory>
-    ensures names { IfOk result (λ names. names ≡ names_in space declarations.now) }
-    ensures twices { OnOk result (Meets least.old least.new (space_twices declarations.now space)) }
+) -> Result<(), NoMemory>
+    ensures names { OnOk result (names.old ≡ [] → names.new ≡ names_in space declarations.now) }
+    ensures twices { OnOk result (names.old ≡ [] → Meets least.old least.new (space_twices declarations.now space)) }
 {
-    let mut names = space.built_in(alloc)?;
-    declare_space(&mut names, least, declarations, space)?;
-    Ok(names)
+    space.declare_built_in(names)?;
+    declare_space(names, least, declarations, space)?;
+    Ok(())
 }

@@ -76,8 +76,21 @@ pub fn literals<'t>(
     ensures { OnOk result (Meets least.old least.new (second_literals (flat_map literal_of_alternative alternatives.now))) }
 {
     let mut known = IndexSet::new(alloc);
+    let outcome = declare_literals(&mut known, least, alternatives);
+    drop(known);
+    outcome
+}
+
+/// Declares the literals that alternatives are for, by what they say.
+fn declare_literals<'t>(
+    known: &mut IndexSet<Meaning>,
+    least: &mut Least<'t>,
+    alternatives: &'t [Alternative],
+) -> Result<(), NoMemory>
+    ensures { OnOk result (DeclaresLiterals known.old.keys known.new.keys least.old least.new (flat_map literal_of_alternative alternatives.now)) }
+{
     for alternative in alternatives {
-        literal(&mut known, least, alternative)?;
+        literal(known, least, alternative)?;
     }
     Ok(())
 }

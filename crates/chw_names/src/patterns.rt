@@ -19,14 +19,27 @@ pub fn alternatives<'t>(
 ) -> Result<(), NoMemory>
     ensures { OnOk result (Meets least.old least.new (second_alternatives alternatives.now)) }
 {
-    let mut names = Declared::new(alloc);
-    constructors(&mut names, least, alternatives)?;
+    constructors(alloc, least, alternatives)?;
     literals(alloc, least, alternatives)?;
     Ok(())
 }
 
-/// Declares the constructors that alternatives are for.
+/// Meets the later ones of alternatives that are for the same constructor.
 fn constructors<'t>(
+    alloc: Global,
+    least: &mut Least<'t>,
+    alternatives: &'t [Alternative],
+) -> Result<(), NoMemory>
+    ensures { OnOk result (Meets least.old least.new (seconds [] (flat_map constructor_of_alternative alternatives.now))) }
+{
+    let mut names = Declared::new(alloc);
+    let outcome = declare_constructors(&mut names, least, alternatives);
+    drop(names);
+    outcome
+}
+
+/// Declares the constructors that alternatives are for.
+fn declare_constructors<'t>(
     names: &mut Declared<'t>,
     least: &mut Least<'t>,
     alternatives: &'t [Alternative],
@@ -34,13 +47,13 @@ fn constructors<'t>(
     ensures { OnOk result (Declares names.old names.new least.old least.new (flat_map constructor_of_alternative alternatives.now)) }
 {
     for alternative in alternatives {
-        constructor(names, least, alternative)?;
+        declare_constructor(names, least, alternative)?;
     }
     Ok(())
 }
 
 /// Declares the constructor that an alternative is for.
-fn constructor<'t>(
+fn declare_constructor<'t>(
     names: &mut Declared<'t>,
     least: &mut Least<'t>,
     alternative: &'t Alternative,
@@ -76,8 +89,21 @@ pub fn bindings<'t>(
     ensures { OnOk result (Meets least.old least.new (seconds [] (flat_map binding_name bindings.now))) }
 {
     let mut names = Declared::new(alloc);
+    let outcome = declare_bindings(&mut names, least, bindings);
+    drop(names);
+    outcome
+}
+
+/// Declares the names that a letrec binds.
+fn declare_bindings<'t>(
+    names: &mut Declared<'t>,
+    least: &mut Least<'t>,
+    bindings: &'t [Binding],
+) -> Result<(), NoMemory>
+    ensures { OnOk result (Declares names.old names.new least.old least.new (flat_map binding_name bindings.now)) }
+{
     for binding in bindings {
-        declare(&mut names, least, &binding.name)?;
+        declare(names, least, &binding.name)?;
     }
     Ok(())
 }

@@ -1,6 +1,6 @@
 //! Name spaces.
-ghost use Rattle.std.specs.Prelude.{◌≡◌, OnOk, IfOk, flat_map, map};
-ghost use Rattle.chw_prims.specs.Names.{primitive_names, name_of};
+ghost use Rattle.std.specs.Prelude.{◌≡◌, OnOk, flat_map, map};
+ghost use Rattle.chw_prims.specs.Names.{name_of};
 ghost use Rattle.chw_names.specs.Globals.{built_in, built_in_data_types, built_in_constructors, words_in, constructor_name};
 ghost use Rattle.chw_names.specs.Words.{Declares, with_names};
 
@@ -10,7 +10,6 @@ use chw_base::NoMemory;
 use chw_grammar::{Constructor, Declaration};
 use chw_prims::{ALL, Prim, name};
 use name_tables::Declared;
-use std::alloc::Global;
 
 /// A name space of the whole description.
 #[derive(Clone, Copy, Debug, PartialEq, Eq)]
@@ -23,24 +22,23 @@ pub enum Space {
 }
 
 impl Space {
-    /// The built-in names.
-    pub fn built_in<'t>(self, alloc: Global) -> Result<Declared<'t>, NoMemory>
-        ensures { IfOk result (λ names. names ≡ built_in self) }
+    /// Declares the built-in names.
+    pub fn declare_built_in<'t>(self, names: &mut Declared<'t>) -> Result<(), NoMemory>
+        ensures { OnOk result (names.new ≡ with_names names.old (built_in self)) }
     {
         match self {
-            Space::Domains => Ok(Declared::new(alloc)),
-            Space::DataTypes => data_types(alloc),
-            Space::Constructors => constructors(alloc),
-            Space::Definitions => primitives(alloc),
+            Space::Domains => Ok(()),
+            Space::DataTypes => declare_data_types(names),
+            Space::Constructors => declare_constructors(names),
+            Space::Definitions => declare_primitives(names, &ALL),
         }
     }
 }
 
-/// The names of the built-in data types.
-fn data_types<'t>(alloc: Global) -> Result<Declared<'t>, NoMemory>
-    ensures { IfOk result (λ names. names ≡ built_in_data_types) }
+/// Declares the names of the built-in data types.
+fn declare_data_types<'t>(names: &mut Declared<'t>) -> Result<(), NoMemory>
+    ensures { OnOk result (names.new ≡ with_names names.old built_in_data_types) }
 {
-    let mut names = Declared::new(alloc);
     names.declare(b"Unsigned")?;
     names.declare(b"Signed")?;
     names.declare(b"BitVector")?;
@@ -49,30 +47,19 @@ fn data_types<'t>(alloc: Global) -> Result<Declared<'t>, NoMemory>
     names.declare(b"Bool")?;
     names.declare(b"Maybe")?;
     names.declare(b"Pair")?;
-    Ok(names)
+    Ok(())
 }
 
-/// The names of the built-in constructors.
-fn constructors<'t>(alloc: Global) -> Result<Declared<'t>, NoMemory>
-    ensures { IfOk result (λ names. names ≡ built_in_constructors) }
+/// Declares the names of the built-in constructors.
+fn declare_constructors<'t>(names: &mut Declared<'t>) -> Result<(), NoMemory>
+    ensures { OnOk result (names.new ≡ with_names names.old built_in_constructors) }
 {
-    let mut names = Declared::new(alloc);
     names.declare(b"False")?;
     names.declare(b"True")?;
     names.declare(b"Nothing")?;
     names.declare(b"Just")?;
     names.declare(b"Pair")?;
-    Ok(names)
-}
-
-/// The names of the primitives.
-fn primitives<'t>(alloc: Global) -> Result<Declared<'t>, NoMemory>
-    ensures { IfOk result (λ names. names ≡ primitive_names) }
-{
-    let mut names = Declared::new(alloc);
-    let all = ALL;
-    declare_primitives(&mut names, &all)?;
-    Ok(names)
+    Ok(())
 }
 
 /// Declares the names of primitives.

@@ -1,17 +1,19 @@
 //! Names in a term that nothing declares.
-ghost use Rattle.std.specs.Prelude.{◌≡◌, OnOk, IfOk, flat_map, length};
+ghost use Rattle.std.specs.Prelude.{◌≡◌, ◌++◌, OnOk, IfOk, flat_map, length};
+ghost use Rattle.chw_grammar.specs.TermView.{terms_of, bindings_of, alternatives_of, arguments_of};
 ghost use Rattle.chw_names.specs.Twices.{binding_name, pattern_words};
-ghost use Rattle.chw_names.specs.Unknowns.{name_unknowns, pattern_unknowns, term_unknowns, unless_among, within, Scopes, Walks};
+ghost use Rattle.chw_names.specs.Unknowns.{alternatives_unknowns, arguments_unknowns, bindings_unknowns, name_unknowns, pattern_unknowns, term_unknowns, terms_unknowns, type_unknowns, unless_among, within, Scopes, Walks};
 ghost use Rattle.chw_names.specs.Words.{Meets};
 
 use crate::globals::Globals;
 use crate::least::Least;
 use crate::unknown_types::ty;
 use chw_base::NoMemory;
-use chw_grammar::{Argument, Binding, Pattern, TermNode, TermTree, Word};
+use chw_grammar::{Alternative, Argument, Binding, Pattern, TermNode, TermTree, TypeTree, Word};
 use name_tables::Scope;
 
 /// Meets the names in a term that nothing declares, where these type variables and these variables are in scope.
+#[cycle(term)]
 pub fn term<'t>(
     globals: &Globals<'t>,
     types: &mut Scope<'t>,
@@ -36,33 +38,20 @@ pub fn term<'t>(
             Ok(())
         }
         TermNode::LetRec(bindings, body) => {
-            bind_all(values, bindings.as_slice())?;
-            for binding in bindings {
-                ty(globals, types, least, &binding.ty)?;
-                term(globals, types, values, least, &binding.term)?;
-            }
+            let bindings = bindings.as_slice();
+            bind_all(values, bindings)?;
+            each_binding(globals, types, values, least, bindings)?;
             term(globals, types, values, least, body)?;
             values.unbind_all(bindings.len());
             Ok(())
         }
         TermNode::Case(scrutinee, alternatives) => {
             term(globals, types, values, least, scrutinee)?;
-            for alternative in alternatives {
-                let bound = bind_pattern(globals, values, least, &alternative.pattern)?;
-                term(globals, types, values, least, &alternative.term)?;
-                values.unbind_all(bound);
-            }
-            Ok(())
+            each_alternative(globals, types, values, least, alternatives.as_slice())
         }
         TermNode::Apply(head, arguments) => {
             term(globals, types, values, least, head)?;
-            for argument in arguments {
-                match argument {
-                    Argument::OfTerm(argument) => term(globals, types, values, least, argument)?,
-                    Argument::OfType(argument) => ty(globals, types, least, argument)?,
-                }
-            }
-            Ok(())
+            each_argument(globals, types, values, least, arguments.as_slice())
         }
         TermNode::Name(word) => {
             name(globals, values, least, word);
@@ -75,12 +64,98 @@ pub fn term<'t>(
         TermNode::Literal(_) => Ok(()),
         TermNode::VecLit(annotation, elements) => {
             ty(globals, types, least, annotation)?;
-            for element in elements {
-                term(globals, types, values, least, element)?;
-            }
-            Ok(())
+            each_element(globals, types, values, least, elements.as_slice())
         }
     }
+}
+
+/// Meets the names in a type and in a term that nothing declares, where these type variables and these variables are in scope.
+#[cycle(term)]
+pub fn typed<'t>(
+    globals: &Globals<'t>,
+    types: &mut Scope<'t>,
+    values: &mut Scope<'t>,
+    least: &mut Least<'t>,
+    annotation: &'t TypeTree,
+    tree: &'t TermTree,
+) -> Result<(), NoMemory>
+    ensures { OnOk result (Walks Scopes (types.old, values.old) (types.new, values.new) least.old least.new (type_unknowns globals.now types.old annotation.now ++ term_unknowns globals.now types.old values.old tree.now)) }
+{
+    ty(globals, types, least, annotation)?;
+    term(globals, types, values, least, tree)
+}
+
+/// Meets the names in the types and terms of bindings that nothing declares.
+#[cycle(term)]
+fn each_binding<'t>(
+    globals: &Globals<'t>,
+    types: &mut Scope<'t>,
+    values: &mut Scope<'t>,
+    least: &mut Least<'t>,
+    bindings: &'t [Binding],
+) -> Result<(), NoMemory>
+    ensures { OnOk result (Walks Scopes (types.old, values.old) (types.new, values.new) least.old least.new (bindings_unknowns globals.now types.old values.old (bindings_of bindings.now))) }
+{
+    for binding in bindings {
+        typed(globals, types, values, least, &binding.ty, &binding.term)?;
+    }
+    Ok(())
+}
+
+/// Meets the names in alternatives that nothing declares.
+#[cycle(term)]
+fn each_alternative<'t>(
+    globals: &Globals<'t>,
+    types: &mut Scope<'t>,
+    values: &mut Scope<'t>,
+    least: &mut Least<'t>,
+    alternatives: &'t [Alternative],
+) -> Result<(), NoMemory>
+    ensures { OnOk result (Walks Scopes (types.old, values.old) (types.new, values.new) least.old least.new (alternatives_unknowns globals.now types.old values.old (alternatives_of alternatives.now))) }
+{
+    for alternative in alternatives {
+        let bound = bind_pattern(globals, values, least, &alternative.pattern)?;
+        term(globals, types, values, least, &alternative.term)?;
+        values.unbind_all(bound);
+    }
+    Ok(())
+}
+
+/// Meets the names in arguments that nothing declares.
+#[cycle(term)]
+fn each_argument<'t>(
+    globals: &Globals<'t>,
+    types: &mut Scope<'t>,
+    values: &mut Scope<'t>,
+    least: &mut Least<'t>,
+    arguments: &'t [Argument],
+) -> Result<(), NoMemory>
+    ensures { OnOk result (Walks Scopes (types.old, values.old) (types.new, values.new) least.old least.new (arguments_unknowns globals.now types.old values.old (arguments_of arguments.now))) }
+{
+    for argument in arguments {
+        match argument {
+            Argument::OfTerm(argument) => term(globals, types, values, least, argument)?,
+            Argument::OfType(argument) => ty(globals, types, least, argument)?,
+        }
+    }
+    Ok(())
+}
+
+/// Meets the names in the elements of a vector that nothing declares.
+#[cycle(term)]
+fn each_element<'t>(
+    globals: &Globals<'t>,
+    types: &mut Scope<'t>,
+    values: &mut Scope<'t>,
+    least: &mut Least<'t>,
+    elements: &'t [TermTree],
+) -> Result<(), NoMemory>
+    ensures { OnOk result (Walks Scopes (types.old, values.old) (types.new, values.new) least.old least.new (terms_unknowns globals.now types.old values.old (terms_of elements.now))) }
+{
+    for element in elements {
+        term(globals, types, values, least, element)?;
+    }
+    Ok(())
 }
 
 /// Opens the binders of a letrec.

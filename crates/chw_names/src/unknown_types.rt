@@ -1,5 +1,5 @@
 //! Names in a type that nothing declares.
-ghost use Rattle.std.specs.Prelude.{List, ℕ, OnOk};
+ghost use Rattle.std.specs.Prelude.{List, ℕ, OnOk, flat_map};
 ghost use Rattle.chw_names.specs.Unknowns.{named_unknowns, type_unknowns, unless_among, Walks};
 ghost use Rattle.chw_names.specs.Words.{Meets};
 
@@ -10,6 +10,7 @@ use chw_grammar::{TypeNode, TypeTree, Word};
 use name_tables::Scope;
 
 /// Meets the names in a type that nothing declares, where these type variables are in scope.
+#[cycle(ty)]
 pub fn ty<'t>(
     globals: &Globals<'t>,
     types: &mut Scope<'t>,
@@ -27,21 +28,17 @@ pub fn ty<'t>(
         }
         TypeNode::Arrow(from, to) => {
             ty(globals, types, least, from)?;
-            ty(globals, types, least, to)?;
-            Ok(())
+            ty(globals, types, least, to)
         }
-        TypeNode::Sum(parts) | TypeNode::Product(parts) => {
-            for part in parts {
-                ty(globals, types, least, part)?;
-            }
-            Ok(())
-        }
+        TypeNode::Sum(parts) | TypeNode::Product(parts) => each_ty(
+            globals,
+            types,
+            least,
+            parts.as_slice(),
+        ),
         TypeNode::Named(word, parts) => {
             named(globals, least, word);
-            for part in parts {
-                ty(globals, types, least, part)?;
-            }
-            Ok(())
+            each_ty(globals, types, least, parts.as_slice())
         }
         TypeNode::Variable(word) => {
             variable(types, least, word);
@@ -49,6 +46,22 @@ pub fn ty<'t>(
         }
         TypeNode::Numeral(_) => Ok(()),
     }
+}
+
+/// Meets the names in several types that nothing declares.
+#[cycle(ty)]
+pub fn each_ty<'t>(
+    globals: &Globals<'t>,
+    types: &mut Scope<'t>,
+    least: &mut Least<'t>,
+    trees: &'t [TypeTree],
+) -> Result<(), NoMemory>
+    ensures { OnOk result (Walks (List (List ℕ)) types.old types.new least.old least.new (flat_map (type_unknowns globals.now types.old) trees.now)) }
+{
+    for tree in trees {
+        ty(globals, types, least, tree)?;
+    }
+    Ok(())
 }
 
 /// Meets a name of a type that is neither a data type nor a domain.

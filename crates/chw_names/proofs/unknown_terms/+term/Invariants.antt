@@ -1,22 +1,42 @@
--- what was met in the items so far
-use Rattle.std.proofs.Common.{take}
+-- what was met in the items so far, and what falls from call to call
+use Rattle.std.proofs.Common.{take, ◌+◌, ◌*◌}
 use Rattle.std.specs.List.{flat_map}
+use Rattle.chw_grammar.specs.TermSize.{term_size, terms_size, bindings_size, alternatives_size, arguments_size}
+use Rattle.chw_grammar.specs.TermView.{terms_of, bindings_of, alternatives_of, arguments_of}
 use Rattle.chw_names.specs.Unknowns.{Scopes, Walks}
 use Rattle.chw_names.proofs.UnknownTerms.{in_binding, in_alternative, in_argument, in_element}
 use Rattle.chw_names.proofs.unknown_terms.+term.Given as goal
 
-abbrev pub invariant-loop-binding : goal.invariant-loop-binding
-invariant-loop-binding l =
-    Walks Scopes (l.initial.types, l.initial.values) (l.types, l.values) l.initial.least l.least (flat_map (in_binding l.globals (l.initial.types, l.initial.values)) (take l.binding-index l.binding-items))
+abbrev pub invariant-each_binding-loop-binding : goal.invariant-each_binding-loop-binding
+invariant-each_binding-loop-binding l =
+    Walks Scopes (l.initial.types, l.initial.values) (l.types, l.values) l.initial.least l.least (flat_map (in_binding l.fn.globals (l.initial.types, l.initial.values)) (take l.binding-index l.fn.bindings))
 
-abbrev pub invariant-loop-alternative : goal.invariant-loop-alternative
-invariant-loop-alternative l =
-    Walks Scopes (l.initial.types, l.initial.values) (l.types, l.values) l.initial.least l.least (flat_map (in_alternative l.globals (l.initial.types, l.initial.values)) (take l.alternative-index l.alternative-items))
+abbrev pub invariant-each_alternative-loop-alternative : goal.invariant-each_alternative-loop-alternative
+invariant-each_alternative-loop-alternative l =
+    Walks Scopes (l.initial.types, l.initial.values) (l.types, l.values) l.initial.least l.least (flat_map (in_alternative l.fn.globals (l.initial.types, l.initial.values)) (take l.alternative-index l.fn.alternatives))
 
-abbrev pub invariant-loop-argument : goal.invariant-loop-argument
-invariant-loop-argument l =
-    Walks Scopes (l.initial.types, l.initial.values) (l.types, l.values) l.initial.least l.least (flat_map (in_argument l.globals (l.initial.types, l.initial.values)) (take l.argument-index l.argument-items))
+abbrev pub invariant-each_argument-loop-argument : goal.invariant-each_argument-loop-argument
+invariant-each_argument-loop-argument l =
+    Walks Scopes (l.initial.types, l.initial.values) (l.types, l.values) l.initial.least l.least (flat_map (in_argument l.fn.globals (l.initial.types, l.initial.values)) (take l.argument-index l.fn.arguments))
 
-abbrev pub invariant-loop-element : goal.invariant-loop-element
-invariant-loop-element l =
-    Walks Scopes (l.initial.types, l.initial.values) (l.types, l.values) l.initial.least l.least (flat_map (in_element l.globals (l.initial.types, l.initial.values)) (take l.element-index l.element-items))
+abbrev pub invariant-each_element-loop-element : goal.invariant-each_element-loop-element
+invariant-each_element-loop-element l =
+    Walks Scopes (l.initial.types, l.initial.values) (l.types, l.values) l.initial.least l.least (flat_map (in_element l.fn.globals (l.initial.types, l.initial.values)) (take l.element-index l.fn.elements))
+
+abbrev pub decreases-term : goal.decreases-term
+decreases-term l = 2 * term_size l.tree.now
+
+abbrev pub decreases-each_binding : goal.decreases-each_binding
+decreases-each_binding l = 2 * bindings_size (bindings_of l.bindings.now) + 1
+
+abbrev pub decreases-each_alternative : goal.decreases-each_alternative
+decreases-each_alternative l = 2 * alternatives_size (alternatives_of l.alternatives.now) + 1
+
+abbrev pub decreases-each_argument : goal.decreases-each_argument
+decreases-each_argument l = 2 * arguments_size (arguments_of l.arguments.now) + 1
+
+abbrev pub decreases-each_element : goal.decreases-each_element
+decreases-each_element l = 2 * terms_size (terms_of l.elements.now) + 1
+
+abbrev pub decreases-typed : goal.decreases-typed
+decreases-typed l = 2 * term_size l.tree.now + 1

@@ -1,13 +1,10 @@
-use Rattle.std.proofs.Common.{arith, refl}
+use Rattle.std.proofs.Common.{arith}
 use Rattle.chw_names.specs.Twices.{literal_of_alternative}
 use Rattle.chw_names.proofs.Steps.{declares_more, declares_all}
-use Rattle.chw_names.proofs.literals.literals.Goals as goal
-
-pub loop-alternative-init : goal.loop-alternative-init
-loop-alternative-init c = record { keys = c.new-known.ensures.empty; least = refl }
+use Rattle.chw_names.proofs.literals.declare_literals.Goals as goal
 
 pub loop-alternative-preserved : goal.loop-alternative-preserved
 loop-alternative-preserved c = declares_more literal_of_alternative c.args.alternatives.now c.loop-alternative.alternative-index c.alternative-item.result c.loop-alternative-test.true c.alternative-item.is c.loop-alternative.invariant c.in_ok-literal.ensures
 
 pub returns : goal.returns
-returns c = let all = declares_all literal_of_alternative c.args.alternatives.now c.loop-alternative.alternative-index (omega (arith, c.loop-alternative-test.false)) c.loop-alternative.invariant in record { least = all.least }
+returns c = declares_all literal_of_alternative c.args.alternatives.now c.loop-alternative.alternative-index (omega (arith, c.loop-alternative-test.false)) c.loop-alternative.invariant
