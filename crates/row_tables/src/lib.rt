@@ -2,5 +2,7 @@
 #![tactic(auto)]
 
 pub mod table;
+pub mod text;
 
 pub use table::{Unread, print_rows, put};
+pub use text::put_number;
