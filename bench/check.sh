@@ -1,7 +1,7 @@
 #!/usr/bin/env bash
-# Times `chw check` on descriptions of 64 KiB to just under 1 MiB, beside Python's parser on a text of as many bytes and the same shape.
+# Times `chw check` on descriptions of 64 KiB to just under 4 MiB, the limit, beside Python's parser on a text of as many bytes and the same shape.
 # Usage: bench/check.sh [definitions|arguments|brackets]
-#   definitions: up to 4,000 definitions    arguments: applications of 150 arguments    brackets: 150 brackets, one in the other
+#   definitions: up to 4,096 definitions, the limit, longer ones in the larger texts    arguments: applications of 150 arguments    brackets: 150 brackets, one in the other
 set -eu
 top=$(cd "$(dirname "$0")/.." && pwd)
 form=${1:-definitions}
@@ -16,14 +16,18 @@ make() {
   python3 - "$1" "$form" "$work" <<'PY'
 import sys
 size, form, work = int(sys.argv[1]), sys.argv[2], sys.argv[3]
+# A definition has so many parts that a text of this size has no more definitions than there may be.
+parts = 1 + 7 * ((size - 1) >> 20)
+def group(part):
+    return "letrec { " + "".join(f"b{i} : Bool = {part}; " for i in range(parts)) + "} in b0" if parts > 1 else part
 def row(k):
     if form == "definitions":
         g = f"f{k - 1}" if k else "g"
-        return (f"def f{k} : forall (n : Nat) . Unsigned 8 -> Unsigned (n + 1) -> Bool = /\\(n : Nat) . \\(x : Unsigned 8) . \\(v : Unsigned (n + 1)) . case x of {{ 0u8 -> True; _ -> letrec {{ y : Bool = {g} @n x v; z : Bool = y; }} in case y of {{ False -> z; True -> {g} @n (addU @8 x 1u8) v; }}; }};\n",
-                f"f{k} = lambda n: lambda x: lambda v: {g}(n, x, v) if x == 0 else True if x == {k} else [n + 1, n + 2, n + 3, (n, x, v), {g}(n, x + 1, v), (n, x, v, n + 1), [n * 2, n * 3, x * 2, x * 3], {g}(n, x, v, 0), (v, x), lambda y, z: z if y else {g}(n, x, y)]\n")
+        return (f"def f{k} : forall (n : Nat) . Unsigned 8 -> Unsigned (n + 1) -> Bool = /\\(n : Nat) . \\(x : Unsigned 8) . \\(v : Unsigned (n + 1)) . case x of {{ 0u8 -> True; _ -> letrec {{ " + "".join(f"y{i} : Bool = {g} @n x v; z{i} : Bool = y{i}; " for i in range(parts)) + f"}} in case y0 of {{ False -> z0; True -> {g} @n (addU @8 x 1u8) v; }}; }};\n",
+                f"f{k} = lambda n: lambda x: lambda v: {g}(n, x, v) if x == 0 else True if x == {k} else [" + f"{g}(n, x, v), v, " * (2 * (parts - 1)) + f"n + 1, n + 2, n + 3, (n, x, v), {g}(n, x + 1, v), (n, x, v, n + 1), [n * 2, n * 3, x * 2, x * 3], {g}(n, x, v, 0), (v, x), lambda y, z: z if y else {g}(n, x, y)]\n")
     if form == "arguments":
-        return (f"def f{k} : Bool = h " + "0u8 " * 150 + ";\n", f"f{k} = f(" + "100," * 150 + ")\n")
-    return (f"def f{k} : Bool = " + "(" * 150 + "True" + ")" * 150 + ";\n", f"f{k} = " + "(" * 150 + "x" + ")" * 150 + "\n")
+        return (f"def f{k} : Bool = " + group("h " + "0u8 " * 150) + ";\n", f"f{k} = " + ", ".join(["f(" + "100," * 150 + ")"] * parts) + "\n")
+    return (f"def f{k} : Bool = " + group("(" * 150 + "True" + ")" * 150) + ";\n", f"f{k} = " + ", ".join(["(" * 150 + "x" + ")" * 150] * parts) + "\n")
 begin = ("domain Sys;\ndef g : forall (n : Nat) . Unsigned 8 -> Unsigned (n + 1) -> Bool = /\\(n : Nat) . \\(x : Unsigned 8) . \\(v : Unsigned (n + 1)) . True;\n"
          "def h : " + "Unsigned 8 -> " * 150 + "Bool = " + "".join(f"\\(x{k} : Unsigned 8) . " for k in range(150)) + "True;\n"
          "def main : Signal Sys (Unsigned 8) -> Signal Sys (Unsigned 8) = \\(x : Signal Sys (Unsigned 8)) . x;\n")
@@ -58,7 +62,7 @@ PY
 }
 
 printf '%10s %12s %12s %12s %8s\n' bytes 'chw us' 'ns a byte' 'python us' ratio
-for size in 65536 131072 262144 524288 1048576; do
+for size in 65536 131072 262144 524288 1048576 2097152 4194304; do
   make "$size"
   bytes=$(stat -c %s "$work/a.chw")
   "$program" check "$work/a.chw" >/dev/null || { echo "check refuses the text of $size bytes" >&2; exit 1; }

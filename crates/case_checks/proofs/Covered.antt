@@ -16,6 +16,8 @@ use Rattle.chw_typing.specs.HeadTypes.{PatternOf, of_con, of_lit, of_any}
 use Rattle.chw_typing.specs.Scopes.{Setting}
 use Rattle.chw_typing.specs.Typing.{AllGive, none_give, give_and}
 use Rattle.case_checks.specs.declared.lacks.Lacks.TheVariants.{Constructor as LacksConstructor, Default as LacksDefault}
+use Rattle.case_checks.specs.declared.lacks.Sought.{Sought}
+use Rattle.case_checks.specs.declared.lacks.Sought.TheVariants.{Constructors, Defaults}
 use Rattle.case_checks.specs.LeavesOut.{a_constructor, a_default, LeavesNothing}
 
 pub either : {A B C : Type 0} → (A → C) → (B → C) → A ⊎ B → C
@@ -70,10 +72,10 @@ search_missing datas of alts (suc n) = either (λ m. inl m) (λ below. at below 
     at below None is = inr (one_more datas of alts n below (λ other at same. absurd (cc)))
     at below (Some it) is = of_it below it is (eqb it.of of) refl
 
--- where they leave nothing out, they cover what is looked at
-pub covered : {datas : List Data} {u : TypeTree} {q : Pattern} {fields : List TypeTree} (e : TermTree) (more : Alts) → PatternOf datas u q fields → LeavesNothing datas (alt q e more) → IsCovered datas (alt q e more)
+-- where they leave out neither a constructor nor a default, they cover what is looked at
+pub covered : {datas : List Data} {u : TypeTree} {q : Pattern} {fields : List TypeTree} (e : TermTree) (more : Alts) → PatternOf datas u q fields → ((sought : Sought) → LeavesNothing datas sought (alt q e more)) → IsCovered datas (alt q e more)
 covered e more of_any nothing = inl tt
-covered e more (of_lit {s = s} {bits = bits} l same) nothing = either (λ h. inl h) (λ none. absurd (nothing LacksDefault (a_default none))) (decide_default (alt (OfLit s bits) e more))
+covered e more (of_lit {s = s} {bits = bits} l same) nothing = either (λ h. inl h) (λ none. absurd (nothing Defaults LacksDefault (a_default none))) (decide_default (alt (OfLit s bits) e more))
 covered {datas} e more (of_con {n = n} {c = c} it is of names) nothing = either (λ h. inl h) (λ none. inr (for_all none)) (decide_default (alt (OfCon c n) e more))
   where
     for_all : (HasDefault (alt (OfCon c n) e more) → ⊥) → ForAll datas (alt (OfCon c n) e more)
@@ -84,7 +86,7 @@ covered {datas} e more (of_con {n = n} {c = c} it is of names) nothing = either 
           it = it;
           is = is;
           each = λ b other at same. either
-              (λ m. absurd (nothing (LacksConstructor (record { number = m.at })) (a_constructor it m.lacking none is m.is m.same m.not_for (λ a earlier lt. m.earlier a lt earlier))))
+              (λ m. absurd (nothing Constructors (LacksConstructor (record { number = m.at })) (a_constructor it m.lacking none is m.is m.same m.not_for (λ a earlier lt. m.earlier a lt earlier))))
               (λ below. below b (omega arith) other at same) (search_missing datas it.of (alt (OfCon c n) e more) (suc b));
         }
 
@@ -108,11 +110,11 @@ given_data (give_and {q = Default} b f x more) c is = given_data more c is
 no_literal : {datas : List Data} {u : TypeTree} {r : Scalar} {bits : List Bool} {fields : List TypeTree} → PatternOf datas u (OfLit r bits) fields → (d : ℕ) (ts : TypeTrees) → u ≡ data_of d ts → ⊥
 no_literal (of_lit l same) d ts e = absurd (cc)
 
-default_keeps : {datas : List Data} {alts : Alts} → HasDefault alts → LeavesNothing datas alts
+default_keeps : {datas : List Data} {sought : Sought} {alts : Alts} → HasDefault alts → LeavesNothing datas sought alts
 default_keeps h l (a_constructor it lacking none is at same not_for earlier) = none h
 default_keeps h l (a_default none) = none h
 
-all_keep : {datas : List Data} {u : TypeTree} {q : Pattern} {e : TermTree} {more : Alts} {fields : List TypeTree} → PatternOf datas u q fields → ((c : ℕ) → IsFor c (alt q e more) → OfData datas c u) → ForAll datas (alt q e more) → LeavesNothing datas (alt q e more)
+all_keep : {datas : List Data} {sought : Sought} {u : TypeTree} {q : Pattern} {e : TermTree} {more : Alts} {fields : List TypeTree} → PatternOf datas u q fields → ((c : ℕ) → IsFor c (alt q e more) → OfData datas c u) → ForAll datas (alt q e more) → LeavesNothing datas sought (alt q e more)
 all_keep p of all l (a_default none) = let con = of all.con all.has in no_literal p con.it.of con.ts con.same
 all_keep p of all l (a_constructor {c = c} {d = d} it lacking none is at same not_for earlier) =
     let con = of all.con all.has in
@@ -123,9 +125,9 @@ all_keep p of all l (a_constructor {c = c} {d = d} it lacking none is at same no
     not_for (all.each d.number lacking at (same ∙ ap (λ i. i.of) (sym f) ∙ g ∙ ap (λ i. i.of) e))
 
 -- where the alternatives of a typed case cover what is looked at, they leave nothing out
-pub nothing_left : {s : Setting} {kinds : List Kind} {vars : List TypeTree} {u t : TypeTree} {q : Pattern} {e : TermTree} {more : Alts} {fields : List TypeTree} → PatternOf s.datas u q fields → AllGive s kinds vars u t more → IsCovered s.datas (alt q e more) → LeavesNothing s.datas (alt q e more)
-nothing_left p given (inl h) = default_keeps h
-nothing_left {s} {u = u} {q = q} {e = e} {more = more} p given (inr all) = all_keep p (each q p) all
+pub nothing_left : (sought : Sought) {s : Setting} {kinds : List Kind} {vars : List TypeTree} {u t : TypeTree} {q : Pattern} {e : TermTree} {more : Alts} {fields : List TypeTree} → PatternOf s.datas u q fields → AllGive s kinds vars u t more → IsCovered s.datas (alt q e more) → LeavesNothing s.datas sought (alt q e more)
+nothing_left sought p given (inl h) = default_keeps h
+nothing_left sought {s} {u = u} {q = q} {e = e} {more = more} p given (inr all) = all_keep p (each q p) all
   where
     each : {fields : List TypeTree} (q : Pattern) → PatternOf s.datas u q fields → (c : ℕ) → IsFor c (alt q e more) → OfData s.datas c u
     each (OfCon d n) p c is = either (λ x. subst (λ m. OfData s.datas m u) (sym x) (pattern_data p)) (given_data given c) is

@@ -5,21 +5,23 @@ use Rattle.chw_terms.specs.declared.term.Arg.{Arg}
 use Rattle.chw_terms.specs.declared.term.Arg.TheVariants.{OfTerm, OfType}
 use Rattle.chw_terms.specs.TermTree.{TermTree}
 use Rattle.case_checks.specs.declared.lacks.Lacks.{Lacks}
+use Rattle.case_checks.specs.declared.lacks.Sought.{Sought}
 use Rattle.case_checks.specs.Walk.{KeepsAll, FirstIn}
 
--- no case leaves anything out, or this is what the first one that does leaves out
-abbrev pub IsFound : List Data → TermTree → Option Lacks → Type 0
-IsFound datas e r = MatchOption r (KeepsAll datas e) (λ l. FirstIn datas e l)
+-- no case leaves out what is sought, or this is what the first one that does leaves out
+abbrev pub IsFound : List Data → Sought → TermTree → Option Lacks → Type 0
+IsFound datas sought e r = MatchOption r (KeepsAll datas sought e) (λ l. FirstIn datas sought e l)
 
--- no case in the argument leaves anything out; there is none in a type
-abbrev pub ArgKeepsAll : List Data → Arg → Type 0
-ArgKeepsAll datas (OfTerm e) = KeepsAll datas e
-ArgKeepsAll datas (OfType t) = Unit {0}
+-- no case in the argument leaves out what is sought; there is none in a type
+abbrev pub ArgKeepsAll : List Data → Sought → Arg → Type 0
+ArgKeepsAll datas sought (OfTerm e) = KeepsAll datas sought e
+ArgKeepsAll datas sought (OfType t) = Unit {0}
 
--- the first case in the argument that leaves something out leaves this out
-abbrev pub FirstInArg : List Data → Arg → Lacks → Type 0
-FirstInArg datas (OfTerm e) l = FirstIn datas e l
-FirstInArg datas (OfType t) l = ⊥
+-- the first case in the argument that leaves out what is sought leaves this out
+abbrev pub FirstInArg : List Data → Sought → Arg → Lacks → Type 0
+FirstInArg datas sought (OfTerm e) l = FirstIn datas sought e l
+FirstInArg datas sought (OfType t) l = ⊥
 
-abbrev pub IsFoundInArg : List Data → Arg → Option Lacks → Type 0
-IsFoundInArg datas a r = MatchOption r (ArgKeepsAll datas a) (λ l. FirstInArg datas a l)
+abbrev pub IsFoundInArg : List Data → Sought → Arg → Option Lacks → Type 0
+IsFoundInArg datas sought a r =
+    MatchOption r (ArgKeepsAll datas sought a) (λ l. FirstInArg datas sought a l)

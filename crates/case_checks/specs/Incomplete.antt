@@ -4,15 +4,28 @@ use Rattle.std.specs.List.{slice_get}
 use Rattle.chw_terms.specs.declared.program.Def.{Def}
 use Rattle.chw_terms.specs.declared.program.Program.{Program}
 use Rattle.case_checks.specs.declared.lacks.Incomplete.{Incomplete}
+use Rattle.case_checks.specs.declared.lacks.Sought.{Sought}
+use Rattle.case_checks.specs.declared.lacks.Sought.TheVariants.{Constructors, Defaults}
 use Rattle.case_checks.specs.Walk.{KeepsAll, FirstIn}
 
--- no case of the program leaves anything out
-abbrev pub AllKeep : Program → Type 0
-AllKeep p = (d : ℕ) (it : Def) → slice_get p.defs d ≡ Some it → KeepsAll p.datas it.body
+-- no case of the program leaves out what is sought
+abbrev pub Keep : Program → Sought → Type 0
+Keep p sought = (d : ℕ) (it : Def) → slice_get p.defs d ≡ Some it → KeepsAll p.datas sought it.body
 
--- the first definition with a case that leaves something out, and what its first such case leaves out
-pub record IsFirst (p : Program) (i : Incomplete) : Type 0 where
+-- no case of the program leaves out a constructor or a default
+abbrev pub AllKeep : Program → Type 0
+AllKeep p = (sought : Sought) → Keep p sought
+
+-- the first definition with a case that leaves out what is sought, and what its first such case
+-- leaves out
+pub record IsFirstOf (p : Program) (sought : Sought) (i : Incomplete) : Type 0 where
   pub it : Def
   pub is_it : slice_get p.defs i.«def».number ≡ Some it
-  pub first : FirstIn p.datas it.body i.lacks
-  pub earlier : (d : ℕ) (other : Def) → d < i.«def».number → slice_get p.defs d ≡ Some other → KeepsAll p.datas other.body
+  pub first : FirstIn p.datas sought it.body i.lacks
+  pub earlier : (d : ℕ) (other : Def) → d < i.«def».number
+      → slice_get p.defs d ≡ Some other → KeepsAll p.datas sought other.body
+
+-- the first of the program: constructors are looked for in the whole program before defaults
+pub data IsFirst (p : Program) (i : Incomplete) : Type 0 where
+  of_constructors : IsFirstOf p Constructors i → IsFirst p i
+  of_defaults : Keep p Constructors → IsFirstOf p Defaults i → IsFirst p i

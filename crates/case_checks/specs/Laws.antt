@@ -8,18 +8,25 @@ use Rattle.chw_typing.specs.Scopes.{Setting}
 use Rattle.chw_typing.specs.Typing.{HasType}
 use Rattle.chw_typing.specs.Programs.{IsComplete}
 use Rattle.case_checks.specs.declared.lacks.Lacks.{Lacks}
+use Rattle.case_checks.specs.declared.lacks.Sought.{Sought}
 use Rattle.case_checks.specs.Walk.{KeepsAll, FirstIn}
 
--- a term that has a type is complete where no case in it leaves anything out
+-- a term that has a type is complete where no case in it leaves out a constructor or a default
 abbrev pub TypedTermsAreComplete : Type 0
 TypedTermsAreComplete =
-    (s : Setting) (kinds : List Kind) (vars : List TypeTree) (e : TermTree) (t : TypeTree) → HasType s kinds vars e t → KeepsAll s.datas e → IsComplete s.datas e
+    (s : Setting) (kinds : List Kind) (vars : List TypeTree) (e : TermTree) (t : TypeTree)
+    → HasType s kinds vars e t
+    → ((sought : Sought) → KeepsAll s.datas sought e) → IsComplete s.datas e
 
 -- and only there
 abbrev pub CompleteTermsKeepAll : Type 0
 CompleteTermsKeepAll =
-    (s : Setting) (kinds : List Kind) (vars : List TypeTree) (e : TermTree) (t : TypeTree) → HasType s kinds vars e t → IsComplete s.datas e → KeepsAll s.datas e
+    (s : Setting) (kinds : List Kind) (vars : List TypeTree) (e : TermTree) (t : TypeTree)
+    → HasType s kinds vars e t
+    → IsComplete s.datas e → (sought : Sought) → KeepsAll s.datas sought e
 
--- where the first case leaves something out, not every case keeps all
+-- where the first case leaves out what is sought, not every case keeps it
 abbrev pub FirstIsNotKept : Type 0
-FirstIsNotKept = (datas : List Data) (e : TermTree) (l : Lacks) → FirstIn datas e l → KeepsAll datas e → ⊥
+FirstIsNotKept =
+    (datas : List Data) (sought : Sought) (e : TermTree) (l : Lacks)
+    → FirstIn datas sought e l → KeepsAll datas sought e → ⊥

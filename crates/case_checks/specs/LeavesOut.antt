@@ -9,17 +9,26 @@ use Rattle.chw_terms.specs.Constructors.{Constructor as Declared, con_at}
 use Rattle.chw_typing.specs.Alternatives.{HasDefault, IsFor}
 use Rattle.case_checks.specs.declared.lacks.Lacks.{Lacks}
 use Rattle.case_checks.specs.declared.lacks.Lacks.TheVariants.{Constructor, Default}
+use Rattle.case_checks.specs.declared.lacks.Sought.{Sought}
+use Rattle.case_checks.specs.declared.lacks.Sought.TheVariants.{Constructors, Defaults}
 
--- the case with these alternatives leaves this out: it has no default, and its first alternative tells what it looks at
-pub data LeavesOut (datas : List Data) : Alts → Lacks → Type 0 where
-  -- the first constructor, in order of declaration, of the data type that the first alternative is of, for which there is no alternative
-  a_constructor : {c d : ConId} {n : ℕ} {e : TermTree} {more : Alts} (it lacking : Declared) → (HasDefault (alt (OfCon c n) e more) → ⊥)
-      → con_at datas c.number ≡ Some it → con_at datas d.number ≡ Some lacking → lacking.of ≡ it.of → (IsFor d.number (alt (OfCon c n) e more) → ⊥)
-      → ((b : ℕ) (earlier : Declared) → b < d.number → con_at datas b ≡ Some earlier → earlier.of ≡ it.of → IsFor b (alt (OfCon c n) e more))
-      → LeavesOut datas (alt (OfCon c n) e more) (Constructor d)
+-- the case with these alternatives leaves this out, of what is sought: it has no default, and its
+-- first alternative tells what it looks at
+pub data LeavesOut (datas : List Data) : Sought → Alts → Lacks → Type 0 where
+  -- the first constructor, in order of declaration, of the data type that the first alternative is
+  -- of, for which there is no alternative
+  a_constructor : {c d : ConId} {n : ℕ} {e : TermTree} {more : Alts} (it lacking : Declared)
+      → (HasDefault (alt (OfCon c n) e more) → ⊥)
+      → con_at datas c.number ≡ Some it → con_at datas d.number ≡ Some lacking → lacking.of ≡ it.of
+      → (IsFor d.number (alt (OfCon c n) e more) → ⊥)
+      → ((b : ℕ) (earlier : Declared) → b < d.number → con_at datas b ≡ Some earlier
+      → earlier.of ≡ it.of → IsFor b (alt (OfCon c n) e more))
+      → LeavesOut datas Constructors (alt (OfCon c n) e more) (Constructor d)
   -- the default of a case on a scalar
-  a_default : {s : Scalar} {bits : List Bool} {e : TermTree} {more : Alts} → (HasDefault (alt (OfLit s bits) e more) → ⊥) → LeavesOut datas (alt (OfLit s bits) e more) Default
+  a_default : {s : Scalar} {bits : List Bool} {e : TermTree} {more : Alts}
+      → (HasDefault (alt (OfLit s bits) e more) → ⊥)
+      → LeavesOut datas Defaults (alt (OfLit s bits) e more) Default
 
--- the case with these alternatives leaves nothing out
-abbrev pub LeavesNothing : List Data → Alts → Type 0
-LeavesNothing datas alts = (l : Lacks) → LeavesOut datas alts l → ⊥
+-- the case with these alternatives leaves out nothing of what is sought
+abbrev pub LeavesNothing : List Data → Sought → Alts → Type 0
+LeavesNothing datas sought alts = (l : Lacks) → LeavesOut datas sought alts l → ⊥

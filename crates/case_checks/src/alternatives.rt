@@ -4,7 +4,7 @@ ghost use Rattle.chw_terms.specs.TermView.{alts_of};
 ghost use Rattle.chw_typing.specs.Alternatives.{HasDefault};
 ghost use Rattle.case_checks.specs.LeavesOut.{LeavesOut, LeavesNothing};
 
-use crate::lacks::Lacks;
+use crate::lacks::{Lacks, Sought};
 use crate::missing::first_missing;
 use chw_base::NoMemory;
 use chw_terms::{Alt, Pattern};
@@ -23,14 +23,16 @@ fn has_default(alts: &[Alt]) -> bool
     false
 }
 
-/// What a case with these alternatives leaves out: a constructor where the first alternative is for one, the default where it is for a
-/// literal. A case that has a default leaves nothing out, nor does one with no alternatives.
+/// What is sought and a case with these alternatives leaves out: a constructor where the first alternative is for one, the default where
+/// it is for a literal. A case that has a default leaves nothing out, nor does one with no alternatives.
 pub(crate) fn left_out(
     alloc: Global,
     constructors: &Constructors<'_>,
+    sought: Sought,
     alts: &[Alt],
 ) -> Result<Option<Lacks>, NoMemory>
-    ensures { IfOk result (λ r. MatchOption r (LeavesNothing constructors.now (alts_of alts.now)) (λ l. LeavesOut constructors.now (alts_of alts.now) l)) }
+    ensures { IfOk result (λ r. MatchOption r (LeavesNothing constructors.now sought (alts_of alts.now))
+        (λ l. LeavesOut constructors.now sought (alts_of alts.now) l)) }
 {
     if has_default(alts) {
         return Ok(None);
@@ -38,12 +40,14 @@ pub(crate) fn left_out(
     let Some(first) = alts.first() else {
         return Ok(None);
     };
-    match &first.pattern {
-        Pattern::OfCon(at, _) => match first_missing(alloc, constructors, *at, alts)? {
-            Some(missing) => Ok(Some(Lacks::Constructor(missing))),
-            None => Ok(None),
-        },
-        Pattern::OfLit(_, _) => Ok(Some(Lacks::Default)),
-        Pattern::Default => Ok(None),
+    match (sought, &first.pattern) {
+        (Sought::Constructors, Pattern::OfCon(at, _)) => {
+            match first_missing(alloc, constructors, *at, alts)? {
+                Some(missing) => Ok(Some(Lacks::Constructor(missing))),
+                None => Ok(None),
+            }
+        }
+        (Sought::Defaults, Pattern::OfLit(_, _)) => Ok(Some(Lacks::Default)),
+        _ => Ok(None),
     }
 }

@@ -1,6 +1,15 @@
 //! What a case leaves out.
 use chw_base::{ConId, DefId};
 
+/// What is looked for in the cases of a program.
+#[derive(Clone, Copy, Debug, PartialEq, Eq)]
+pub enum Sought {
+    /// Constructors that no alternative is for.
+    Constructors,
+    /// The defaults of cases on scalars.
+    Defaults,
+}
+
 /// What a case leaves out, where it has no default.
 #[derive(Clone, Copy, Debug, PartialEq, Eq)]
 pub enum Lacks {

@@ -1,16 +1,16 @@
 //! The first case of a program that leaves something out.
 ghost use Rattle.std.specs.Prelude.{◌≡◌, IfOk, MatchOption};
-ghost use Rattle.case_checks.specs.Incomplete.{AllKeep, IsFirst};
+ghost use Rattle.case_checks.specs.Incomplete.{AllKeep, IsFirst, IsFirstOf, Keep};
 
-use crate::lacks::Incomplete;
+use crate::lacks::{Incomplete, Sought};
 use crate::walk::first_in;
 use chw_base::{DefId, NoMemory, narrow};
 use chw_terms::Program;
 use con_places::Constructors;
 use std::alloc::Global;
 
-/// The first definition whose body has a case that leaves something out, and what its first such case leaves out. `None` comes exactly where
-/// no case of the program leaves anything out.
+/// The first definition whose body has a case that leaves something out, and what its first such case leaves out. A constructor is looked
+/// for in the whole program before a default. `None` comes exactly where no case of the program leaves anything out.
 ///
 /// The program need not be typed. What a case without a default looks at is told by its first alternative: where that is for a constructor
 /// of the program, the case leaves out the first constructor of the data type that has no alternative, if there is one, and where it is for
@@ -26,8 +26,24 @@ pub fn first_incomplete(
     requires table { constructors.now ≡ program.now.datas }
     ensures { IfOk result (λ first. MatchOption first (AllKeep program.now) (λ i. IsFirst program.now i)) }
 {
+    if let Some(found) = first_of(alloc, program, constructors, Sought::Constructors)? {
+        return Ok(Some(found));
+    }
+    first_of(alloc, program, constructors, Sought::Defaults)
+}
+
+// The first definition whose body has a case that leaves out what is sought, and what its first such case leaves out.
+fn first_of(
+    alloc: Global,
+    program: &Program,
+    constructors: &Constructors<'_>,
+    sought: Sought,
+) -> Result<Option<Incomplete>, NoMemory>
+    requires table { constructors.now ≡ program.now.datas }
+    ensures { IfOk result (λ first. MatchOption first (Keep program.now sought) (λ i. IsFirstOf program.now sought i)) }
+{
     for (number, it) in program.defs.as_slice().iter().enumerate() {
-        if let Some(lacks) = first_in(alloc, constructors, &it.body)? {
+        if let Some(lacks) = first_in(alloc, constructors, sought, &it.body)? {
             let number = narrow(number)?;
             return Ok(Some(Incomplete {
                 def: DefId { number },

@@ -1,5 +1,5 @@
 -- How the logic stores a list of bits: as a tree of numbers, which gives it back.
-use Rattle.std.specs.Prelude.{◌≡◌, ℕ, suc, zero, Bool, true, false, List, [], ◌∷◌, refl}
+use Rattle.std.specs.Prelude.{◌≡◌, suc, Bool, true, false, List, [], ◌∷◌, refl}
 use base.Stored.{Gv, gnil, gnum, gcons}
 
 abbrev pub bit_code : Bool → Gv

@@ -9,6 +9,3 @@ pub mod read_hex;
 
 pub use bits::{Bits, DoesNotFit};
 pub use read_hex::HexFault;
-
-#[cfg(test)]
-mod tests;

@@ -22,7 +22,7 @@ all_typed p law tidy fit have keep top = record {
   fields = λ d it t is field. fit.datas d it is t field;
   types = declared_closed p fit;
   bodies = have;
-  complete = λ d it is. let has = have d it is in law (setting_of p) [] [] it.body has.type has.has (keep d it is);
+  complete = λ d it is. let has = have d it is in law (setting_of p) [] [] it.body has.type has.has (λ sought. keep sought d it is);
   data_acyclic = tidy.data_acyclic;
   defs_acyclic = tidy.defs_acyclic;
   top = top;

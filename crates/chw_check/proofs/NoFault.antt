@@ -1,7 +1,9 @@
 -- A program that is tidy and typed has no fault.
 use Rattle.std.proofs.Common.{◌≡◌, [], subst}
 use Rattle.case_checks.specs.declared.lacks.Incomplete.{Incomplete}
-use Rattle.case_checks.specs.Incomplete.{IsFirst as IsFirstIncomplete}
+use Rattle.case_checks.specs.declared.lacks.Sought.{Sought}
+use Rattle.case_checks.specs.declared.lacks.Sought.TheVariants.{Constructors, Defaults}
+use Rattle.case_checks.specs.Incomplete.{IsFirstOf, IsFirst as IsFirstIncomplete, of_constructors, of_defaults}
 use Rattle.case_checks.specs.Laws.{CompleteTermsKeepAll, FirstIsNotKept}
 use Rattle.chw_check.specs.Faults.{IsTypeFault, kind_of_data, kind_of_def, typing, missing, no_default, not_ports}
 use Rattle.chw_check.specs.Tops.{LeadsToNamedPorts}
@@ -19,11 +21,15 @@ module _ (p : Program) (typed : IsTyped p) where
   none_unkinded fit (of_data d it is unfit earlier) = unfit (fit.datas d.number it is)
   none_unkinded fit (of_def d it is unfit datas earlier) = unfit (fit.defs d.number it is)
 
-  none_incomplete : CompleteTermsKeepAll → FirstIsNotKept → (i : Incomplete) → IsFirstIncomplete p i → ⊥
-  none_incomplete keep not_kept i first =
+  none_of : CompleteTermsKeepAll → FirstIsNotKept → (sought : Sought) (i : Incomplete) → IsFirstOf p sought i → ⊥
+  none_of keep not_kept sought i first =
       let has = typed.bodies i.«def».number first.it first.is_it in
       let complete = typed.complete i.«def».number first.it first.is_it in
-      not_kept p.datas first.it.body i.lacks first.first (keep (setting_of p) [] [] first.it.body has.type has.has complete)
+      not_kept p.datas sought first.it.body i.lacks first.first (keep (setting_of p) [] [] first.it.body has.type has.has complete sought)
+
+  none_incomplete : CompleteTermsKeepAll → FirstIsNotKept → (i : Incomplete) → IsFirstIncomplete p i → ⊥
+  none_incomplete keep not_kept i (of_constructors first) = none_of keep not_kept Constructors i first
+  none_incomplete keep not_kept i (of_defaults kept first) = none_of keep not_kept Defaults i first
 
   pub no_fault : TypedProgramsFit → CompleteTermsKeepAll → FirstIsNotKept → {fault : TypeFault} → IsTypeFault p fault → ⊥
   no_fault fit keep not_kept (kind_of_data d it first is) = none_unkinded (fit p typed) first

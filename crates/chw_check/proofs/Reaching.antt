@@ -1,5 +1,5 @@
 -- Which numbers steps lead to, found by a test of single steps.
-use Rattle.std.proofs.Common.{◌≡◌, ℕ, suc, zero, ◌<◌, Bool, true, false, ◌||◌, ◌&&◌, ◌⊎◌, inl, inr, refl, ap, subst, arith}
+use Rattle.std.proofs.Common.{◌≡◌, ℕ, suc, zero, ◌<◌, Bool, true, false, ◌||◌, ◌&&◌, ◌⊎◌, inl, inr, subst, arith}
 use Rattle.std.proofs.lemmas.Bool.{and_from, and_parts, false_from_ne_true, or_cases, or_left, or_right}
 use Rattle.graph_order.specs.References.{Leads, step, step_and, HasNoCycle}
 use Rattle.chw_check.proofs.TestCounts.{count_below, count_misses, count_exceeds, below_or_last}

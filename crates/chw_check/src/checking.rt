@@ -57,7 +57,8 @@ impl Checked {
 }
 
 /// The program, where it is typed; or its first fault, in this order: a written type has no kind that it may have there, a body hasn't its
-/// declared type, a case leaves something out, the top isn't of ports. Each is looked for in the whole program before the next.
+/// declared type, a case leaves out a constructor, a case leaves out its default, the top isn't of ports. Each is looked for in the whole
+/// program before the next.
 pub fn check(alloc: Global, program: Program) -> Result<Checked, Or<TypeFault>>
     requires { IsTidy program }
     ensures program { IfOk result (λ checked. checked ≡ program) }

@@ -12,8 +12,7 @@ pub enum TypeFault {
     /// In the definition of this name a case without a default lacks this constructor. Of several such cases it is the first, and of
     /// several constructors the first declared.
     Missing { name: Name, constructor: Name },
-    /// In the definition of this name a case on a scalar has no default. A case that lacks a constructor counts with these: of all of them
-    /// the first is told.
+    /// In the definition of this name a case on a scalar has no default. Of several such cases it is the first.
     NoDefault { name: Name },
     /// This is the type of the top's definition: not all its parameters and its result are ports, or the numbers of names aren't those of
     /// their leaves.

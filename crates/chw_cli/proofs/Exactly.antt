@@ -66,7 +66,7 @@ HasNoTypeFault = (p : Program) (fault : TypeFault) → IsTidy p → IsTyped p �
 -- a description has one program
 pub one_program_of : OneProgram → (tree : Tree) (p q : Program) → HasProgram tree p → HasProgram tree q → p ≡ q
 one_program_of one tree p q w v =
-    one p q (w.is.domains ∙ sym v.is.domains) (v.is.datas ∙ sym w.is.datas) (w.is.defs ∙ sym v.is.defs) (w.is.top ∙ sym v.is.top) w.tidy v.tidy
+    one p q (w.is.domains ∙ sym v.is.domains) (w.is.resets ∙ sym v.is.resets) (v.is.datas ∙ sym w.is.datas) (w.is.defs ∙ sym v.is.defs) (w.is.top ∙ sym v.is.top) w.tidy v.tidy
 
 -- a description that breaks no restriction isn't refused
 flat_is_emitted : OneFlatText → (text : List ℕ) (r : Refusal) → SuitsCommand (Emit text 0) text → EmitAnswer text (Err r) → ⊥

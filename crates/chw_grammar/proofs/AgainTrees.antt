@@ -1,6 +1,6 @@
 -- Tokens that differ in their places alone are read as descriptions that do.
-use Rattle.std.specs.Prelude.{◌≡◌, List, [], ◌∷◌, map, refl}
-use Rattle.std.proofs.Common.{subst}
+use Rattle.std.specs.Prelude.{◌≡◌, true, false, List, [], ◌∷◌, map, refl}
+use Rattle.std.proofs.Common.{ap, ◌∙◌, subst}
 use Rattle.chw_grammar.specs.declared.terminal.Terminal.TheVariants as the
 use Rattle.chw_grammar.specs.declared.word.Word.{Word}
 use Rattle.chw_grammar.specs.declared.program.Tree.{Tree}
@@ -10,7 +10,7 @@ use Rattle.chw_grammar.specs.declared.program.Declaration.TheVariants as declara
 use Rattle.chw_grammar.specs.declared.program.Parameter.{Parameter}
 use Rattle.chw_grammar.specs.declared.program.Constructor.{Constructor}
 use Rattle.chw_grammar.specs.Lexemes.{Lexeme}
-use Rattle.chw_grammar.specs.Grammar.{is_lower, is_upper, AtomsAt, no_atom, atom, ParametersAt, no_parameter, parameter, ConstructorAt, constructor, ConstructorsAt, no_constructor, one_more, DeclarationAt, domain_declared, definition_declared, data_declared, DeclarationsAt, no_declaration, declared, MorePortsAt, no_port, port, PortsAt, ports, InputNamesAt, no_input, input_names, InputsAt, inputs, TopAt, top, Reads}
+use Rattle.chw_grammar.specs.Grammar.{is_lower, is_upper, AtomsAt, no_atom, atom, ParametersAt, no_parameter, parameter, ConstructorAt, constructor, ConstructorsAt, no_constructor, one_more, DeclarationAt, domain_declared, reset_declared, definition_declared, data_declared, DeclarationsAt, no_declaration, declared, MorePortsAt, no_port, port, PortsAt, ports, InputNamesAt, no_input, input_names, InputsAt, inputs, TopAt, top, Reads}
 use Rattle.chw_grammar.specs.TypeTree.{Ty}
 use Rattle.chw_grammar.specs.Places.{bare_words, bare_type, bare_parameter, bare_constructor, bare_declaration, bare_top, Same}
 use Rattle.chw_grammar.proofs.Again.{Alike, Again, takes_again, word_again, kind_again}
@@ -79,11 +79,23 @@ declaration_again (domain_declared {w = w} {a = a} {d = d} b c h1 h2 h3) a' alik
     let r2 = word_again is_upper w b c r1.rest h2 r1.alike in
     let r3 = takes_again (the.Semicolon ∷ []) c d r2.rest h3 r2.alike in
     record {
-      again = declaration.Domain r2.again;
+      again = declaration.Domain r2.again false;
       rest = r3.rest;
       reads = domain_declared r1.rest r2.rest r1.reads r2.reads r3.reads;
-      same = λ i. declaration.Domain (r2.same i);
+      same = λ i. declaration.Domain (r2.same i) false;
       alike = r3.alike;
+    }
+declaration_again (reset_declared {w = w} {a = a} {e = e} b c d h1 h2 h3 h4) a' alike =
+    let r1 = takes_again (the.Domain ∷ []) a b a' h1 alike in
+    let r2 = word_again is_upper w b c r1.rest h2 r1.alike in
+    let r3 = word_again is_lower h3.0 c d r2.rest h3.1 r2.alike in
+    let r4 = takes_again (the.Semicolon ∷ []) d e r3.rest h4 r3.alike in
+    record {
+      again = declaration.Domain r2.again true;
+      rest = r4.rest;
+      reads = reset_declared r1.rest r2.rest r3.rest r1.reads r2.reads (r3.again, r3.reads, ap (λ (z : Word). z.bytes) r3.same ∙ h3.2) r4.reads;
+      same = λ i. declaration.Domain (r2.same i) true;
+      alike = r4.alike;
     }
 declaration_again (definition_declared {w = w} {a = a} {i = i} b c d f g h h1 h2 h3 h4 h5 h6 h7) a' alike =
     let r1 = takes_again (the.Def ∷ []) a b a' h1 alike in

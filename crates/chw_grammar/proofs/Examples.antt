@@ -1,5 +1,5 @@
 -- The canonical text of a small description, by computation.
-use Rattle.std.specs.Prelude.{◌≡◌, ℕ, List, [], ◌∷◌, ◌++◌, codes, refl}
+use Rattle.std.specs.Prelude.{◌≡◌, ℕ, true, false, List, [], ◌∷◌, ◌++◌, codes, refl}
 use Rattle.chw_grammar.specs.declared.program.Tree.{Tree}
 use Rattle.chw_grammar.specs.declared.program.Declaration.TheVariants.{Domain, Def}
 use Rattle.chw_grammar.specs.declared.word.Word.{Word}
@@ -17,11 +17,11 @@ signal =
 
 abbrev example : Tree
 example = record {
-  declarations = Domain (w (codes "Sys")) ∷ Def (w (codes "main")) (type_arrow signal signal) (term_lambda (w (codes "x")) signal (term_name (w (codes "x")))) ∷ [];
+  declarations = Domain (w (codes "Sys")) false ∷ Domain (w (codes "Fast")) true ∷ Def (w (codes "main")) (type_arrow signal signal) (term_lambda (w (codes "x")) signal (term_name (w (codes "x")))) ∷ [];
   top = record { definition = w (codes "main"); inputs = w (codes "x") ∷ []; outputs = w (codes "o") ∷ [] };
 }
 
 pub example_text : Text example
-    ≡ codes "domain Sys ;\n" ++ (codes "def main : Signal Sys ( Unsigned 8 ) -> Signal Sys ( Unsigned 8 ) = \\ ( x : Signal Sys ( Unsigned 8 ) ) . x ;\n"
+    ≡ codes "domain Sys ;\ndomain Fast reset ;\n" ++ (codes "def main : Signal Sys ( Unsigned 8 ) -> Signal Sys ( Unsigned 8 ) = \\ ( x : Signal Sys ( Unsigned 8 ) ) . x ;\n"
     ++ codes "top main ( x ) ( o ) ;\n")
 example_text = refl

@@ -1,6 +1,9 @@
 -- The canonical tokens of a description that was read from tokens with their forms have theirs.
-use Rattle.std.specs.Prelude.{List, [], ◌∷◌, ◌++◌, false, refl}
+use Rattle.std.specs.Prelude.{ℕ, List, [], ◌∷◌, ◌++◌, false, refl}
 use Rattle.std.specs.List.{flat_map}
+use Rattle.std.proofs.Common.{subst}
+use Rattle.chw_lexer.specs.Forms.{HasForm}
+use Rattle.chw_lexer.specs.declared.token.Sort.TheVariants as sort
 use Rattle.chw_grammar.specs.declared.stand.Stand.TheVariants.{Alone, Simple}
 use Rattle.chw_grammar.specs.declared.terminal.Terminal.TheVariants as the
 use Rattle.chw_grammar.specs.declared.word.Word.{Word}
@@ -10,7 +13,7 @@ use Rattle.chw_grammar.specs.declared.program.Declaration.{Declaration}
 use Rattle.chw_grammar.specs.declared.program.Parameter.{Parameter}
 use Rattle.chw_grammar.specs.declared.program.Constructor.{Constructor}
 use Rattle.chw_grammar.specs.Lexemes.{Lexeme}
-use Rattle.chw_grammar.specs.Grammar.{AtomsAt, no_atom, atom, ParametersAt, no_parameter, parameter, ConstructorAt, constructor, ConstructorsAt, no_constructor, one_more, DeclarationAt, domain_declared, definition_declared, data_declared, DeclarationsAt, no_declaration, declared, MorePortsAt, no_port, port, PortsAt, ports, InputNamesAt, no_input, input_names, InputsAt, inputs, TopAt, top, Reads}
+use Rattle.chw_grammar.specs.Grammar.{AtomsAt, no_atom, atom, ParametersAt, no_parameter, parameter, ConstructorAt, constructor, ConstructorsAt, no_constructor, one_more, DeclarationAt, domain_declared, reset_declared, definition_declared, data_declared, DeclarationsAt, no_declaration, declared, MorePortsAt, no_port, port, PortsAt, ports, InputNamesAt, no_input, input_names, InputsAt, inputs, TopAt, top, Reads}
 use Rattle.chw_grammar.specs.TypeTree.{Ty}
 use Rattle.chw_grammar.specs.Text.{sign, type_lexemes, term_lexemes, parameter_lexemes, fields_lexemes, constructor_lexemes, more_constructor_lexemes, declaration_lexemes, port_lexemes, port_names_lexemes, ports_lexemes, top_lexemes}
 use Rattle.chw_grammar.proofs.Formed.{Formed, formed_append, kind_formed, takes_formed, lower_formed, upper_formed}
@@ -45,6 +48,11 @@ constructors_formed (one_more {x = x} {xs = xs} {a = a} b c h d more) given =
 pub declaration_formed : {x : Declaration} {a b : List Lexeme} → DeclarationAt x a b → Formed a → Formed (declaration_lexemes x) × Formed b
 declaration_formed (domain_declared {w = w} {a = a} {d = d} b c h1 h2 h3) given =
     let one = upper_formed w b c h2 (takes_formed (the.Domain ∷ []) a b h1 given) in ((refl, (one.0, (refl, tt))), takes_formed (the.Semicolon ∷ []) c d h3 one.1)
+declaration_formed (reset_declared {w = w} {a = a} {e = e} b c d h1 h2 h3 h4) given =
+    let one = upper_formed w b c h2 (takes_formed (the.Domain ∷ []) a b h1 given) in
+    let two = lower_formed h3.0 c d h3.1 one.1 in
+    let reset = subst (λ (z : List ℕ). HasForm sort.Lower z) h3.2 two.0 in
+    ((refl, (one.0, (reset, (refl, tt)))), takes_formed (the.Semicolon ∷ []) d e h4 two.1)
 declaration_formed (definition_declared {w = w} {t = t} {e = e} {a = a} {i = i} b c d f g h h1 h2 h3 ty h4 body h5) given =
     let one = lower_formed w b c h2 (takes_formed (the.Def ∷ []) a b h1 given) in
     let of = type_formed ty (takes_formed (the.Colon ∷ []) c d h3 one.1) in

@@ -1,5 +1,5 @@
 -- The canonical text of a tree that was read splits into the canonical tokens, and is read as the same tree.
-use Rattle.std.specs.Prelude.{◌≡◌, ℕ, suc, ◌<◌, All, List, [], ◌∷◌, ◌++◌, length, map, refl}
+use Rattle.std.specs.Prelude.{◌≡◌, ℕ, suc, ◌<◌, true, false, All, List, [], ◌∷◌, ◌++◌, length, map, refl}
 use Rattle.std.specs.List.{flat_map}
 use Rattle.std.proofs.Common.{sym, ap, ◌∙◌, subst, arith}
 use Rattle.std.proofs.lemmas.List.{append_assoc, append-nil}
@@ -41,7 +41,8 @@ spaced_words [] text words some formed more = absurd (omega arith)
 spaced_words (l ∷ ls) text words some formed more = spaced_line l ls text words formed more
 
 some_tokens : (x : Declaration) → 0 < length (declaration_lexemes x)
-some_tokens (Domain w) = omega arith
+some_tokens (Domain w false) = omega arith
+some_tokens (Domain w true) = omega arith
 some_tokens (Data w ps xs) = omega arith
 some_tokens (Def w t e) = omega arith
 

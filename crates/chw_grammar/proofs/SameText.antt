@@ -21,7 +21,7 @@ use Rattle.chw_grammar.specs.declared.program.Constructor.{Constructor}
 use Rattle.chw_grammar.specs.Lexemes.{Lexeme, kind_terminal}
 use Rattle.chw_grammar.specs.TypeTree.{Ty, type_forall, type_arrow, type_sum, type_product, type_named, type_variable, type_numeral, Tys, no_types, type_and}
 use Rattle.chw_grammar.specs.TermTree.{Tm, term_lambda, term_type_lambda, term_letrec, term_case, term_apply, term_name, term_constructor, term_literal, term_vec, Tms, no_terms, term_and, Bindings, no_bindings, binding_and, Alternatives, no_alternatives, alternative_and, Arguments, no_arguments, argument_and, type_argument_and}
-use Rattle.chw_grammar.specs.Text.{as_token, sign, kind, lowers, closed, closes_arrow, closes_sum, closes_product, closes_named, type_lexemes, parts_lexemes, more_lexemes, types_lexemes, pattern_lexemes, term_lexemes, bindings_lexemes, alternatives_lexemes, arguments_lexemes, elements_lexemes, more_elements_lexemes, parameter_lexemes, fields_lexemes, constructor_lexemes, more_constructor_lexemes, constructors_lexemes, declaration_lexemes, port_lexemes, ports_lexemes, top_lexemes, line, declaration_text, Text}
+use Rattle.chw_grammar.specs.Text.{as_token, sign, kind, lowers, closed, closes_arrow, closes_sum, closes_product, closes_named, type_lexemes, parts_lexemes, more_lexemes, types_lexemes, pattern_lexemes, term_lexemes, bindings_lexemes, alternatives_lexemes, arguments_lexemes, elements_lexemes, more_elements_lexemes, parameter_lexemes, fields_lexemes, constructor_lexemes, more_constructor_lexemes, constructors_lexemes, reset_word, declaration_lexemes, port_lexemes, ports_lexemes, top_lexemes, line, declaration_text, Text}
 use Rattle.chw_grammar.specs.Places.{bare_word, bare_words, bare_type, bare_types, bare_pattern, bare_term, bare_terms, bare_bindings, bare_alternatives, bare_arguments, bare_parameter, bare_constructor, bare_declaration, bare_top, bare_tree, Same}
 
 -- a token without its place
@@ -156,7 +156,8 @@ constructors_bared [] = none
 constructors_bared (x ∷ xs) = both (constructor_bared x) (more_constructors_bared xs)
 
 declaration_bared : (x : Declaration) → Bared (declaration_lexemes (bare_declaration x)) (declaration_lexemes x)
-declaration_bared (Domain w) = sign_and the.Domain (word_and sort.Upper w (sign_and the.Semicolon none))
+declaration_bared (Domain w false) = sign_and the.Domain (word_and sort.Upper w (sign_and the.Semicolon none))
+declaration_bared (Domain w true) = sign_and the.Domain (word_and sort.Upper w (word_and sort.Lower reset_word (sign_and the.Semicolon none)))
 declaration_bared (Data w ps xs) =
     sign_and the.Data (word_and sort.Upper w (both (parameters_bared ps) (sign_and the.Equals (both (constructors_bared xs) (sign_and the.Semicolon none)))))
 declaration_bared (Def w t e) =

@@ -10,9 +10,9 @@ use Rattle.chw_grammar.specs.declared.program.Declaration.{Declaration}
 use Rattle.chw_grammar.specs.declared.program.Parameter.{Parameter}
 use Rattle.chw_grammar.specs.declared.program.Constructor.{Constructor}
 use Rattle.chw_grammar.specs.Lexemes.{Lexeme}
-use Rattle.chw_grammar.specs.Grammar.{TypeAt, AtomsAt, no_atom, atom, AtomAt, TermAt, ParametersAt, no_parameter, parameter, ConstructorAt, constructor, ConstructorsAt, no_constructor, one_more, DeclarationAt, domain_declared, definition_declared, data_declared, DeclarationsAt, no_declaration, declared, MorePortsAt, no_port, port, PortsAt, ports, InputNamesAt, no_input, input_names, InputsAt, inputs, TopAt, top, Reads}
+use Rattle.chw_grammar.specs.Grammar.{TypeAt, AtomsAt, no_atom, atom, AtomAt, TermAt, ParametersAt, no_parameter, parameter, ConstructorAt, constructor, ConstructorsAt, no_constructor, one_more, DeclarationAt, domain_declared, reset_declared, definition_declared, data_declared, DeclarationsAt, no_declaration, declared, MorePortsAt, no_port, port, PortsAt, ports, InputNamesAt, no_input, input_names, InputsAt, inputs, TopAt, top, Reads}
 use Rattle.chw_grammar.specs.TypeTree.{Ty}
-use Rattle.chw_grammar.specs.Text.{sign, type_lexemes, term_lexemes, parameter_lexemes, fields_lexemes, constructor_lexemes, more_constructor_lexemes, constructors_lexemes, declaration_lexemes, port_lexemes, port_names_lexemes, ports_lexemes, top_lexemes, tree_lexemes}
+use Rattle.chw_grammar.specs.Text.{sign, reset_word, type_lexemes, term_lexemes, parameter_lexemes, fields_lexemes, constructor_lexemes, more_constructor_lexemes, constructors_lexemes, declaration_lexemes, port_lexemes, port_names_lexemes, ports_lexemes, top_lexemes, tree_lexemes}
 use Rattle.chw_grammar.proofs.TypesBack.{kind_read, upper_read, lower_read, type_back, atom_back}
 use Rattle.chw_grammar.proofs.TermsBack.{moved, term_back}
 
@@ -39,6 +39,7 @@ constructors_back (one_more {x = x} {xs = xs} b c h d more) rest =
 
 declaration_back : {x : Declaration} {a b : List Lexeme} → DeclarationAt x a b → (rest : List Lexeme) → DeclarationAt x (declaration_lexemes x ++ rest) rest
 declaration_back (domain_declared {w = w} b c h1 h2 h3) rest = domain_declared _ _ (refl, refl) (upper_read w _) (refl, refl)
+declaration_back (reset_declared {w = w} b c d h1 h2 h3 h4) rest = reset_declared _ _ _ (refl, refl) (upper_read w _) (reset_word, lower_read reset_word _, refl) (refl, refl)
 declaration_back (definition_declared {w = w} {t = t} {e = e} b c d f g h h1 h2 h3 ty h4 body h5) rest =
     definition_declared _ _ _ _ _ _ (refl, refl) (lower_read w _) (refl, refl)
     (moved (λ (z : List Lexeme). TypeAt t z (sign the.Equals ∷ ((term_lexemes false e ++ sign the.Semicolon ∷ []) ++ rest))) (type_lexemes alone t) (sign the.Equals ∷ (term_lexemes false e ++ sign the.Semicolon ∷ [])) rest (type_back ty alone _))

@@ -1,6 +1,6 @@
 -- The grammar: which tokens make which tree. `XAt x a b` says that the tokens a begin with an X, that x is its tree, and that the
 -- tokens b follow it. There is a case for each production.
-use Rattle.std.specs.Prelude.{◌≡◌, Bool, true, false, IsTrue, List, [], ◌∷◌}
+use Rattle.std.specs.Prelude.{◌≡◌, Bool, true, false, IsTrue, List, [], ◌∷◌, codes}
 use Rattle.chw_grammar.specs.declared.type_tree.KindTree.{KindTree}
 use Rattle.chw_grammar.specs.declared.terminal.Terminal.{Terminal}
 use Rattle.chw_grammar.specs.declared.terminal.Terminal.TheVariants as the
@@ -66,6 +66,10 @@ NumeralAt = WordAt is_numeral
 
 abbrev pub LiteralAt : Word → List Lexeme → List Lexeme → Type 0
 LiteralAt = WordAt is_literal
+
+-- the lower name `reset`, which is no keyword
+abbrev pub ResetAt : List Lexeme → List Lexeme → Type 0
+ResetAt a b = (w : Word) × LowerAt w a b × (w.bytes ≡ codes "reset")
 
 -- kind = "Nat" | "Dom" | "Val" | "Cir"
 abbrev pub KindAt : KindTree → List Lexeme → List Lexeme → Type 0
@@ -225,10 +229,15 @@ pub data ConstructorsAt : List Constructor → List Lexeme → List Lexeme → T
   one_more : {x : Constructor} {xs : List Constructor} {a d : List Lexeme} (b c : List Lexeme)
       → Takes (the.Bar ∷ []) a b → ConstructorAt x b c → ConstructorsAt xs c d → ConstructorsAt (x ∷ xs) a d
 
--- decl = "domain" U ";" | "def" l ":" type "=" term ";" | "data" U {"(" l ":" kind ")"} "=" U {atype} {"|" U {atype}} ";"
+-- decl = "domain" U ["reset"] ";" | "def" l ":" type "=" term ";"
+--      | "data" U {"(" l ":" kind ")"} "=" U {atype} {"|" U {atype}} ";"
 pub data DeclarationAt : Declaration → List Lexeme → List Lexeme → Type 0 where
   domain_declared : {w : Word} {a d : List Lexeme} (b c : List Lexeme)
-      → Takes (the.Domain ∷ []) a b → UpperAt w b c → Takes (the.Semicolon ∷ []) c d → DeclarationAt (declaration.Domain w) a d
+      → Takes (the.Domain ∷ []) a b → UpperAt w b c → Takes (the.Semicolon ∷ []) c d
+      → DeclarationAt (declaration.Domain w false) a d
+  reset_declared : {w : Word} {a e : List Lexeme} (b c d : List Lexeme)
+      → Takes (the.Domain ∷ []) a b → UpperAt w b c → ResetAt c d → Takes (the.Semicolon ∷ []) d e
+      → DeclarationAt (declaration.Domain w true) a e
   definition_declared : {w : Word} {t : Ty} {e : Tm} {a i : List Lexeme} (b c d f g h : List Lexeme)
       → Takes (the.Def ∷ []) a b → LowerAt w b c → Takes (the.Colon ∷ []) c d → TypeAt t d f → Takes (the.Equals ∷ []) f g
       → TermAt e g h → Takes (the.Semicolon ∷ []) h i → DeclarationAt (declaration.Def w t e) a i

@@ -85,7 +85,7 @@ constructors_height [] = 0
 constructors_height (x ∷ xs) = max (types_height (types_of x.fields)) (constructors_height xs)
 
 abbrev pub declaration_height : Declaration → ℕ
-declaration_height (declaration.Domain w) = leaf
+declaration_height (declaration.Domain w has_reset) = leaf
 declaration_height (declaration.Data w ps xs) = suc (max (parameters_height ps) (constructors_height xs))
 declaration_height (declaration.Def w t e) = suc (max (type_height t) (term_height e))
 

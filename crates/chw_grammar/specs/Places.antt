@@ -73,7 +73,7 @@ abbrev pub bare_constructor : Constructor → Constructor
 bare_constructor x = record { name = bare_word x.name; fields = map bare_type x.fields }
 
 abbrev pub bare_declaration : Declaration → Declaration
-bare_declaration (Domain w) = Domain (bare_word w)
+bare_declaration (Domain w has_reset) = Domain (bare_word w) has_reset
 bare_declaration (Data w ps xs) = Data (bare_word w) (map bare_parameter ps) (map bare_constructor xs)
 bare_declaration (Def w t e) = Def (bare_word w) (bare_type t) (bare_term e)
 

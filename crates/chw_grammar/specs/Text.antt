@@ -208,8 +208,14 @@ abbrev pub constructors_lexemes : List Constructor → List Lexeme
 constructors_lexemes [] = []
 constructors_lexemes (x ∷ xs) = constructor_lexemes x ++ flat_map more_constructor_lexemes xs
 
+-- what stands behind the name of a domain with a reset
+abbrev pub reset_word : Word
+reset_word = record { at = 0; bytes = codes "reset" }
+
 abbrev pub declaration_lexemes : Declaration → List Lexeme
-declaration_lexemes (Domain w) = sign the.Domain ∷ upper w ∷ sign the.Semicolon ∷ []
+declaration_lexemes (Domain w false) = sign the.Domain ∷ upper w ∷ sign the.Semicolon ∷ []
+declaration_lexemes (Domain w true) =
+    sign the.Domain ∷ upper w ∷ lower reset_word ∷ sign the.Semicolon ∷ []
 declaration_lexemes (Data w ps xs) =
     sign the.Data ∷ upper w ∷ (flat_map parameter_lexemes ps ++ sign the.Equals ∷ (constructors_lexemes xs ++ sign the.Semicolon ∷ []))
 declaration_lexemes (Def w t e) =

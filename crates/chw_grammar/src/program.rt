@@ -14,8 +14,8 @@ pub struct Tree {
 /// A declaration.
 #[derive(Drop)]
 pub enum Declaration {
-    /// `domain D;`
-    Domain(Word),
+    /// `domain D;` or `domain D reset;`: its name, and whether it has a reset.
+    Domain(Word, bool),
     /// `data T (a : Val) = A a | B;`: the name, the parameters, and one constructor or more.
     Data(Word, Seq<Parameter>, Seq<Constructor>),
     /// `def f : t = e;`

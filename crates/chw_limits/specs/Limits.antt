@@ -2,7 +2,6 @@
 use Rattle.std.specs.Prelude.{ℕ, Bool, false, nat_lt, is_none, List, count_by, Option, Some, None, if◌then◌else◌, codes}
 use Rattle.chw_base.specs.declared.limits.TheConstants.{DEFINITIONS, DATA_TYPES, DOMAINS, WRITTEN_VECTOR, LITERAL_VALUE_BITS, TYPE_NUMERAL_BITS}
 use Rattle.chw_grammar.specs.declared.program.Tree.{Tree}
-use Rattle.chw_grammar.specs.declared.literal.Literal.{Literal}
 use Rattle.chw_limits.specs.declared.which.Limit.{Limit}
 use Rattle.chw_limits.specs.declared.which.Which.{Which}
 use Rattle.chw_limits.specs.declared.which.Which.TheVariants.{Definitions, Data, Domains, Vector, Number}

@@ -72,7 +72,7 @@ abbrev pub constructor_has : Tests → Constructor → Bool
 constructor_has tests c = list_any (type_has tests) c.fields
 
 abbrev pub declaration_has : Tests → Declaration → Bool
-declaration_has tests (declaration.Domain w) = false
+declaration_has tests (declaration.Domain w has_reset) = false
 declaration_has tests (declaration.Data w ps cs) = list_any (constructor_has tests) cs
 declaration_has tests (declaration.Def w t e) = type_has tests t || term_has tests e
 
@@ -80,16 +80,16 @@ abbrev pub tree_has : Tests → Tree → Bool
 tree_has tests tree = list_any (declaration_has tests) tree.declarations
 
 abbrev pub is_definition : Declaration → Bool
-is_definition (declaration.Domain w) = false
+is_definition (declaration.Domain w has_reset) = false
 is_definition (declaration.Data w ps cs) = false
 is_definition (declaration.Def w t e) = true
 
 abbrev pub is_data_type : Declaration → Bool
-is_data_type (declaration.Domain w) = false
+is_data_type (declaration.Domain w has_reset) = false
 is_data_type (declaration.Data w ps cs) = true
 is_data_type (declaration.Def w t e) = false
 
 abbrev pub is_domain : Declaration → Bool
-is_domain (declaration.Domain w) = true
+is_domain (declaration.Domain w has_reset) = true
 is_domain (declaration.Data w ps cs) = false
 is_domain (declaration.Def w t e) = false

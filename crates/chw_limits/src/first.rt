@@ -63,7 +63,7 @@ fn domains(declarations: &[Declaration]) -> usize
 {
     declarations
         .iter()
-        .filter(|d| matches!(d, Declaration::Domain(_)))
+        .filter(|d| matches!(d, Declaration::Domain(_, _)))
         .count()
 }
 
@@ -79,7 +79,7 @@ fn declaration_has(declaration: &Declaration, sought: Sought) -> bool
     ensures { result ≡ declaration_has (tests_of sought) declaration.now }
 {
     match declaration {
-        Declaration::Domain(_) => false,
+        Declaration::Domain(_, _) => false,
         Declaration::Data(_, _, constructors) => constructors_have(constructors.as_slice(), sought),
         Declaration::Def(_, ty, term) => type_has(ty, sought) || term_has(term, sought),
     }

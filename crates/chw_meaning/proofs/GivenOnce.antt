@@ -18,7 +18,7 @@ use Rattle.chw_meaning.specs.Gives.{Yields, y_empty, y_word, y_elements, y_built
 use Rattle.chw_meaning.proofs.Once.{same_some, zero_once, forces_once}
 use Rattle.chw_meaning.proofs.Widths.{width_once}
 
-wide_and_empty : {A : Type 0} {datas : List Data} {t : TypeTree} → HasWidth datas t zero → IsWide datas t → A
+pub wide_and_empty : {A : Type 0} {datas : List Data} {t : TypeTree} → HasWidth datas t zero → IsWide datas t → A
 wide_and_empty a b = let bad = width_once a b.1 in cc
 
 each_along : {p : Program} {k : ℕ} {t : TypeTree} {a b : Thunks} {h : History} {ds : Datums} → a ≡ b → YieldEach p k t a h ds → YieldEach p k t b h ds
@@ -69,7 +69,7 @@ mutual
   fields_once (yield_field i a as') (yield_field j b bs) = λ k. datum_and (yields_once a (yields_along (same_some j i) b) k) (fields_once as' bs k)
 
 -- what is left of the inputs after a parameter that is a port, and its thunk, are one
-same_fields : (a b : Data) {j k : ConDecl} {f g : TypeTree} {fs gs : List TypeTree} → a ≡ b → a.cons ≡ j ∷ [] → b.cons ≡ k ∷ [] → j.fields ≡ f ∷ fs → k.fields ≡ g ∷ gs → f ∷ fs ≡ g ∷ gs
+pub same_fields : (a b : Data) {j k : ConDecl} {f g : TypeTree} {fs gs : List TypeTree} → a ≡ b → a.cons ≡ j ∷ [] → b.cons ≡ k ∷ [] → j.fields ≡ f ∷ fs → k.fields ≡ g ∷ gs → f ∷ fs ≡ g ∷ gs
 same_fields a b {j = j} {k = k} i c d e f =
     let cons : j ∷ [] ≡ k ∷ [] = sym c ∙ (ap (λ (it : Data). it.cons) i ∙ d) in
     let same : j ≡ k = cc in

@@ -2,10 +2,15 @@ pub mod CornersShown
 pub mod DesignsShown
 pub mod Endless
 pub mod GivenOnce
+pub mod Holding
+pub mod LayoutsSound
+pub mod MeansOnce
+pub mod MeantSound
 pub mod Once
 pub mod ShownSound
 pub mod Sound
 pub mod Still
+pub mod TopsShown
 pub mod WholeShown
 pub mod Widths
 pub mod ZerosEncoded

@@ -3,7 +3,7 @@ use Rattle.std.specs.Prelude.{min, reverse, slice_get, nat_lt, nat_eq, ◌<◌, 
 use Rattle.std.proofs.Common.{◌≡◌, ℕ, suc, zero, List, [], ◌∷◌, Bool, Option, Some, None, refl, sym, ap, subst}
 use Rattle.std.proofs.lemmas.Bool.{ltb-true, ltb-false, eqb-true, eqb-false}
 use Rattle.chw_bits.specs.Bits.{number_of}
-use Rattle.chw_clock.specs.Histories.{before, taken}
+use Rattle.chw_clock.specs.Histories.{taken}
 use Rattle.chw_types.specs.declared.declarations.ConDecl.{ConDecl}
 use Rattle.chw_types.specs.declared.declarations.Data.{Data}
 use Rattle.chw_types.specs.TypeTree.{TypeTree, ty_var, nat_lit, nat_sum, nat_product, domain, scalar, vector, data_of, fun, signal, for_all, TypeTrees, no_types, type_and}
@@ -19,63 +19,9 @@ use Rattle.chw_layout.specs.Measured.{closed_value}
 use Rattle.chw_meaning.specs.Zeros.{IsZero, zero_scalar, zero_vector, zero_data, AreZeros, no_zeros, zeros_and, AreZeroFields, no_zero_field, zero_field_and}
 use Rattle.chw_meaning.specs.Values.{History, con_head, prim_head, Value, bits, con_of, vec_of, closure, ty_closure, partial, Thunk, closed, applied, member, field, element, sample, stream, known, Thunks, none, thunk_and, thunk_at, closed_type, joined, in_group, body_at, fields_from, value_of, item_at}
 use Rattle.chw_meaning.specs.Steps.{Ram, Step, gives, goes_to, computes, samples, delays, remembers, looks_up, stuck, step}
-use Rattle.chw_meaning.specs.Eval.{plus, Choice, goes_on, takes, looks, choice, arm_of, result, dom, Evals, e_var, e_global, e_lam, e_app, e_ty_lam, e_ty_app, e_letrec, e_con, e_prim, e_lit, e_vec, e_goes_on, e_takes, e_looks, Forces, f_closed, f_applied, f_member, f_field, f_element, f_sample, f_stream, f_known, Applies, a_closure, a_runs, TyApplies, t_closure, t_runs, Runs, r_gives, r_goes_to, r_computes, r_samples, r_first, r_later, r_zero_first, r_zero_outside, r_word, r_looks_up, Looks, l_empty, l_bits, Words, no_words, word_and, Word, w_content, w_kept, w_elsewhere, w_written}
-use Rattle.chw_meaning.specs.Run.{Found, found, after, turn, and_then, with_it, seen, changed, bits_in, fields_in, elements_in, with_both, zero_by, zeros_by, zero_data_by, zero_con_by, zero_fields_by, eval, chosen, force, apply, apply_type, run, delayed, look, words, remembered, at_address, word_at, written, replaced_at}
-
--- what was found, if anything, is so
-pub record Holds (A : Type 0) (P : A → ℕ → Type 0) (o : Option (Found A)) : Type 0 where
-  pub of : (r : Found A) → o ≡ Some r → P r.value r.turns
-
-nothing : {A : Type 0} {P : A → ℕ → Type 0} → Holds A P None
-nothing = record { of = λ r e. cc }
-
-one : {A : Type 0} {P : A → ℕ → Type 0} {x : A} {n : ℕ} → P x n → Holds A P (found x n)
-one {A} {P} {x} {n} h = record { of = λ r e. let same : record { value = x; turns = n } ≡ r = cc in subst (λ (r : Found A). P r.value r.turns) same h }
-
-turned : {A : Type 0} {P : A → ℕ → Type 0} {o : Option (Found A)} → Holds A (λ x n. P x (suc n)) o → Holds A P (turn o)
-turned {o = None} h = nothing
-turned {o = Some s} h = one (h.of s refl)
-
-mapped : {A : Type 0} {P Q : A → ℕ → Type 0} {o : Option (Found A)} → Holds A P o → ((x : A) (n : ℕ) → P x n → Q x n) → Holds A Q o
-mapped h f = record { of = λ r e. f r.value r.turns (h.of r e) }
-
-after_so_many : {A : Type 0} {P : A → ℕ → Type 0} {o : Option (Found A)} (m : ℕ) → Holds A (λ x n. P x (plus m n)) o → Holds A P (after m o)
-after_so_many {o = None} m h = nothing
-after_so_many {o = Some s} m h = one (h.of s refl)
-
-then : {A B : Type 0} {P : A → ℕ → Type 0} {Q : B → ℕ → Type 0} {o : Option (Found A)} {go : A → Option (Found B)} → Holds A P o → ((x : A) (m : ℕ) → P x m → Holds B (λ y n. Q y (plus m n)) (go x)) → Holds B Q (and_then o go)
-then {o = None} h f = nothing
-then {o = Some s} h f = after_so_many s.turns (f s.value s.turns (h.of s refl))
-
-at_it : {A B : Type 0} {Q : B → ℕ → Type 0} {go : A → Option (Found B)} (o : Option A) → ((x : A) → o ≡ Some x → Holds B Q (go x)) → Holds B Q (with_it o go)
-at_it None f = nothing
-at_it (Some x) f = f x refl
-
-seen_as : {A B : Type 0} {P : A → ℕ → Type 0} {Q : B → ℕ → Type 0} {o : Option (Found A)} (f : A → Option B) → Holds A P o → ((x : A) (m : ℕ) → P x m → (y : B) → f x ≡ Some y → Q y m) → Holds B Q (seen f o)
-seen_as {o = None} f h g = nothing
-seen_as {o = Some s} f h g = at_it (f s.value) (λ y e. one (g s.value s.turns (h.of s refl) y e))
-
--- what is there is so
-pub record If (A : Type 0) (P : A → Type 0) (o : Option A) : Type 0 where
-  pub of : (x : A) → o ≡ Some x → P x
-
-if_none : {A : Type 0} {P : A → Type 0} → If A P None
-if_none = record { of = λ x e. cc }
-
-if_some : {A : Type 0} {P : A → Type 0} {a : A} → P a → If A P (Some a)
-if_some {A} {P} {a} h = record { of = λ x e. let same : a ≡ x = cc in subst P same h }
-
-if_so : {A : Type 0} {P Q : A → Type 0} {o : Option A} → If A P o → ((x : A) → P x → Q x) → If A Q o
-if_so h g = record { of = λ x e. g x (h.of x e) }
-
-if_changed : {A B : Type 0} {P : A → Type 0} {Q : B → Type 0} (f : A → B) {o : Option A} → If A P o → ((x : A) → P x → Q (f x)) → If B Q (changed f o)
-if_changed f {o = None} h g = if_none
-if_changed f {o = Some x} h g = if_some (g x (h.of x refl))
-
-if_both : {A B C : Type 0} {P : A → Type 0} {Q : B → Type 0} {R : C → Type 0} (f : A → B → C) {o : Option A} {u : Option B} → If A P o → If B Q u → ((x : A) (y : B) → P x → Q y → R (f x y)) → If C R (with_both o u f)
-if_both f {o = None} h k g = if_none
-if_both f {o = Some x} {u = None} h k g = if_none
-if_both f {o = Some x} {u = Some y} h k g = if_some (g x y (h.of x refl) (k.of y refl))
+use Rattle.chw_meaning.specs.Eval.{plus, Choice, goes_on, takes, looks, choice, arm_of, result, dom, last_tick, Evals, e_var, e_global, e_lam, e_app, e_ty_lam, e_ty_app, e_letrec, e_con, e_prim, e_lit, e_vec, e_goes_on, e_takes, e_looks, Forces, f_closed, f_applied, f_member, f_field, f_element, f_sample, f_stream, f_known, Applies, a_closure, a_runs, TyApplies, t_closure, t_runs, Runs, r_gives, r_goes_to, r_computes, r_samples, r_first, r_later, r_zero_first, r_zero_outside, r_word, r_looks_up, Looks, l_empty, l_bits, Words, no_words, word_and, Word, w_content, w_kept, w_elsewhere, w_written}
+use Rattle.chw_meaning.specs.Run.{changed, bits_in, fields_in, elements_in, zero_by, zeros_by, zero_data_by, zero_con_by, zero_fields_by, eval, chosen, force, apply, apply_type, run, delayed, look, words, remembered, at_address, word_at, written, replaced_at}
+use Rattle.chw_meaning.proofs.Holding.{Holds, nothing, one, turned, mapped, then, at_it, seen_as, If, if_none, if_some, if_so, if_changed, if_both}
 
 mutual
   unfolding zero_by
@@ -131,7 +77,7 @@ fields_found (closure t γ δ) ths e = cc
 fields_found (ty_closure t γ δ) ths e = cc
 fields_found (partial hd ts xs) ths e = cc
 
-elements_found : (v : Value) (ths : Thunks) → elements_in v ≡ Some ths → v ≡ vec_of ths
+pub elements_found : (v : Value) (ths : Thunks) → elements_in v ≡ Some ths → v ≡ vec_of ths
 elements_found (vec_of xs) ths e = cc
 elements_found (bits a) ths e = cc
 elements_found (con_of c xs) ths e = cc
@@ -139,7 +85,7 @@ elements_found (closure t γ δ) ths e = cc
 elements_found (ty_closure t γ δ) ths e = cc
 elements_found (partial hd ts xs) ths e = cc
 
-forced_as : {p : Program} {n : ℕ} {th : Thunk} {h : History} {v w : Value} → v ≡ w → Forces p n th h v → Forces p n th h w
+pub forced_as : {p : Program} {n : ℕ} {th : Thunk} {h : History} {v w : Value} → v ≡ w → Forces p n th h v → Forces p n th h w
 forced_as {p} {n} {th} {h} e f = subst (λ v. Forces p n th h v) e f
 
 -- results of primitives on words
@@ -166,7 +112,7 @@ plus_zero : (m : ℕ) → plus m zero ≡ m
 plus_zero zero = refl
 plus_zero (suc m) = ap suc (plus_zero m)
 
-outside_in : {p : Program} (ram : Ram) (h g : History) (b : List Bool) (m : ℕ) (z : Datum) → before h (dom ram.dom) ≡ Some g → Looks p m ram.address ram.read g b → ram.size ≤ number_of b → IsZero p.datas ram.payload z → Runs p (plus m zero) (remembers ram) h (value_of z)
+outside_in : {p : Program} (ram : Ram) (h g : History) (b : List Bool) (m : ℕ) (z : Datum) → last_tick ram h ≡ Some g → Looks p m ram.address ram.read g b → ram.size ≤ number_of b → IsZero p.datas ram.payload z → Runs p (plus m zero) (remembers ram) h (value_of z)
 outside_in {p} ram h g b m z e x i y = subst (λ n. Runs p n (remembers ram) h (value_of z)) (sym (plus_zero m)) (r_zero_outside e x i y)
 
 mutual
@@ -230,14 +176,14 @@ mutual
   run_sound (suc d) p (computes q nats widths ths) h = seen_as (λ bs. changed (result q) (word_value q nats (reverse bs))) (words_sound d p widths ths h) (λ bs n x w i. word_found q nats widths ths h bs n x (word_value q nats (reverse bs)) refl w i)
   run_sound (suc d) p (samples f s) h = turned (then (force_sound d p f h) (λ v m x. mapped (apply_sound d p v (sample s h) h) (λ w n y. r_samples x y)))
   run_sound (suc d) p (delays c i s) h = delayed_sound d p c (taken h (dom c)) i s h refl
-  run_sound (suc d) p (remembers ram) h = remembered_sound d p (before h (dom ram.dom)) ram h refl
+  run_sound (suc d) p (remembers ram) h = remembered_sound d p (last_tick ram h) ram h refl
   run_sound (suc d) p (looks_up last k v i) h = then (look_sound d p k i h) (λ b m x. mapped (force_sound d p (element (min (number_of b) last) v) h) (λ w n y. r_looks_up x y))
   run_sound (suc d) p stuck h = nothing
 
   delayed_sound : (d : ℕ) (p : Program) (c : ℕ) (o : Option History) (i s : Thunk) (h : History) → taken h (dom c) ≡ o → Holds Value (λ v n. Runs p n (delays c i s) h v) (delayed d p o i s h)
   delayed_sound zero p c o i s h e = nothing
   delayed_sound (suc d) p c None i s h e = mapped (force_sound d p i h) (λ v n f. r_first e f)
-  delayed_sound (suc d) p c (Some g) i s h e = mapped (force_sound d p s g) (λ v n f. r_later e f)
+  delayed_sound (suc d) p c (Some g) i s h e = mapped (force_sound d p s _) (λ v n f. r_later e f)
 
   look_sound : (d : ℕ) (p : Program) (k : ℕ) (th : Thunk) (h : History) → Holds (List Bool) (λ b n. Looks p n k th h b) (look d p k th h)
   look_sound zero p k th h = nothing
@@ -251,28 +197,28 @@ mutual
   words_sound (suc d) p (k ∷ ks) none h = nothing
   words_sound (suc d) p (k ∷ ks) (thunk_and th ths) h = then (look_sound d p k th h) (λ b m x. seen_as (λ bs. Some (b ∷ bs)) (words_sound d p ks ths h) (λ bs n y cs i. words_joined k ks th ths h b bs cs m n x y i))
 
-  remembered_sound : (d : ℕ) (p : Program) (o : Option History) (ram : Ram) (h : History) → before h (dom ram.dom) ≡ o → Holds Value (λ v n. Runs p n (remembers ram) h v) (remembered d p o ram)
+  remembered_sound : (d : ℕ) (p : Program) (o : Option History) (ram : Ram) (h : History) → last_tick ram h ≡ o → Holds Value (λ v n. Runs p n (remembers ram) h v) (remembered d p o ram)
   remembered_sound zero p o ram h e = nothing
   remembered_sound (suc d) p None ram h e = at_it (zero_by d p.datas ram.payload) (λ z i. one (r_zero_first e ((zero_sound d p.datas ram.payload).of z i)))
   remembered_sound (suc d) p (Some g) ram h e = then (look_sound d p ram.address ram.read g) (λ b m x. at_address_sound d p (nat_lt (number_of b) ram.size) ram h g b m e x refl)
 
-  at_address_sound : (d : ℕ) (p : Program) (inside : Bool) (ram : Ram) (h g : History) (b : List Bool) (m : ℕ) → before h (dom ram.dom) ≡ Some g → Looks p m ram.address ram.read g b → nat_lt (number_of b) ram.size ≡ inside → Holds Value (λ v n. Runs p (plus m n) (remembers ram) h v) (at_address d p inside ram g (number_of b))
+  at_address_sound : (d : ℕ) (p : Program) (inside : Bool) (ram : Ram) (h g : History) (b : List Bool) (m : ℕ) → last_tick ram h ≡ Some g → Looks p m ram.address ram.read g b → nat_lt (number_of b) ram.size ≡ inside → Holds Value (λ v n. Runs p (plus m n) (remembers ram) h v) (at_address d p inside ram g (number_of b))
   at_address_sound zero p inside ram h g b m e x i = nothing
-  at_address_sound (suc d) p true ram h g b m e x i = mapped (word_sound d p (before g (dom ram.dom)) ram g (number_of b) refl) (λ v n y. r_word e x (below (number_of b) ram.size i) y)
+  at_address_sound (suc d) p true ram h g b m e x i = mapped (word_sound d p (last_tick ram g) ram g (number_of b) refl) (λ v n y. r_word e x (below (number_of b) ram.size i) y)
   at_address_sound (suc d) p false ram h g b m e x i = at_it (zero_by d p.datas ram.payload) (λ z j. one (outside_in ram h g b m z e x (above (number_of b) ram.size i) ((zero_sound d p.datas ram.payload).of z j)))
 
-  word_sound : (d : ℕ) (p : Program) (o : Option History) (ram : Ram) (g : History) (a : ℕ) → before g (dom ram.dom) ≡ o → Holds Value (λ v n. Word p n ram g a v) (word_at d p o ram g a)
+  word_sound : (d : ℕ) (p : Program) (o : Option History) (ram : Ram) (g : History) (a : ℕ) → last_tick ram g ≡ o → Holds Value (λ v n. Word p n ram g a v) (word_at d p o ram g a)
   word_sound zero p o ram g a e = nothing
   word_sound (suc d) p None ram g a e = mapped (force_sound d p (element a ram.content) g) (λ v n y. w_content e y)
   word_sound (suc d) p (Some g') ram g a e = turned (then (force_sound d p ram.write g') (λ v m x. written_sound d p v ram g g' a m e x))
 
-  written_sound : (d : ℕ) (p : Program) (v : Value) (ram : Ram) (g g' : History) (a m : ℕ) → before g (dom ram.dom) ≡ Some g' → Forces p m ram.write g' v → Holds Value (λ v n. Word p (suc (plus m n)) ram g a v) (written d p v ram g' a)
+  written_sound : (d : ℕ) (p : Program) (v : Value) (ram : Ram) (g g' : History) (a m : ℕ) → last_tick ram g ≡ Some g' → Forces p m ram.write g' v → Holds Value (λ v n. Word p (suc (plus m n)) ram g a v) (written d p v ram g' a)
   written_sound zero p v ram g g' a m e x = nothing
-  written_sound (suc d) p (con_of (suc (suc zero)) none) ram g g' a m e x = mapped (word_sound d p (before g' (dom ram.dom)) ram g' a refl) (λ v n y. w_kept e x y)
+  written_sound (suc d) p (con_of (suc (suc zero)) none) ram g g' a m e x = mapped (word_sound d p (last_tick ram g') ram g' a refl) (λ v n y. w_kept e x y)
   written_sound (suc d) p (con_of (suc (suc (suc zero))) (thunk_and pair none)) ram g g' a m e x = then (look_sound d p ram.address (field 1 pair) g') (λ b k y. replaced_sound d p (nat_eq (number_of b) a) pair ram g g' a m k b e x y refl)
   written_sound (suc d) p v ram g g' a m e x = nothing
 
-  replaced_sound : (d : ℕ) (p : Program) (here : Bool) (pair : Thunk) (ram : Ram) (g g' : History) (a m k : ℕ) (b : List Bool) → before g (dom ram.dom) ≡ Some g' → Forces p m ram.write g' (con_of 3 (thunk_and pair none)) → Looks p k ram.address (field 1 pair) g' b → nat_eq (number_of b) a ≡ here → Holds Value (λ v n. Word p (suc (plus m (plus k n))) ram g a v) (replaced_at d p here pair ram g' a)
+  replaced_sound : (d : ℕ) (p : Program) (here : Bool) (pair : Thunk) (ram : Ram) (g g' : History) (a m k : ℕ) (b : List Bool) → last_tick ram g ≡ Some g' → Forces p m ram.write g' (con_of 3 (thunk_and pair none)) → Looks p k ram.address (field 1 pair) g' b → nat_eq (number_of b) a ≡ here → Holds Value (λ v n. Word p (suc (plus m (plus k n))) ram g a v) (replaced_at d p here pair ram g' a)
   replaced_sound zero p here pair ram g g' a m k b e x y i = nothing
   replaced_sound (suc d) p true pair ram g g' a m k b e x y i = mapped (force_sound d p (field 0 pair) g') (λ v n z. w_written e x y (same_number (number_of b) a i) z)
-  replaced_sound (suc d) p false pair ram g g' a m k b e x y i = mapped (word_sound d p (before g' (dom ram.dom)) ram g' a refl) (λ v n z. w_elsewhere e x y (other_number (number_of b) a i) z)
+  replaced_sound (suc d) p false pair ram g g' a m k b e x y i = mapped (word_sound d p (last_tick ram g') ram g' a refl) (λ v n z. w_elsewhere e x y (other_number (number_of b) a i) z)

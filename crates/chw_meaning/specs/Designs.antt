@@ -32,11 +32,24 @@ plus_one = lam byte (prim_on AddU (nat 8 ∷ []) (var 0 ∷ number 8 1 ∷ []))
 abbrev pub counter : TypeTree → TermTree
 counter d = let_one (signal d byte) (register d byte (number 8 0) (fmap d byte byte plus_one (var 0))) (var 0)
 
--- \(x : Signal A byte) . letrec { s : Signal A byte = register @A @byte 0u8 t;
+-- \(x : Signal A byte) . letrec { s : Signal A byte = register @A @byte n t;
 --   t : Signal A byte = ap @A @byte @byte (fmap @A @byte @(byte -> byte) (addU @8) s) x; } in s
+abbrev pub accumulator_from : ℕ → TermTree
+accumulator_from n =
+    lam s (letrec (bind s (register a_clock byte (number 8 n) (var 0)) (bind s sums no_bindings))
+    (var 1))
+  where
+    s : TypeTree
+    s = signal a_clock byte
+
+    sums : TermTree
+    sums =
+        ap_on a_clock byte byte
+        (fmap a_clock byte (fun byte byte) (prim_on AddU (nat 8 ∷ []) []) (var 1)) (var 2)
+
+-- the accumulator from 0
 abbrev pub accumulator_of : TermTree
-accumulator_of =
-    lam (signal a_clock byte) (letrec (bind (signal a_clock byte) (register a_clock byte (number 8 0) (var 0)) (bind (signal a_clock byte) (ap_on a_clock byte byte (fmap a_clock byte (fun byte byte) (prim_on AddU (nat 8 ∷ []) []) (var 1)) (var 2)) no_bindings)) (var 1))
+accumulator_of = accumulator_from 0
 
 abbrev pub accumulator : Thunk
 accumulator = applied (here accumulator_of) (words 8 (5 ∷ 7 ∷ 0 ∷ []))
@@ -46,7 +59,8 @@ abbrev pub first_of : TermTree
 first_of = ty_lam Val (ty_lam Val (lam (pair (ty_var 1) (ty_var 0)) (case_one (var 0) 4 2 (var 1))))
 
 abbrev pub second_of : TermTree
-second_of = ty_lam Val (ty_lam Val (lam (pair (ty_var 1) (ty_var 0)) (case_one (var 0) 4 2 (var 0))))
+second_of =
+    ty_lam Val (ty_lam Val (lam (pair (ty_var 1) (ty_var 0)) (case_one (var 0) 4 2 (var 0))))
 
 -- letrec { st : Signal d s = register @d @s z (fmap @d @(Pair s o) @s (fst @s @o) r);
 --   r : Signal d (Pair s o) = ap @d @i @(Pair s o) (fmap @d @s @(i -> Pair s o) f st) x; } in fmap @d @(Pair s o) @o (snd @s @o) r
@@ -71,9 +85,15 @@ multiply_add =
 abbrev pub sums : Program
 sums = program [] (def_of byte first_of ∷ def_of byte second_of ∷ def_of byte mealy ∷ def_of byte multiply_add ∷ [])
 
+-- mealy @A @twelve @(Pair twelve twelve) @twelve multiply_add 0u12
+abbrev pub sums_of : TermTree
+sums_of =
+    call (at_types (global 2) (types (a_clock ∷ twelve ∷ pair twelve twelve ∷ twelve ∷ [])))
+    (global 3 ∷ number 12 0 ∷ [])
+
 abbrev pub sums_of_products : Thunk
 sums_of_products =
-    applied (here (call (at_types (global 2) (types (a_clock ∷ twelve ∷ pair twelve twelve ∷ twelve ∷ []))) (global 3 ∷ number 12 0 ∷ []))) (stream (map (λ n. pair_of (word (bits_of 12 n)) (word (bits_of 12 n))) (1 ∷ 2 ∷ 3 ∷ 4 ∷ [])))
+    applied (here sums_of) (stream (map (λ n. pair_of (word (bits_of 12 n)) (word (bits_of 12 n))) (1 ∷ 2 ∷ 3 ∷ 4 ∷ [])))
 
 -- blockRam @A @4 @3 @byte (vgenerate @5 @8 @byte (\(i : byte) . mulU @8 (addU @8 i 1u8) 10u8)), whose words are 10, 20, 30, 40, 50
 abbrev pub memory_of : TermTree
@@ -84,9 +104,11 @@ abbrev pub idle : Datum
 idle = built 2 no_data
 
 abbrev pub write : (place value : ℕ) → Datum
-write place value = built 3 (datum_and (pair_of (word (bits_of 3 place)) (word (bits_of 8 value))) no_data)
+write place value =
+    built 3 (datum_and (pair_of (word (bits_of 3 place)) (word (bits_of 8 value))) no_data)
 
--- reads at 1, 1, 1, 7, 0, 0 and 0, with a write of 99 at 1 at the second event and a write of 1 at 7, outside, at the fifth
+-- reads at 1, 1, 1, 7, 0, 0 and 0, with a write of 99 at 1 at the second event and a write of 1
+-- at 7, outside, at the fifth
 abbrev pub memory : Thunk
 memory =
     applied (applied (here memory_of) (words 3 (1 ∷ 1 ∷ 1 ∷ 7 ∷ 0 ∷ 0 ∷ 0 ∷ []))) (stream (idle ∷ write 1 99 ∷ idle ∷ idle ∷ write 7 1 ∷ idle ∷ idle ∷ []))
@@ -113,9 +135,14 @@ abbrev pub right_of : Thunk → Thunk
 right_of th = field 0 th
 
 -- a counter in A, and a register in B from 0 of the synchronised counter
+abbrev pub crossing_of : TermTree
+crossing_of =
+    let_one (signal a_clock byte) (counter a_clock)
+    (pair_c_on (signal a_clock byte) (signal b_clock byte) (var 0)
+    (register b_clock byte (number 8 0) (synchronised a_clock b_clock byte (var 0))))
+
 abbrev pub crossing : Thunk
-crossing =
-    here (let_one (signal a_clock byte) (counter a_clock) (pair_c_on (signal a_clock byte) (signal b_clock byte) (var 0) (register b_clock byte (number 8 0) (synchronised a_clock b_clock byte (var 0)))))
+crossing = here crossing_of
 
 -- letrec { a = register @A @byte 1u8 (unsafeSynchronizer @B @A @byte b); b = register @B @byte 2u8 (unsafeSynchronizer @A @B @byte a); }
 -- in PairC a b
@@ -124,9 +151,14 @@ swapping =
     here (letrec (bind (signal a_clock byte) (register a_clock byte (number 8 1) (synchronised b_clock a_clock byte (var 0))) (bind (signal b_clock byte) (register b_clock byte (number 8 2) (synchronised a_clock b_clock byte (var 1))) no_bindings)) (pair_c_on (signal a_clock byte) (signal b_clock byte) (var 1) (var 0)))
 
 -- letrec { p = PairC (case p of { PairC a b -> b; }) (register @A @byte 0u8 (case p of { PairC a b -> a; })); } in p
+abbrev pub through_a_pair_of : TermTree
+through_a_pair_of =
+    let_one (pair_c_of (signal a_clock byte) (signal a_clock byte))
+    (pair_c_on (signal a_clock byte) (signal a_clock byte) (case_one (var 0) 5 2 (var 0))
+    (register a_clock byte (number 8 0) (case_one (var 0) 5 2 (var 1)))) (var 0)
+
 abbrev pub through_a_pair : Thunk
-through_a_pair =
-    here (let_one (pair_c_of (signal a_clock byte) (signal a_clock byte)) (pair_c_on (signal a_clock byte) (signal a_clock byte) (case_one (var 0) 5 2 (var 0)) (register a_clock byte (number 8 0) (case_one (var 0) 5 2 (var 1)))) (var 0))
+through_a_pair = here through_a_pair_of
 
 abbrev pub nibble : TypeTree
 nibble = scalar S (nat_lit 4)
@@ -157,8 +189,8 @@ tap s = register a_clock half (number 16 0) s
 abbrev pub constant : ℕ → TermTree
 constant n = pure a_clock half (number 16 n)
 
--- a filter of four taps: t0 is x and each next tap a register from 0; the sum of 1, 2, 3 and 4 times the taps, as a fold over a vector
--- of signals from the constant signal 0
+-- a filter of four taps: t0 is x and each next tap a register from 0; the sum of 1, 2, 3 and 4
+-- times the taps, as a fold over a vector of signals from the constant signal 0
 abbrev pub filter_of : TermTree
 filter_of =
     lam s (letrec (bind s (var 4) (bind s (tap (var 3)) (bind s (tap (var 2)) (bind s (tap (var 1)) no_bindings)))) (prim_on VFoldlC (nat 4 ∷ s ∷ s ∷ []) (lifted (prim_on AddU (nat 16 ∷ []) []) ∷ constant 0 ∷ products ∷ [])))

@@ -28,7 +28,8 @@ abbrev pub plus : ℕ → ℕ → ℕ
 plus zero k = k
 plus (suc m) k = suc (plus m k)
 
--- what a case does: it goes on with an alternative, or with the fields of the scrutinee's thunk, or it looks at the scrutinee
+-- what a case does: it goes on with an alternative, or with the fields of the scrutinee's thunk,
+-- or it looks at the scrutinee
 pub data Choice : Type 0 where
   goes_on : TermTree → Choice
   takes : ℕ → TermTree → Choice
@@ -75,7 +76,8 @@ bound _ _ = none
 -- the first alternative that is for the value
 abbrev pub arm_of : Value → Alts → Option Arm
 arm_of v no_alts = None
-arm_of v (alt q e more) = if matches v q then Some (record { fields = bound v q; body = e }) else arm_of v more
+arm_of v (alt q e more) =
+    if matches v q then Some (record { fields = bound v q; body = e }) else arm_of v more
 
 -- the result of a primitive on words: a comparison and a reduction give False or True
 abbrev pub truth_of : List Bool → Value
@@ -93,8 +95,13 @@ result q b = result_by (row_of q) b
 abbrev pub dom : ℕ → DomId
 dom d = record { number = d }
 
+-- the history up to the last tick of a block RAM's domain before the present event, if there is one
+abbrev pub last_tick : Ram → History → Option History
+last_tick ram h = before h (dom ram.dom)
+
 mutual
-  -- in its environment of thunks and closed types, the term has the value at the history, in so many turns
+  -- in its environment of thunks and closed types, the term has the value at the history, in so
+  -- many turns
   pub data Evals (p : Program) : ℕ → TermTree → Thunks → TypeTrees → History → Value → Type 0 where
     e_var : {n x : ℕ} {γ : Thunks} {δ : TypeTrees} {h : History} {v : Value} {th : Thunk} → thunk_at γ x ≡ Some th → Forces p n th h v → Evals p (suc n) (var x) γ δ h v
     e_global : {n d : ℕ} {γ : Thunks} {δ : TypeTrees} {h : History} {v : Value} {it : Def} → slice_get p.defs d ≡ Some it → Evals p n it.body none no_types h v → Evals p (suc n) (global d) γ δ h v
@@ -140,9 +147,9 @@ mutual
     r_samples : {m n : ℕ} {f s : Thunk} {h : History} {v w : Value} → Forces p m f h v → Applies p n v (sample s h) h w → Runs p (suc (plus m n)) (samples f s) h w
     r_first : {n d : ℕ} {i s : Thunk} {h : History} {v : Value} → taken h (dom d) ≡ None → Forces p n i h v → Runs p n (delays d i s) h v
     r_later : {n d : ℕ} {i s : Thunk} {h g : History} {v : Value} → taken h (dom d) ≡ Some g → Forces p n s g v → Runs p n (delays d i s) h v
-    r_zero_first : {ram : Ram} {h : History} {z : Datum} → before h (dom ram.dom) ≡ None → IsZero p.datas ram.payload z → Runs p zero (remembers ram) h (value_of z)
-    r_zero_outside : {n : ℕ} {ram : Ram} {h g : History} {b : List Bool} {z : Datum} → before h (dom ram.dom) ≡ Some g → Looks p n ram.address ram.read g b → ram.size ≤ number_of b → IsZero p.datas ram.payload z → Runs p n (remembers ram) h (value_of z)
-    r_word : {m n : ℕ} {ram : Ram} {h g : History} {b : List Bool} {v : Value} → before h (dom ram.dom) ≡ Some g → Looks p m ram.address ram.read g b → number_of b < ram.size → Word p n ram g (number_of b) v → Runs p (plus m n) (remembers ram) h v
+    r_zero_first : {ram : Ram} {h : History} {z : Datum} → last_tick ram h ≡ None → IsZero p.datas ram.payload z → Runs p zero (remembers ram) h (value_of z)
+    r_zero_outside : {n : ℕ} {ram : Ram} {h g : History} {b : List Bool} {z : Datum} → last_tick ram h ≡ Some g → Looks p n ram.address ram.read g b → ram.size ≤ number_of b → IsZero p.datas ram.payload z → Runs p n (remembers ram) h (value_of z)
+    r_word : {m n : ℕ} {ram : Ram} {h g : History} {b : List Bool} {v : Value} → last_tick ram h ≡ Some g → Looks p m ram.address ram.read g b → number_of b < ram.size → Word p n ram g (number_of b) v → Runs p (plus m n) (remembers ram) h v
     r_looks_up : {m n last k : ℕ} {v i : Thunk} {h : History} {b : List Bool} {w : Value} → Looks p m k i h b → Forces p n (element (min (number_of b) last) v) h w → Runs p (plus m n) (looks_up last k v i) h w
 
   -- the thunk of a scalar of this width has these bits; of width 0 it needs no evaluation
@@ -155,9 +162,10 @@ mutual
     no_words : {h : History} → Words p zero [] none h []
     word_and : {m n k : ℕ} {ks : List ℕ} {th : Thunk} {ths : Thunks} {h : History} {b : List Bool} {bs : List (List Bool)} → Looks p m k th h b → Words p n ks ths h bs → Words p (plus m n) (k ∷ ks) (thunk_and th ths) h (b ∷ bs)
 
-  -- the word at an address of a block RAM, as it is before the write of this history's present event
+  -- the word at an address of a block RAM, as it is before the write of this history's present
+  -- event
   pub data Word (p : Program) : ℕ → Ram → History → ℕ → Value → Type 0 where
-    w_content : {n a : ℕ} {ram : Ram} {g : History} {v : Value} → before g (dom ram.dom) ≡ None → Forces p n (element a ram.content) g v → Word p n ram g a v
-    w_kept : {m n a : ℕ} {ram : Ram} {g g' : History} {v : Value} → before g (dom ram.dom) ≡ Some g' → Forces p m ram.write g' (con_of 2 none) → Word p n ram g' a v → Word p (suc (plus m n)) ram g a v
-    w_elsewhere : {m k n a : ℕ} {ram : Ram} {g g' : History} {pair : Thunk} {b : List Bool} {v : Value} → before g (dom ram.dom) ≡ Some g' → Forces p m ram.write g' (con_of 3 (thunk_and pair none)) → Looks p k ram.address (field 1 pair) g' b → number_of b ≢ a → Word p n ram g' a v → Word p (suc (plus m (plus k n))) ram g a v
-    w_written : {m k n a : ℕ} {ram : Ram} {g g' : History} {pair : Thunk} {b : List Bool} {v : Value} → before g (dom ram.dom) ≡ Some g' → Forces p m ram.write g' (con_of 3 (thunk_and pair none)) → Looks p k ram.address (field 1 pair) g' b → number_of b ≡ a → Forces p n (field 0 pair) g' v → Word p (suc (plus m (plus k n))) ram g a v
+    w_content : {n a : ℕ} {ram : Ram} {g : History} {v : Value} → last_tick ram g ≡ None → Forces p n (element a ram.content) g v → Word p n ram g a v
+    w_kept : {m n a : ℕ} {ram : Ram} {g g' : History} {v : Value} → last_tick ram g ≡ Some g' → Forces p m ram.write g' (con_of 2 none) → Word p n ram g' a v → Word p (suc (plus m n)) ram g a v
+    w_elsewhere : {m k n a : ℕ} {ram : Ram} {g g' : History} {pair : Thunk} {b : List Bool} {v : Value} → last_tick ram g ≡ Some g' → Forces p m ram.write g' (con_of 3 (thunk_and pair none)) → Looks p k ram.address (field 1 pair) g' b → number_of b ≢ a → Word p n ram g' a v → Word p (suc (plus m (plus k n))) ram g a v
+    w_written : {m k n a : ℕ} {ram : Ram} {g g' : History} {pair : Thunk} {b : List Bool} {v : Value} → last_tick ram g ≡ Some g' → Forces p m ram.write g' (con_of 3 (thunk_and pair none)) → Looks p k ram.address (field 1 pair) g' b → number_of b ≡ a → Forces p n (field 0 pair) g' v → Word p (suc (plus m (plus k n))) ram g a v

@@ -1,4 +1,5 @@
--- What a closed term gives: on inputs, at a leaf of its result, at a history, with all its parts evaluated.
+-- What a closed term gives: on inputs, at a leaf of its result, at a history, with all its parts
+-- evaluated.
 use Rattle.std.specs.Prelude.{◌≡◌, ℕ, suc, zero, Bool, List, [], ◌∷◌, ◌++◌, length, Some, slice_get}
 use Rattle.std.specs.List.{AllByRecursion}
 use Rattle.chw_types.specs.declared.kind.Scalar.{Scalar}
@@ -19,8 +20,9 @@ use Rattle.chw_meaning.specs.Values.{History, bits, con_of, vec_of, Thunk, close
 use Rattle.chw_meaning.specs.Eval.{plus, Forces}
 
 mutual
-  -- the thunk of the closed type, with all its parts evaluated at the history, makes the data value, in so many turns; a part of a type
-  -- of width 0 is the one value of its type, without evaluation
+  -- the thunk of the closed type, with all its parts evaluated at the history, makes the data
+  -- value, in so many turns; a part of a type of width 0 is the one value of its type, without
+  -- evaluation
   pub data Yields (p : Program) : ℕ → TypeTree → Thunk → History → Datum → Type 0 where
     y_empty : {t : TypeTree} {th : Thunk} {h : History} {z : Datum} → HasWidth p.datas t zero → IsZero p.datas t z → Yields p zero t th h z
     y_word : {m : ℕ} {s : Scalar} {n : TypeTree} {th : Thunk} {h : History} {b : List Bool} → IsWide p.datas (scalar s n) → Forces p m th h (bits b) → Yields p m (scalar s n) th h (word b)
@@ -32,13 +34,14 @@ mutual
     yield_none : {t : TypeTree} {h : History} → YieldEach p zero t none h no_data
     yield_each : {m k : ℕ} {t : TypeTree} {th : Thunk} {ths : Thunks} {h : History} {d : Datum} {ds : Datums} → Yields p m t th h d → YieldEach p k t ths h ds → YieldEach p (plus m k) t (thunk_and th ths) h (datum_and d ds)
 
-  -- the same of the fields of a constructor that have these types, with this put in; those are its last ones
+  -- the same of the fields of a constructor that have these types, with this put in; those are
+  -- its last ones
   pub data YieldFields (p : Program) : ℕ → List TypeTree → Substitution → Thunks → History → Datums → Type 0 where
     yield_no_field : {σ : Substitution} {ths : Thunks} {h : History} → YieldFields p zero [] σ ths h no_data
     yield_field : {m k : ℕ} {f : TypeTree} {fs : List TypeTree} {σ : Substitution} {th : Thunk} {ths : Thunks} {h : History} {d : Datum} {ds : Datums} → thunk_at ths (length fs) ≡ Some th → Yields p m (sub f σ) th h d → YieldFields p k fs σ ths h ds → YieldFields p (plus m k) (f ∷ fs) σ ths h (datum_and d ds)
 
--- what a term is applied to: a data value for each representable parameter, and a stream for each leaf of a parameter that is a port;
--- they are data values of the parameters' types
+-- what a term is applied to: a data value for each representable parameter, and a stream for each
+-- leaf of a parameter that is a port; they are data values of the parameters' types
 pub data Input : Type 0 where
   value_in : Datum → Input
   stream_in : List Datum → Input
@@ -49,7 +52,8 @@ at_types e no_types = e
 at_types e (type_and t ts) = at_types (ty_app e t) ts
 
 mutual
-  -- a parameter whose closed type is a port is this thunk, made of the first of the inputs, a stream for each leaf; these are left
+  -- a parameter whose closed type is a port is this thunk, made of the first of the inputs, a
+  -- stream for each leaf; these are left
   pub data PortGiven (datas : List Data) : TypeTree → List Input → Thunk → List Input → Type 0 where
     given_stream : {d : ℕ} {t : TypeTree} {ds : List Datum} {more : List Input} → Representable datas t → AllByRecursion (IsValueOf datas t) ds → PortGiven datas (signal (domain d) t) (stream_in ds ∷ more) (stream ds) more
     given_product : {d : ℕ} {it : Data} {ts : TypeTrees} {k : ConDecl} {f : TypeTree} {fs : List TypeTree} {ins more : List Input} {th : Thunk} → slice_get datas d ≡ Some it → it.cons ≡ k ∷ [] → k.fields ≡ f ∷ fs → FieldsGiven datas (f ∷ fs) (arguments ts) (closed (at_types (con (first_constructor datas d)) ts) none no_types) ins th more → PortGiven datas (data_of d ts) ins th more
@@ -78,7 +82,8 @@ abbrev pub leaf_of : TypeTree → Thunk → LeafOf
 leaf_of t th = record { payload = t; thunk = th }
 
 mutual
-  -- a thunk whose closed type is a port has these leaves, from left to right: itself, or those of its fields
+  -- a thunk whose closed type is a port has these leaves, from left to right: itself, or those of
+  -- its fields
   pub data PortLeaves (datas : List Data) : TypeTree → Thunk → List LeafOf → Type 0 where
     leaf_signal : {d : ℕ} {t : TypeTree} {th : Thunk} → Representable datas t → PortLeaves datas (signal (domain d) t) th (leaf_of t th ∷ [])
     leaves_product : {d : ℕ} {it : Data} {ts : TypeTrees} {k : ConDecl} {f : TypeTree} {fs : List TypeTree} {th : Thunk} {ls : List LeafOf} → slice_get datas d ≡ Some it → it.cons ≡ k ∷ [] → k.fields ≡ f ∷ fs → FieldLeaves datas (f ∷ fs) (arguments ts) th ls → PortLeaves datas (data_of d ts) th ls
@@ -88,12 +93,14 @@ mutual
     no_field_leaves : {σ : Substitution} {th : Thunk} → FieldLeaves datas [] σ th []
     field_leaves : {f : TypeTree} {fs : List TypeTree} {σ : Substitution} {th : Thunk} {ls ms : List LeafOf} → PortLeaves datas (sub f σ) (field (length fs) th) ls → FieldLeaves datas fs σ th ms → FieldLeaves datas (f ∷ fs) σ th (ls ++ ms)
 
--- a thunk of the closed type has these leaves: itself where the type is representable, else those of a port
+-- a thunk of the closed type has these leaves: itself where the type is representable, else those
+-- of a port
 pub data HasLeaves (datas : List Data) : TypeTree → Thunk → List LeafOf → Type 0 where
   leaf_value : {t : TypeTree} {th : Thunk} → Representable datas t → HasLeaves datas t th (leaf_of t th ∷ [])
   leaves_port : {t : TypeTree} {th : Thunk} {ls : List LeafOf} → PortLeaves datas t th ls → HasLeaves datas t th ls
 
--- the closed term of the closed type, applied to the inputs, has at the history the data value at this leaf of its result
+-- the closed term of the closed type, applied to the inputs, has at the history the data value at
+-- this leaf of its result
 pub record Gives (p : Program) (e : TermTree) (t : TypeTree) (ins : List Input) (h : History) (k : ℕ) (d : Datum) : Type 0 where
   pub result : TypeTree
   pub thunk : Thunk

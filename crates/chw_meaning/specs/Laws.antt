@@ -1,5 +1,6 @@
 -- What is promised of the meaning.
 use Rattle.std.specs.Prelude.{◌≡◌, ℕ, zero, ◌≤◌, List, Some, replicate, false}
+use Rattle.chw_clock.specs.declared.event.Ports.{Ports}
 use Rattle.chw_types.specs.declared.declarations.Data.{Data}
 use Rattle.chw_types.specs.TypeTree.{TypeTree, TypeTrees}
 use Rattle.chw_terms.specs.declared.program.Program.{Program}
@@ -11,7 +12,9 @@ use Rattle.chw_meaning.specs.Zeros.{IsZero}
 use Rattle.chw_meaning.specs.Values.{History, Value, Thunk, sample, known, Thunks}
 use Rattle.chw_meaning.specs.Eval.{Evals, Forces}
 use Rattle.chw_meaning.specs.Gives.{Input, Gives, Better}
+use Rattle.chw_meaning.specs.Means.{HasPorts, Fit, Means}
 use Rattle.chw_meaning.specs.Run.{Found, eval, force}
+use Rattle.chw_meaning.specs.Meant.{gives_by, ports_by, fits_by, means_by}
 use Rattle.chw_meaning.specs.Writing.{shown}
 
 -- the term has the value within so many turns
@@ -37,6 +40,15 @@ abbrev pub OneGiven : Type 0
 OneGiven =
     (p : Program) (e : TermTree) (t : TypeTree) (ins : List Input) (h : History) (k : ℕ) (a b : Datum) → Gives p e t ins h k a → Gives p e t ins h k b → a ≡ b
 
+-- a program has one list of ports
+abbrev pub OnePorts : Type 0
+OnePorts = (p : Program) (a b : Ports) → HasPorts p a → HasPorts p b → a ≡ b
+
+-- an output has at most one meaning at a history
+abbrev pub OneMeaning : Type 0
+OneMeaning =
+    (p : Program) (h : History) (k : ℕ) (a b : Datum) → Means p h k a → Means p h k b → a ≡ b
+
 -- a sample and a data value have the same value at every history
 abbrev pub SamplesStay : Type 0
 SamplesStay =
@@ -58,6 +70,24 @@ ForcedIsSo =
 -- what examples show, the relation has
 abbrev pub ShownIsSo : Type 0
 ShownIsSo = (p : Program) (th : Thunk) (h : History) (v : Value) → shown p th h ≡ Some v → (n : ℕ) × Forces p n th h v
+
+-- what the functions compute of a term on inputs, and of a program, the relations have
+abbrev pub GivenIsSo : Type 0
+GivenIsSo =
+    (d : ℕ) (p : Program) (e : TermTree) (t : TypeTree) (ins : List Input) (h : History) (k : ℕ)
+    (v : Datum) → gives_by d p e t ins h k ≡ Some v → Gives p e t ins h k v
+
+abbrev pub PortsAreSo : Type 0
+PortsAreSo = (d : ℕ) (p : Program) (ports : Ports) → ports_by d p ≡ Some ports → HasPorts p ports
+
+abbrev pub FitIsSo : Type 0
+FitIsSo =
+    (d : ℕ) (p : Program) (h : History) (ins : List Input) → fits_by d p h ≡ Some ins → Fit p h
+
+abbrev pub MeantIsSo : Type 0
+MeantIsSo =
+    (d : ℕ) (p : Program) (h : History) (k : ℕ) (v : Datum)
+    → means_by d p h k ≡ Some v → Means p h k v
 
 abbrev pub BetterReflexive : Type 0
 BetterReflexive = (p : Program) (t : TypeTree) (e : TermTree) → Better p t e e

@@ -3,10 +3,14 @@ pub mod Designs
 pub mod Eval
 pub mod Gives
 pub mod Laws
+pub mod Layouts
 pub mod Means
+pub mod Meant
 pub mod Run
 pub mod Shown
 pub mod Steps
+pub mod Tops
+pub mod TopsShown
 pub mod Values
 pub mod Whole
 pub mod Writing

@@ -1,4 +1,5 @@
--- The meaning of a program: its ports, the histories that fit them, and what each output is at each history.
+-- The meaning of a program: its ports, the histories that fit them, and what each output is at
+-- each history.
 use Rattle.std.specs.Prelude.{◌≡◌, ℕ, suc, zero, Bool, List, [], ◌∷◌, ◌++◌, length, replicate, Some, slice_get}
 use Rattle.chw_clock.specs.declared.event.Event.{Event}
 use Rattle.chw_clock.specs.declared.event.Port.{Port}
@@ -43,30 +44,33 @@ pub record IsTop (p : Program) (it : Def) (ins outs : List Leaf) : Type 0 where
   pub held : slice_get p.defs p.top.«def».number ≡ Some it
   pub leads : LeadsFrom p.datas it.ty ins outs
 
--- the ports of a program: its domains, none of which has a reset so far, and those leaves of its top whose width isn't 0
+-- the ports of a program: its domains, those of them that have a reset, and those leaves of its top
+-- whose width isn't 0
 pub record HasPorts (p : Program) (ports : Ports) : Type 0 where
   pub it : Def
   pub ins : List Leaf
   pub outs : List Leaf
   pub top : IsTop p it ins outs
   pub domains : ports.domains ≡ p.domains
-  pub resets : ports.resets ≡ []
+  pub resets : ports.resets ≡ p.resets
   pub inputs : PortsOf p.datas ins p.top.inputs ports.inputs
   pub outputs : PortsOf p.datas outs p.top.outputs ports.outputs
 
--- the bits of this input, in a history with the present event first, decode to these data values, that of the first event first
+-- the bits of this input, in a history with the present event first, decode to these data values,
+-- that of the first event first
 pub data Decoded (datas : List Data) : TypeTree → ℕ → History → List Datum → Type 0 where
   decoded_none : {t : TypeTree} {i : ℕ} → Decoded datas t i [] []
   decoded_and : {t : TypeTree} {i : ℕ} {present : Event} {past : History} {b : List Bool} {d : Datum} {ds : List Datum} → slice_get present.inputs i ≡ Some b → Encodes datas t d b → Decoded datas t i past ds → Decoded datas t i (present ∷ past) (ds ++ (d ∷ []))
 
--- the streams of these leaves, of which the first that is a port is the input of this number; a leaf of width 0 has the stream of its
--- one value
+-- the streams of these leaves, of which the first that is a port is the input of this number; a
+-- leaf of width 0 has the stream of its one value
 pub data Streams (datas : List Data) : List Leaf → ℕ → History → List Input → Type 0 where
   no_streams : {i : ℕ} {h : History} → Streams datas [] i h []
   stream_and : {leaf : Leaf} {leaves : List Leaf} {w i : ℕ} {h : History} {ds : List Datum} {ins : List Input} → HasWidth datas leaf.payload (suc w) → Decoded datas leaf.payload i h ds → Streams datas leaves (suc i) h ins → Streams datas (leaf ∷ leaves) i h (stream_in ds ∷ ins)
   stream_of_one : {leaf : Leaf} {leaves : List Leaf} {i : ℕ} {h : History} {z : Datum} {ins : List Input} → HasWidth datas leaf.payload zero → IsZero datas leaf.payload z → Streams datas leaves i h ins → Streams datas (leaf ∷ leaves) i h (stream_in (replicate (length h) z) ∷ ins)
 
--- a history of the program: at least one event, in each some domain ticks, and its inputs are encodings of values of their ports' types
+-- a history of the program: at least one event, in each some domain ticks, and its inputs are
+-- encodings of values of their ports' types
 pub record Fit (p : Program) (h : History) : Type 0 where
   pub ports : Ports
   pub are_ports : HasPorts p ports

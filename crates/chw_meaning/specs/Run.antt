@@ -1,7 +1,8 @@
--- The meaning as a function, which computes: the value of a term at a history and its turns, where the evaluation is at most so deep.
+-- The meaning as a function, which computes: the value of a term at a history and its turns,
+-- where the evaluation is at most so deep.
 use Rattle.std.specs.Prelude.{ℕ, suc, zero, min, Bool, true, false, nat_lt, nat_eq, List, [], ◌∷◌, replicate, reverse, Option, Some, None, slice_get}
 use Rattle.chw_bits.specs.Bits.{number_of}
-use Rattle.chw_clock.specs.Histories.{before, taken}
+use Rattle.chw_clock.specs.Histories.{taken}
 use Rattle.chw_types.specs.declared.declarations.ConDecl.{ConDecl}
 use Rattle.chw_types.specs.declared.declarations.Data.{Data}
 use Rattle.chw_types.specs.TypeTree.{TypeTree, scalar, vector, data_of, TypeTrees, no_types, type_and}
@@ -15,7 +16,7 @@ use Rattle.chw_layout.specs.Encodes.{first_constructor}
 use Rattle.chw_layout.specs.Measured.{closed_value}
 use Rattle.chw_meaning.specs.Values.{History, con_head, prim_head, Value, bits, con_of, vec_of, closure, ty_closure, partial, Thunk, closed, applied, member, field, element, sample, stream, known, Thunks, none, thunk_and, thunk_at, closed_type, joined, in_group, body_at, fields_from, closed_all, value_of, item_at}
 use Rattle.chw_meaning.specs.Steps.{Ram, Step, gives, goes_to, computes, samples, delays, remembers, looks_up, stuck, step}
-use Rattle.chw_meaning.specs.Eval.{plus, Choice, goes_on, takes, looks, choice, arm_of, result, dom}
+use Rattle.chw_meaning.specs.Eval.{plus, Choice, goes_on, takes, looks, choice, arm_of, result, dom, last_tick}
 
 -- what was found, and in how many turns
 pub record Found (A : Type 0) : Type 0 where
@@ -40,7 +41,7 @@ and_then None go = None
 and_then (Some r) go = after r.turns (go r.value)
 
 -- goes on with what is there
-abbrev pub with_it : {A B : Type 0} → Option A → (A → Option (Found B)) → Option (Found B)
+abbrev pub with_it : {A B : Type 0} → Option A → (A → Option B) → Option B
 with_it None go = None
 with_it (Some x) go = go x
 
@@ -48,6 +49,16 @@ with_it (Some x) go = go x
 abbrev pub seen : {A B : Type 0} → (A → Option B) → Option (Found A) → Option (Found B)
 seen f None = None
 seen f (Some r) = with_it (f r.value) (λ y. found y r.turns)
+
+-- what was found, as what the function makes of it, in the same turns
+abbrev pub found_as : {A B : Type 0} → (A → B) → Option (Found A) → Option (Found B)
+found_as f None = None
+found_as f (Some r) = found (f r.value) r.turns
+
+-- what is there, if the condition holds
+abbrev pub only_if : {A : Type 0} → Bool → Option A → Option A
+only_if true o = o
+only_if false o = None
 
 abbrev pub changed : {A B : Type 0} → (A → B) → Option A → Option B
 changed f None = None
@@ -96,18 +107,22 @@ unfoldable mutual
   pub zero_fields_by : ℕ → List Data → List TypeTree → Substitution → Option Datums
   zero_fields_by zero datas fs σ = None
   zero_fields_by (suc d) datas [] σ = Some no_data
-  zero_fields_by (suc d) datas (f ∷ fs) σ = with_both (zero_by d datas (sub f σ)) (zero_fields_by d datas fs σ) datum_and
+  zero_fields_by (suc d) datas (f ∷ fs) σ =
+      with_both (zero_by d datas (sub f σ)) (zero_fields_by d datas fs σ) datum_and
 
 unfoldable mutual
   pub eval : ℕ → Program → TermTree → Thunks → TypeTrees → History → Option (Found Value)
   eval zero p e γ δ h = None
   eval (suc d) p (var x) γ δ h = with_it (thunk_at γ x) (λ th. turn (force d p th h))
-  eval (suc d) p (global i) γ δ h = with_it (slice_get p.defs i) (λ it. turn (eval d p it.body none no_types h))
+  eval (suc d) p (global i) γ δ h =
+      with_it (slice_get p.defs i) (λ it. turn (eval d p it.body none no_types h))
   eval (suc d) p (made m) γ δ h = None
   eval (suc d) p (lam t e) γ δ h = found (closure e γ δ) 1
-  eval (suc d) p (app f a) γ δ h = turn (and_then (eval d p f γ δ h) (λ v. apply d p v (closed a γ δ) h))
+  eval (suc d) p (app f a) γ δ h =
+      turn (and_then (eval d p f γ δ h) (λ v. apply d p v (closed a γ δ) h))
   eval (suc d) p (ty_lam k e) γ δ h = found (ty_closure e γ δ) 1
-  eval (suc d) p (ty_app f t) γ δ h = turn (and_then (eval d p f γ δ h) (λ v. apply_type d p v (closed_type t δ) h))
+  eval (suc d) p (ty_app f t) γ δ h =
+      turn (and_then (eval d p f γ δ h) (λ v. apply_type d p v (closed_type t δ) h))
   eval (suc d) p (letrec g e) γ δ h = turn (eval d p e (in_group g γ δ) δ h)
   eval (suc d) p (con c) γ δ h = turn (run d p (step p.datas (con_head c) no_types none) h)
   eval (suc d) p (prim q) γ δ h = turn (run d p (step p.datas (prim_head q) no_types none) h)
@@ -125,7 +140,8 @@ unfoldable mutual
   force zero p th h = None
   force (suc d) p (closed e γ δ) h = eval d p e γ δ h
   force (suc d) p (applied f a) h = turn (and_then (force d p f h) (λ v. apply d p v a h))
-  force (suc d) p (member g i γ δ) h = with_it (body_at g i) (λ e. turn (eval d p e (in_group g γ δ) δ h))
+  force (suc d) p (member g i γ δ) h =
+      with_it (body_at g i) (λ e. turn (eval d p e (in_group g γ δ) δ h))
   force (suc d) p (field i th) h = turn (and_then (force d p th h) (λ v. with_it (fields_in v) (λ ths. with_it (thunk_at ths i) (λ x. force d p x h))))
   force (suc d) p (element j th) h = turn (and_then (force d p th h) (λ v. with_it (elements_in v) (λ ths. with_it (thunk_at ths j) (λ x. force d p x h))))
   force (suc d) p (sample th g) h = force d p th g
@@ -141,18 +157,21 @@ unfoldable mutual
   pub apply_type : ℕ → Program → Value → TypeTree → History → Option (Found Value)
   apply_type zero p v t h = None
   apply_type (suc d) p (ty_closure e γ δ) t h = turn (eval d p e γ (type_and t δ) h)
-  apply_type (suc d) p (partial hd ts ths) t h = turn (run d p (step p.datas hd (type_and t ts) ths) h)
+  apply_type (suc d) p (partial hd ts ths) t h =
+      turn (run d p (step p.datas hd (type_and t ts) ths) h)
   apply_type (suc d) p _ t h = None
 
   pub run : ℕ → Program → Step → History → Option (Found Value)
   run zero p s h = None
   run (suc d) p (gives v) h = found v 0
   run (suc d) p (goes_to th) h = force d p th h
-  run (suc d) p (computes q nats widths ths) h = seen (λ bs. changed (result q) (word_value q nats (reverse bs))) (words d p widths ths h)
+  run (suc d) p (computes q nats widths ths) h =
+      seen (λ bs. changed (result q) (word_value q nats (reverse bs))) (words d p widths ths h)
   run (suc d) p (samples f s) h = turn (and_then (force d p f h) (λ v. apply d p v (sample s h) h))
   run (suc d) p (delays c i s) h = delayed d p (taken h (dom c)) i s h
-  run (suc d) p (remembers ram) h = remembered d p (before h (dom ram.dom)) ram
-  run (suc d) p (looks_up last k v i) h = and_then (look d p k i h) (λ b. force d p (element (min (number_of b) last) v) h)
+  run (suc d) p (remembers ram) h = remembered d p (last_tick ram h) ram
+  run (suc d) p (looks_up last k v i) h =
+      and_then (look d p k i h) (λ b. force d p (element (min (number_of b) last) v) h)
   run (suc d) p stuck h = None
 
   pub delayed : ℕ → Program → Option History → Thunk → Thunk → History → Option (Found Value)
@@ -170,30 +189,35 @@ unfoldable mutual
   words (suc d) p [] none h = found [] 0
   words (suc d) p [] (thunk_and th ths) h = None
   words (suc d) p (k ∷ ks) none h = None
-  words (suc d) p (k ∷ ks) (thunk_and th ths) h = and_then (look d p k th h) (λ b. seen (λ bs. Some (b ∷ bs)) (words d p ks ths h))
+  words (suc d) p (k ∷ ks) (thunk_and th ths) h =
+      and_then (look d p k th h) (λ b. seen (λ bs. Some (b ∷ bs)) (words d p ks ths h))
 
   -- a block RAM, where its last tick was
   pub remembered : ℕ → Program → Option History → Ram → Option (Found Value)
   remembered zero p o ram = None
-  remembered (suc d) p None ram = with_it (zero_by d p.datas ram.payload) (λ z. found (value_of z) 0)
+  remembered (suc d) p None ram =
+      with_it (zero_by d p.datas ram.payload) (λ z. found (value_of z) 0)
   remembered (suc d) p (Some g) ram = and_then (look d p ram.address ram.read g) (λ b. at_address d p (nat_lt (number_of b) ram.size) ram g (number_of b))
 
   -- a block RAM at an address, which is one of its content or not
   pub at_address : ℕ → Program → Bool → Ram → History → ℕ → Option (Found Value)
   at_address zero p inside ram g a = None
-  at_address (suc d) p true ram g a = word_at d p (before g (dom ram.dom)) ram g a
-  at_address (suc d) p false ram g a = with_it (zero_by d p.datas ram.payload) (λ z. found (value_of z) 0)
+  at_address (suc d) p true ram g a = word_at d p (last_tick ram g) ram g a
+  at_address (suc d) p false ram g a =
+      with_it (zero_by d p.datas ram.payload) (λ z. found (value_of z) 0)
 
   -- the word at an address, where the tick before was
   pub word_at : ℕ → Program → Option History → Ram → History → ℕ → Option (Found Value)
   word_at zero p o ram g a = None
   word_at (suc d) p None ram g a = force d p (element a ram.content) g
-  word_at (suc d) p (Some g') ram g a = turn (and_then (force d p ram.write g') (λ v. written d p v ram g' a))
+  word_at (suc d) p (Some g') ram g a =
+      turn (and_then (force d p ram.write g') (λ v. written d p v ram g' a))
 
   -- the word at an address after a write of this value
   pub written : ℕ → Program → Value → Ram → History → ℕ → Option (Found Value)
   written zero p v ram g a = None
-  written (suc d) p (con_of (suc (suc zero)) none) ram g a = word_at d p (before g (dom ram.dom)) ram g a
+  written (suc d) p (con_of (suc (suc zero)) none) ram g a =
+      word_at d p (last_tick ram g) ram g a
   written (suc d) p (con_of (suc (suc (suc zero))) (thunk_and pair none)) ram g a = and_then (look d p ram.address (field 1 pair) g) (λ b. replaced_at d p (nat_eq (number_of b) a) pair ram g a)
   written (suc d) p _ ram g a = None
 
@@ -201,4 +225,4 @@ unfoldable mutual
   pub replaced_at : ℕ → Program → Bool → Thunk → Ram → History → ℕ → Option (Found Value)
   replaced_at zero p here pair ram g a = None
   replaced_at (suc d) p true pair ram g a = force d p (field 0 pair) g
-  replaced_at (suc d) p false pair ram g a = word_at d p (before g (dom ram.dom)) ram g a
+  replaced_at (suc d) p false pair ram g a = word_at d p (last_tick ram g) ram g a

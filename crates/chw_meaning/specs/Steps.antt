@@ -18,7 +18,8 @@ use Rattle.chw_terms.specs.Constructors.{Constructor, con_at}
 use Rattle.chw_layout.specs.Measured.{closed_value}
 use Rattle.chw_meaning.specs.Values.{Head, con_head, prim_head, Value, con_of, vec_of, partial, Thunk, closed, applied, element, known, Thunks, none, thunk_and, count_of, joined}
 
--- a block RAM: its domain, the count of its words, the width of its addresses, the type of its words, and its three arguments
+-- a block RAM: its domain, the count of its words, the width of its addresses, the type of its
+-- words, and its three arguments
 pub record Ram : Type 0 where
   pub dom : ℕ
   pub size : ℕ
@@ -33,7 +34,8 @@ pub data Step : Type 0 where
   gives : Value → Step
   -- the value of this thunk
   goes_to : Thunk → Step
-  -- a primitive on words: its natural arguments, and the widths and thunks of its words, the last one first
+  -- a primitive on words: its natural arguments, and the widths and thunks of its words, the last
+  -- one first
   computes : Prim → List ℕ → List ℕ → Thunks → Step
   -- a thunk's value on the sample of another
   samples : Thunk → Thunk → Step
@@ -99,14 +101,16 @@ folded_right j (suc n) f z v = applied (applied f (element j v)) (folded_right (
 -- all elements of the so many vectors in a vector, from this one on
 abbrev pub concatenated : ℕ → ℕ → ℕ → Thunk → Thunks
 concatenated q zero m v = none
-concatenated q (suc n) m v = joined (each_from zero m (λ r. element r (element q v))) (concatenated (suc q) n m v)
+concatenated q (suc n) m v =
+    joined (each_from zero m (λ r. element r (element q v))) (concatenated (suc q) n m v)
 
 -- `case eqU @k i j of { True -> x; False -> old; }` with i, x and old the variables 0, 1 and 2
 abbrev pub replacing : ℕ → ℕ → TermTree
 replacing k j =
     case_of (app (app (ty_app (prim EqU) (nat_lit k)) (var 0)) (lit U (bits_of k j))) (alt (OfCon (record { number = 1 }) 0) (var 1) (alt (OfCon (record { number = 0 }) 0) (var 2) no_alts))
 
--- an element of a vector in which the element at an index is replaced; an index of k bits is below 2 to the k
+-- an element of a vector in which the element at an index is replaced; an index of k bits is
+-- below 2 to the k
 abbrev pub replaced : ℕ → Thunk → Thunk → Thunk → ℕ → Thunk
 replaced k v i x j =
     if nat_lt j (2 ^ k)
@@ -126,7 +130,8 @@ abbrev pub on_words : Prim → List ℕ → Option (List ℕ) → Thunks → Ste
 on_words q nats None ths = stuck
 on_words q nats (Some widths) ths = computes q nats (reverse widths) ths
 
--- so many type arguments, and so many thunks, in the order in which they were given; no value where there are more or fewer
+-- so many type arguments, and so many thunks, in the order in which they were given; no value
+-- where there are more or fewer
 abbrev pub types_2 : TypeTrees → (TypeTree → TypeTree → Step) → Step
 types_2 (type_and b (type_and a no_types)) f = f a b
 types_2 _ f = stuck
@@ -156,8 +161,8 @@ abbrev pub in_domain : TypeTree → (ℕ → Step) → Step
 in_domain (domain d) f = f d
 in_domain _ f = stuck
 
--- a primitive on all its arguments: a line for each line of the table of the primitives' types; a line for vectors holds for both forms
--- of its primitive
+-- a primitive on all its arguments: a line for each line of the table of the primitives' types; a
+-- line for vectors holds for both forms of its primitive
 abbrev pub by_row : Row → Prim → TypeTrees → Thunks → Step
 by_row Mapping q ts ths = types_3 ts (λ d a b. thunks_2 ths (λ f s. samples f s))
 by_row Applying q ts ths = types_3 ts (λ d a b. thunks_2 ths (λ u s. samples u s))
@@ -165,18 +170,24 @@ by_row Constant q ts ths = types_2 ts (λ d a. thunks_1 ths (λ v. goes_to v))
 by_row Delay q ts ths = types_2 ts (λ t a. in_domain t (λ d. thunks_2 ths (λ i s. delays d i s)))
 by_row Memory q ts ths = types_4 ts (λ t n k a. in_domain t (λ d. thunks_3 ths (λ c r w. remembers (record { dom = d; size = closed_value (nat_sum n (nat_lit 1)); address = closed_value k; payload = a; content = c; read = r; write = w }))))
 by_row Crossing q ts ths = types_3 ts (λ d e a. thunks_1 ths (λ s. goes_to s))
-by_row (Element kind) q ts ths = types_3 ts (λ i n a. thunks_1 ths (λ v. goes_to (element (closed_value i) v)))
-by_row ElementAt q ts ths = types_3 ts (λ n k a. thunks_2 ths (λ v i. at_index (closed_value n) (closed_value k) v i))
+by_row (Element kind) q ts ths =
+    types_3 ts (λ i n a. thunks_1 ths (λ v. goes_to (element (closed_value i) v)))
+by_row ElementAt q ts ths =
+    types_3 ts (λ n k a. thunks_2 ths (λ v i. at_index (closed_value n) (closed_value k) v i))
 by_row Replaced q ts ths = types_3 ts (λ n k a. thunks_3 ths (λ v i x. gives (each (closed_value n) (replaced (closed_value k) v i x))))
 by_row (Mapped kind) q ts ths = types_3 ts (λ n a b. thunks_2 ths (λ f v. gives (each (closed_value n) (λ j. applied f (element j v)))))
 by_row (Zipped kind) q ts ths = types_4 ts (λ n a b c. thunks_3 ths (λ f v w. gives (each (closed_value n) (λ j. applied (applied f (element j v)) (element j w)))))
-by_row (FoldedLeft kind) q ts ths = types_3 ts (λ n a b. thunks_3 ths (λ f z v. goes_to (folded_left zero (closed_value n) f z v)))
-by_row (FoldedRight kind) q ts ths = types_3 ts (λ n a b. thunks_3 ths (λ f z v. goes_to (folded_right zero (closed_value n) f z v)))
+by_row (FoldedLeft kind) q ts ths =
+    types_3 ts (λ n a b. thunks_3 ths (λ f z v. goes_to (folded_left zero (closed_value n) f z v)))
+by_row (FoldedRight kind) q ts ths =
+    types_3 ts (λ n a b. thunks_3 ths (λ f z v. goes_to (folded_right zero (closed_value n) f z v)))
 by_row (Generated kind) q ts ths = types_3 ts (λ n k a. thunks_1 ths (λ f. gives (each (closed_value n) (λ j. applied f (known (word (bits_of (closed_value k) j)))))))
-by_row (Replicated kind) q ts ths = types_2 ts (λ n a. thunks_1 ths (λ x. gives (each (closed_value n) (λ j. x))))
+by_row (Replicated kind) q ts ths =
+    types_2 ts (λ n a. thunks_1 ths (λ x. gives (each (closed_value n) (λ j. x))))
 by_row (Appended kind) q ts ths = types_3 ts (λ n m a. thunks_2 ths (λ v w. gives (vec_of (joined (each_from zero (closed_value n) (λ j. element j v)) (each_from zero (closed_value m) (λ j. element j w))))))
 by_row (Concatenated kind) q ts ths = types_3 ts (λ n m a. thunks_1 ths (λ v. gives (vec_of (concatenated zero (closed_value n) (closed_value m) v))))
-by_row (Taken kind) q ts ths = types_3 ts (λ n m a. thunks_1 ths (λ v. gives (each (closed_value n) (λ j. element j v))))
+by_row (Taken kind) q ts ths =
+    types_3 ts (λ n m a. thunks_1 ths (λ v. gives (each (closed_value n) (λ j. element j v))))
 by_row (Dropped kind) q ts ths = types_3 ts (λ n m a. thunks_1 ths (λ v. gives (each (closed_value m) (λ j. element (closed_value n + j) v))))
 by_row (Reversed kind) q ts ths = types_2 ts (λ n a. thunks_1 ths (λ v. gives (each (closed_value n) (λ j. element (closed_value n - 1 - j) v))))
 by_row (Rotated kind) q ts ths = types_3 ts (λ n k a. thunks_1 ths (λ v. gives (each (closed_value n) (λ j. element ((j + closed_value k) % closed_value n) v))))
@@ -189,4 +200,5 @@ saturated (prim_head q) ts ths = by_row (row_of q) q ts ths
 
 -- a constructor or primitive on these arguments, the last one first
 abbrev pub step : List Data → Head → TypeTrees → Thunks → Step
-step datas hd ts ths = if lacks datas hd ts ths then gives (partial hd ts ths) else saturated hd ts ths
+step datas hd ts ths =
+    if lacks datas hd ts ths then gives (partial hd ts ths) else saturated hd ts ths

@@ -28,7 +28,8 @@ mutual
     closure : TermTree → Thunks → TypeTrees → Value
     -- a type lambda, by its body, with its environment
     ty_closure : TermTree → Thunks → TypeTrees → Value
-    -- a constructor or primitive with fewer arguments than it needs: types and thunks, the last one first
+    -- a constructor or primitive with fewer arguments than it needs: types and thunks, the last
+    -- one first
     partial : Head → TypeTrees → Thunks → Value
 
   -- what is evaluated only when it is needed
@@ -63,7 +64,8 @@ abbrev pub count_of : Thunks → ℕ
 count_of none = zero
 count_of (thunk_and th more) = suc (count_of more)
 
--- the closed types for the type variables, that of variable 0 first; past the end a type without variables
+-- the closed types for the type variables, that of variable 0 first; past the end a type without
+-- variables
 abbrev pub type_at : TypeTrees → ℕ → TypeTree
 type_at no_types x = nat_lit 0
 type_at (type_and t more) zero = t
@@ -81,7 +83,8 @@ joined (thunk_and th ths) more = thunk_and th (joined ths more)
 -- the members of a group, from this number on, before the thunks; the last member is variable 0
 abbrev pub members : Group → Group → ℕ → Thunks → TypeTrees → Thunks → Thunks
 members all no_bindings i γ δ before = before
-members all (bind t e g) i γ δ before = members all g (suc i) γ δ (thunk_and (member all i γ δ) before)
+members all (bind t e g) i γ δ before =
+    members all g (suc i) γ δ (thunk_and (member all i γ δ) before)
 
 -- the environment inside a recursive group
 abbrev pub in_group : Group → Thunks → TypeTrees → Thunks

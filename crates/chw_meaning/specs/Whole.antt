@@ -1,4 +1,5 @@
--- A whole program: the accumulator, with its ports, a history that fits them, and what its output means.
+-- A whole program: the accumulator, with its ports, a history that fits them, and what its output
+-- means.
 use Rattle.std.specs.Prelude.{ℕ, [], ◌∷◌, codes}
 use Rattle.chw_clock.specs.declared.event.Event.{Event}
 use Rattle.chw_bits.specs.Bits.{bits_of}
@@ -14,7 +15,21 @@ use Rattle.chw_meaning.specs.Designs.{byte, a_clock, accumulator_of}
 -- domain Sys; def main : Signal Sys byte -> Signal Sys byte = and the accumulator; top main (x) (o);
 abbrev pub accumulating : Program
 accumulating =
-    record { domains = codes "Sys" ∷ []; datas = built_in; defs = record { name = codes "main"; ty = fun (signal a_clock byte) (signal a_clock byte); body = accumulator_of } ∷ []; top = record { «def» = record { number = 0 }; inputs = codes "x" ∷ []; outputs = codes "o" ∷ [] } }
+    record {
+      domains = codes "Sys" ∷ [];
+      resets = [];
+      datas = built_in;
+      defs = record {
+        name = codes "main";
+        ty = fun (signal a_clock byte) (signal a_clock byte);
+        body = accumulator_of;
+      } ∷ [];
+      top = record {
+        «def» = record { number = 0 };
+        inputs = codes "x" ∷ [];
+        outputs = codes "o" ∷ [];
+      };
+    }
 
 -- one event with this input
 abbrev pub with_input : ℕ → Event

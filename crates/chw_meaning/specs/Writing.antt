@@ -77,9 +77,17 @@ case_one s c fields e = case_of s (alt (OfCon (record { number = c }) fields) e 
 abbrev pub def_of : TypeTree → TermTree → Def
 def_of t e = record { name = []; ty = t; body = e }
 
--- a program of these data types behind the built-in ones, and these definitions, with two domains
+-- a program of these data types behind the built-in ones, and these definitions, with two domains,
+-- none of which has a reset
 abbrev pub program : List Data → List Def → Program
-program datas defs = record { domains = [] ∷ [] ∷ []; datas = built_in ++ datas; defs = defs; top = record { «def» = record { number = 0 }; inputs = []; outputs = [] } }
+program datas defs =
+    record {
+      domains = [] ∷ [] ∷ [];
+      resets = [];
+      datas = built_in ++ datas;
+      defs = defs;
+      top = record { «def» = record { number = 0 }; inputs = []; outputs = [] };
+    }
 
 -- no data types and no definitions of its own
 abbrev pub bare : Program

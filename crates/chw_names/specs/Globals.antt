@@ -22,7 +22,7 @@ constructor_name c = c.name ∷ []
 
 -- the words by which a declaration declares names of a name space
 abbrev pub words_in : Space → Declaration → List Word
-words_in Domains (declaration.Domain w) = w ∷ []
+words_in Domains (declaration.Domain w has_reset) = w ∷ []
 words_in DataTypes (declaration.Data w ps cs) = w ∷ []
 words_in Constructors (declaration.Data w ps cs) = flat_map constructor_name cs
 words_in Definitions (declaration.Def w t e) = w ∷ []

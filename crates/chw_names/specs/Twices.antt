@@ -92,7 +92,7 @@ parameter_name p = p.name ∷ []
 
 -- within one declaration
 abbrev pub declaration_twices : Declaration → List Word
-declaration_twices (declaration.Domain w) = []
+declaration_twices (declaration.Domain w has_reset) = []
 declaration_twices (declaration.Data w ps cs) = seconds [] (flat_map parameter_name ps)
 declaration_twices (declaration.Def w t e) = term_twices e
 

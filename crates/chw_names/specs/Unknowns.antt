@@ -97,7 +97,7 @@ abbrev pub constructor_unknowns : Globals → List (List ℕ) → Constructor �
 constructor_unknowns g parameters c = flat_map (type_unknowns g parameters) c.fields
 
 abbrev pub declaration_unknowns : Globals → Declaration → List Word
-declaration_unknowns g (declaration.Domain w) = []
+declaration_unknowns g (declaration.Domain w has_reset) = []
 declaration_unknowns g (declaration.Data w ps cs) = flat_map (constructor_unknowns g (within (flat_map parameter_name ps) [])) cs
 declaration_unknowns g (declaration.Def w t e) = type_unknowns g [] t ++ term_unknowns g [] [] e
 

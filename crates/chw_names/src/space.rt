@@ -110,7 +110,7 @@ fn declare_in<'t>(
     ensures { OnOk result (Declares names.old names.new least.old least.new (words_in space declaration.now)) }
 {
     match declaration {
-        Declaration::Domain(word) => match space {
+        Declaration::Domain(word, _) => match space {
             Space::Domains => declare(names, least, word),
             Space::DataTypes | Space::Constructors | Space::Definitions => Ok(()),
         },

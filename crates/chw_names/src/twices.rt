@@ -49,7 +49,7 @@ fn within_declaration<'t>(
     ensures { OnOk result (Meets least.old least.new (declaration_twices declaration.now)) }
 {
     match declaration {
-        Declaration::Domain(_) => Ok(()),
+        Declaration::Domain(_, _) => Ok(()),
         Declaration::Data(_, words, _) => parameters(alloc, least, words.as_slice()),
         Declaration::Def(_, _, body) => term(alloc, least, body),
     }

@@ -54,7 +54,7 @@ fn within_declaration<'t>(
     ensures { OnOk result (Meets least.old least.new (declaration_unknowns globals.now declaration.now)) }
 {
     match declaration {
-        Declaration::Domain(_) => Ok(()),
+        Declaration::Domain(_, _) => Ok(()),
         Declaration::Data(_, parameters, constructors) => {
             let mut types = Scope::new(alloc);
             bind_parameters(&mut types, parameters.as_slice())?;

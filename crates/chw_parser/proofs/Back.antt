@@ -5,13 +5,13 @@ use Rattle.chw_grammar.specs.declared.program.Tree.{Tree}
 use Rattle.chw_grammar.specs.Lexemes.{Lexeme, next}
 use Rattle.chw_grammar.specs.Grammar.{TopAt, Reads}
 use Rattle.chw_parser.specs.declared.symbol.Symbol.{Symbol}
-use Rattle.chw_parser.specs.declared.symbol.Symbol.TheVariants.{Token, Word, Kind, Part, Act}
+use Rattle.chw_parser.specs.declared.symbol.Symbol.TheVariants.{Token, Word, Kind, Reset, Part, Act}
 use Rattle.chw_parser.specs.declared.symbol.Rule.{Rule}
 use Rattle.chw_parser.specs.declared.symbol.Rule.TheVariants as rule
-use Rattle.chw_parser.specs.Machine.{Reading, end, on_token, on_word, on_kind, on_part, on_act}
+use Rattle.chw_parser.specs.Machine.{Reading, end, on_token, on_word, on_kind, on_reset, on_part, on_act}
 use Rattle.chw_parser.proofs.Chosen.{is_production}
 use Rattle.chw_parser.proofs.ReadPrograms.{start}
-use Rattle.chw_parser.proofs.Said.{PartAt, Sequence, seq_done, seq_token, seq_word, seq_kind, seq_part, seq_act, said}
+use Rattle.chw_parser.proofs.Said.{PartAt, Sequence, seq_done, seq_token, seq_word, seq_kind, seq_reset, seq_part, seq_act, said}
 
 -- a front of the tokens is this part, and the other symbols read what is left, in fewer steps
 pub record Found (x : Rule) (s : List Symbol) (a : List Lexeme) (n : ℕ) : Type 0 where
@@ -42,6 +42,9 @@ all_found f ih (Word x ∷ p) _ s _ (on_word {n = n} {l = l} {ls = a} e r) h =
 all_found f ih (Kind ∷ p) _ s _ (on_kind {n = n} {l = l} {ls = a} k e r) h =
     let g = all_found f ih p n s a r (omega arith) in
     record { after = g.after; steps = g.steps; fewer = omega (arith, g.fewer); parts = seq_kind k l e g.parts; others = g.others }
+all_found f ih (Reset ∷ p) _ s _ (on_reset {n = n} {l = l} {ls = a} e r) h =
+    let g = all_found f ih p n s a r (omega arith) in
+    record { after = g.after; steps = g.steps; fewer = omega (arith, g.fewer); parts = seq_reset l e g.parts; others = g.others }
 all_found f ih (Part x ∷ p) n s a r h =
     let one = ih x n (p ++ s) a r h in
     let g = all_found f ih p one.steps s one.after one.others (omega (arith, one.fewer)) in

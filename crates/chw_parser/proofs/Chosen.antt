@@ -8,7 +8,7 @@ use Rattle.chw_parser.specs.declared.symbol.Rule.{Rule}
 use Rattle.chw_parser.specs.declared.symbol.Rule.TheVariants as rule
 use Rattle.chw_parser.specs.Productions.{production}
 use Rattle.chw_parser.proofs.Once.{some_same}
-use Rattle.chw_parser.proofs.Produces.{Produces, of_program, of_domain, of_definition, of_data, of_top, of_parameter, of_no_parameter, of_constructor, of_one_more, of_no_constructor, of_atoms, of_no_atom, of_no_input, of_inputs, of_port, of_no_port, of_field, of_no_field, of_forall, of_sum, of_arrow, of_no_arrow, of_plus, of_no_plus, of_more_plus, of_no_more_plus, of_product, of_star, of_no_star, of_more_star, of_no_more_star, of_named, of_atom, of_variable, of_name, of_numeral, of_bracketed, of_lambda, of_type_lambda, of_letrec, of_case, of_application, of_binding, of_no_binding, of_constructor_pattern, of_literal_pattern, of_default, of_no_alternative, of_arguments, of_no_arguments, of_more_arguments, of_no_more_arguments, of_type_argument, of_term_argument, of_name_term, of_constructor_term, of_literal_term, of_vec, of_bracketed_term, of_no_element, of_elements, of_element, of_no_more_element}
+use Rattle.chw_parser.proofs.Produces.{Produces, of_program, of_domain, of_definition, of_data, of_top, of_reset, of_no_reset, of_parameter, of_no_parameter, of_constructor, of_one_more, of_no_constructor, of_atoms, of_no_atom, of_no_input, of_inputs, of_port, of_no_port, of_field, of_no_field, of_forall, of_sum, of_arrow, of_no_arrow, of_plus, of_no_plus, of_more_plus, of_no_more_plus, of_product, of_star, of_no_star, of_more_star, of_no_more_star, of_named, of_atom, of_variable, of_name, of_numeral, of_bracketed, of_lambda, of_type_lambda, of_letrec, of_case, of_application, of_binding, of_no_binding, of_constructor_pattern, of_literal_pattern, of_default, of_no_alternative, of_arguments, of_no_arguments, of_more_arguments, of_no_more_arguments, of_type_argument, of_term_argument, of_name_term, of_constructor_term, of_literal_term, of_vec, of_bracketed_term, of_no_element, of_elements, of_element, of_no_more_element}
 
 as_said : {x : Rule} {p q : List Symbol} → Produces x q → Some q ≡ Some p → Produces x p
 as_said {x = x} h e = subst (λ (z : List Symbol). Produces x z) (some_same e) h
@@ -20,6 +20,8 @@ is_production rule.Declarations the.Def p e = as_said of_definition e
 is_production rule.Declarations the.Data p e = as_said of_data e
 is_production rule.Declarations the.Top p e = as_said of_top e
 is_production rule.Declarations _ p e = cc
+is_production rule.DomainEnd the.Lower p e = as_said of_reset e
+is_production rule.DomainEnd _ p e = as_said of_no_reset e
 is_production rule.Parameters the.Open p e = as_said of_parameter e
 is_production rule.Parameters _ p e = as_said of_no_parameter e
 is_production rule.Constructor _ p e = as_said of_constructor e

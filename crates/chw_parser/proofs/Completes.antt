@@ -7,8 +7,9 @@ use Rattle.chw_grammar.specs.declared.type_tree.KindTree.TheVariants as kinds
 use Rattle.chw_grammar.specs.declared.terminal.Terminal.{Terminal}
 use Rattle.chw_grammar.specs.declared.terminal.Terminal.TheVariants as the
 use Rattle.chw_grammar.specs.Lexemes.{Lexeme, terminal, next}
+use Rattle.chw_grammar.specs.Text.{lower, reset_word}
 use Rattle.chw_parser.specs.declared.symbol.Symbol.{Symbol}
-use Rattle.chw_parser.specs.declared.symbol.Symbol.TheVariants.{Token, Word, Kind, Part, Act}
+use Rattle.chw_parser.specs.declared.symbol.Symbol.TheVariants.{Token, Word, Kind, Reset, Part, Act}
 use Rattle.chw_parser.specs.declared.symbol.WordSort.{WordSort}
 use Rattle.chw_parser.specs.declared.symbol.WordSort.TheVariants as sort
 use Rattle.chw_parser.specs.declared.symbol.Rule.{Rule}
@@ -16,7 +17,7 @@ use Rattle.chw_parser.specs.declared.symbol.Rule.TheVariants as rule
 use Rattle.parser_parts.specs.declared.action.Action.{Action}
 use Rattle.chw_parser.specs.Follow.{after_product}
 use Rattle.chw_parser.specs.Ending.{goes_on, begins, word_terminal, first, is_end, Fine}
-use Rattle.chw_parser.specs.Machine.{is_word, Reading, end, on_token, on_word, on_kind, on_part, on_act}
+use Rattle.chw_parser.specs.Machine.{is_word, Reading, end, on_token, on_word, on_kind, on_reset, on_part, on_act}
 use Rattle.chw_parser.specs.Productions.{production}
 use Rattle.chw_parser.proofs.Choices.{no_arrow, type_sum, sum_product, no_plus, no_more_plus, no_star, no_more_star, no_atom, no_argument, no_more_argument, no_field}
 
@@ -232,6 +233,7 @@ rule_read rule.Program a r h =
     let d = declarations_read r in
     record { tokens = d.tokens; steps = _; reading = on_part _ refl (on_act d.reading); begin = d.begin }
 rule_read rule.Declarations a r h = declarations_read r
+rule_read rule.DomainEnd a r h = record { tokens = sample the.Semicolon ∷ a; steps = _; reading = on_part _ refl (on_token refl (on_act r)); begin = refl }
 rule_read rule.Parameters a r h = record { tokens = a; steps = _; reading = empty r (no_parameter (next a) h); begin = refl }
 rule_read rule.Constructor a r h =
     record { tokens = sample the.Upper ∷ a; steps = _; reading = on_part _ refl (on_word refl (on_act (empty (on_act r) (no_atom (next a) h)))); begin = refl }
@@ -273,6 +275,9 @@ completes (Word x ∷ s) f =
 completes (Kind ∷ s) f =
     let c = completes s f in
     record { tokens = sample the.Nat ∷ c.tokens; steps = suc c.steps; reading = on_kind kinds.Nat refl c.reading; begin = refl }
+completes (Reset ∷ s) f =
+    let c = completes s f in
+    record { tokens = lower reset_word ∷ c.tokens; steps = suc c.steps; reading = on_reset (refl, refl) c.reading; begin = refl }
 completes (Part x ∷ s) f =
     let c = completes s f.1 in
     let g = rule_read x c.tokens c.reading (ap (goes_on x) c.begin ∙ f.0) in

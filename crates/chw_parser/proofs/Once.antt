@@ -9,7 +9,7 @@ use Rattle.chw_grammar.specs.Lexemes.{Lexeme, kind_terminal}
 use Rattle.chw_parser.specs.declared.symbol.Symbol.{Symbol}
 use Rattle.parser_parts.specs.declared.value.Value.{Value}
 use Rattle.parser_parts.specs.declared.value.Value.TheVariants.{OneKind}
-use Rattle.chw_parser.specs.Machine.{Runs, all_read, token, word, kind, part, act}
+use Rattle.chw_parser.specs.Machine.{Runs, all_read, token, word, kind, reset, part, act}
 
 kind_back : Terminal → KindTree
 kind_back the.Nat = kinds.Nat
@@ -35,6 +35,7 @@ pub one_run : {s : List Symbol} {a : List Lexeme} {vs o1 o2 : List Value} → Ru
 one_run all_read all_read = refl
 one_run (token e r) (token f q) = one_run r q
 one_run (word e r) (word f q) = one_run r q
+one_run (reset e r) (reset f q) = one_run r q
 one_run {s = s} {a = a} {vs = vs} {o1 = o1} {o2 = o2} (kind {s = s'} {ls = ls} j e r) (kind k f q) =
     one_run r (subst (λ (z : KindTree). Runs s' ls (OneKind z ∷ vs) o2) (same_kind k j (sym f ∙ e)) q)
 one_run {vs = vs} {o2 = o2} (part {s = s'} {ls = ls} p e r) (part p' f q) =

@@ -1,8 +1,8 @@
 -- The productions of each rule, whatever the next terminal is.
-use Rattle.std.specs.Prelude.{List, [], ◌∷◌}
+use Rattle.std.specs.Prelude.{true, false, List, [], ◌∷◌}
 use Rattle.chw_grammar.specs.declared.terminal.Terminal.TheVariants as the
 use Rattle.chw_parser.specs.declared.symbol.Symbol.{Symbol}
-use Rattle.chw_parser.specs.declared.symbol.Symbol.TheVariants.{Token, Word, Kind, Part, Act}
+use Rattle.chw_parser.specs.declared.symbol.Symbol.TheVariants.{Token, Word, Kind, Reset, Part, Act}
 use Rattle.chw_parser.specs.declared.symbol.WordSort.TheVariants as sort
 use Rattle.chw_parser.specs.declared.symbol.Rule.{Rule}
 use Rattle.chw_parser.specs.declared.symbol.Rule.TheVariants as rule
@@ -10,10 +10,12 @@ use Rattle.parser_parts.specs.declared.action.Action.TheVariants as act
 
 pub data Produces : Rule → List Symbol → Type 0 where
   of_program : Produces rule.Program (Act act.NoDeclarations ∷ Part rule.Declarations ∷ [])
-  of_domain : Produces rule.Declarations (Token the.Domain ∷ Word sort.Upper ∷ Token the.Semicolon ∷ Act act.Domain ∷ Part rule.Declarations ∷ [])
+  of_domain : Produces rule.Declarations (Token the.Domain ∷ Word sort.Upper ∷ Part rule.DomainEnd ∷ Part rule.Declarations ∷ [])
   of_definition : Produces rule.Declarations (Token the.Def ∷ Word sort.Lower ∷ Token the.Colon ∷ Part rule.Type ∷ Token the.Equals ∷ Part rule.Term ∷ Token the.Semicolon ∷ Act act.Definition ∷ Part rule.Declarations ∷ [])
   of_data : Produces rule.Declarations (Token the.Data ∷ Word sort.Upper ∷ Act act.NoParameters ∷ Part rule.Parameters ∷ Token the.Equals ∷ Act act.NoConstructors ∷ Part rule.Constructor ∷ Part rule.Constructors ∷ Token the.Semicolon ∷ Act act.DataType ∷ Part rule.Declarations ∷ [])
   of_top : Produces rule.Declarations (Token the.Top ∷ Word sort.Lower ∷ Token the.Open ∷ Act act.NoWords ∷ Part rule.Inputs ∷ Token the.Close ∷ Token the.Open ∷ Act act.NoWords ∷ Word sort.Lower ∷ Act act.Word ∷ Part rule.Ports ∷ Token the.Close ∷ Token the.Semicolon ∷ Act act.Tree ∷ [])
+  of_reset : Produces rule.DomainEnd (Reset ∷ Token the.Semicolon ∷ Act (act.Domain true) ∷ [])
+  of_no_reset : Produces rule.DomainEnd (Token the.Semicolon ∷ Act (act.Domain false) ∷ [])
   of_parameter : Produces rule.Parameters (Token the.Open ∷ Word sort.Lower ∷ Token the.Colon ∷ Kind ∷ Token the.Close ∷ Act act.Parameter ∷ Part rule.Parameters ∷ [])
   of_no_parameter : Produces rule.Parameters ([])
   of_constructor : Produces rule.Constructor (Word sort.Upper ∷ Act act.NoTypes ∷ Part rule.Atoms ∷ Act act.Constructor ∷ [])

@@ -10,7 +10,7 @@ use Rattle.chw_grammar.specs.declared.program.Declaration.TheVariants as declara
 use Rattle.chw_grammar.specs.declared.program.Top.{Top}
 use Rattle.chw_grammar.specs.declared.program.Tree.{Tree}
 use Rattle.chw_grammar.specs.Lexemes.{Lexeme, next}
-use Rattle.chw_grammar.specs.Grammar.{is_lower, ParametersAt, no_parameter, parameter, ConstructorAt, constructor, ConstructorsAt, no_constructor, one_more, DeclarationAt, domain_declared, definition_declared, data_declared, DeclarationsAt, no_declaration, declared, MorePortsAt, no_port, port, PortsAt, ports, InputNamesAt, no_input, input_names, InputsAt, inputs, TopAt, top, Reads}
+use Rattle.chw_grammar.specs.Grammar.{is_lower, ParametersAt, no_parameter, parameter, ConstructorAt, constructor, ConstructorsAt, no_constructor, one_more, DeclarationAt, domain_declared, reset_declared, definition_declared, data_declared, DeclarationsAt, no_declaration, declared, MorePortsAt, no_port, port, PortsAt, ports, InputNamesAt, no_input, input_names, InputsAt, inputs, TopAt, top, Reads}
 use Rattle.parser_parts.specs.declared.action.Action.TheVariants as action
 use Rattle.chw_parser.specs.declared.symbol.Symbol.{Symbol}
 use Rattle.chw_parser.specs.declared.symbol.Symbol.TheVariants.{Part, Act, Token}
@@ -26,7 +26,7 @@ use Rattle.chw_parser.proofs.Choices.{lower_is}
 use Rattle.chw_parser.proofs.Made.{constructor_made, data_made, tree_made}
 use Rattle.chw_parser.proofs.ReadTypes.{type_runs, atoms_run}
 use Rattle.chw_parser.proofs.ReadTerms.{term_runs}
-use Rattle.chw_parser.proofs.Steps.{takes_next, word_next, tokens_run, word_runs, kind_runs}
+use Rattle.chw_parser.proofs.Steps.{takes_next, word_next, tokens_run, word_runs, kind_runs, reset_runs}
 
 pub parameters_run : {ps : List Parameter} {a b : List Lexeme} → ParametersAt ps a b → next b ≡ the.Equals → (done : List Parameter)
     → {s : List Symbol} {vs out : List Value} → Runs s b (Parameters (onto ps done) ∷ vs) out → Runs (Part rule.Parameters ∷ s) a (Parameters done ∷ vs) out
@@ -85,9 +85,15 @@ inputs_run {b = last} (inputs b c h1 names h2) r =
 declaration_runs : {x : Declaration} {a b : List Lexeme} → DeclarationAt x a b → {done : List Declaration}
     → {s : List Symbol} {vs out : List Value} → Runs (Part rule.Declarations ∷ s) b (Declarations (x ∷ done) ∷ vs) out
     → Runs (Part rule.Declarations ∷ s) a (Declarations done ∷ vs) out
-declaration_runs {a = a} (domain_declared b c h1 h2 h3) r =
+declaration_runs {a = a} {b = last} (domain_declared b c h1 h2 h3) r =
     part _ (ap (production rule.Declarations) (takes_next the.Domain [] a b h1))
-    (tokens_run (the.Domain ∷ []) h1 (word_runs sort.Upper h2 (tokens_run (the.Semicolon ∷ []) h3 (act _ refl r))))
+    (tokens_run (the.Domain ∷ []) h1 (word_runs sort.Upper h2
+    (part _ (ap (production rule.DomainEnd) (takes_next the.Semicolon [] c last h3)) (tokens_run (the.Semicolon ∷ []) h3 (act _ refl r)))))
+declaration_runs {a = a} (reset_declared b c d h1 h2 h3 h4) r =
+    part _ (ap (production rule.Declarations) (takes_next the.Domain [] a b h1))
+    (tokens_run (the.Domain ∷ []) h1 (word_runs sort.Upper h2
+    (part _ (ap (production rule.DomainEnd) (lower_is (next c) (word_next is_lower h3.0 c d h3.1)))
+    (reset_runs h3 (tokens_run (the.Semicolon ∷ []) h4 (act _ refl r))))))
 declaration_runs {a = a} {b = last} (definition_declared b c d f g h h1 h2 h3 t h4 e h5) r =
     part _ (ap (production rule.Declarations) (takes_next the.Def [] a b h1))
     (tokens_run (the.Def ∷ []) h1 (word_runs sort.Lower h2 (tokens_run (the.Colon ∷ []) h3 (type_runs t (ap after_type (takes_next the.Equals [] f g h4))

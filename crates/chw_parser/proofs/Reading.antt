@@ -15,12 +15,12 @@ use Rattle.parser_parts.specs.declared.value.Value.{Value}
 use Rattle.parser_parts.specs.declared.value.Value.TheVariants.{OneWord, OneKind, Whole}
 use Rattle.parser_parts.specs.Parts.{Stands}
 use Rattle.chw_parser.specs.declared.symbol.Symbol.{Symbol}
-use Rattle.chw_parser.specs.declared.symbol.Symbol.TheVariants.{Token, Word, Kind, Part, Act}
+use Rattle.chw_parser.specs.declared.symbol.Symbol.TheVariants.{Token, Word, Kind, Reset, Part, Act}
 use Rattle.chw_parser.specs.declared.symbol.WordSort.{WordSort}
 use Rattle.chw_parser.specs.declared.machine.Wanted.{Wanted}
 use Rattle.chw_parser.specs.declared.machine.Wanted.TheVariants.{Take, Nothing, Refused}
 use Rattle.chw_parser.specs.Faults.{BeginsProgram}
-use Rattle.chw_parser.specs.Machine.{is_word, Runs, all_read, token, word, kind, Reading, end, on_token, on_word, on_kind}
+use Rattle.chw_parser.specs.Machine.{is_word, IsReset, Runs, all_read, token, word, kind, reset, Reading, end, on_token, on_word, on_kind, on_reset}
 use Rattle.chw_parser.specs.State.{start, IsLeaf, Goes, Ahead, Refuses, IsWanted, IsTaken, Behind, IsRead, IsState}
 use Rattle.chw_parser.proofs.Back.{tree_found}
 use Rattle.chw_parser.proofs.Completes.{completes}
@@ -52,6 +52,12 @@ kind_is : {s : List Symbol} {l : Lexeme} {more : List Lexeme} {vs out : List Val
     → Runs (Kind ∷ s) (l ∷ more) vs out → (k : KindTree) × (terminal l ≡ kind_terminal k)
 kind_is (kind j e r) = (j, e)
 
+reset_runs : {s : List Symbol} {l : Lexeme} {more : List Lexeme} {vs out : List Value} → Runs (Reset ∷ s) (l ∷ more) vs out → Runs s more vs out
+reset_runs (reset e r) = r
+
+reset_is : {s : List Symbol} {l : Lexeme} {more : List Lexeme} {vs out : List Value} → Runs (Reset ∷ s) (l ∷ more) vs out → IsReset (terminal l) (word_of l)
+reset_is (reset e r) = e
+
 stands_along : {p q : Parts} {vs : List Value} → q ≡ p → Stands p vs → Stands q vs
 stands_along {vs = vs} e st = subst (λ (z : Parts). Stands z vs) (sym e) st
 
@@ -77,6 +83,12 @@ taken_read l Kind s t p1 p2 p3 true i a h = record {
   fine = λ f. a.fine f;
 }
 taken_read l Kind s t p1 p2 p3 false i a h = λ more out g. let k = kind_is (a.runs (l ∷ more) out refl g).runs in h k.0 k.1
+taken_read l Reset s t p1 p2 p3 true i a h = record {
+  runs = λ more out g. let k = a.runs (l ∷ more) out refl g in record { before = k.before; stands = stands_along h.1 k.stands; runs = reset_runs k.runs };
+  reads = λ more n r. a.reads (l ∷ more) (suc n) refl (on_reset h.0 r);
+  fine = λ f. a.fine f;
+}
+taken_read l Reset s t p1 p2 p3 false i a h = λ more out g. h (reset_is (a.runs (l ∷ more) out refl g).runs)
 taken_read l (Part x) s t p1 p2 p3 b i a h = absurd i
 taken_read l (Act x) s t p1 p2 p3 b i a h = absurd i
 
@@ -129,6 +141,7 @@ leaf_wants : {y : Symbol} {t : List Symbol} {us out : List Value} → IsLeaf y �
 leaf_wants {y = Token x} i r = elim r [ ]
 leaf_wants {y = Word x} i r = elim r [ ]
 leaf_wants {y = Kind} i r = elim r [ ]
+leaf_wants {y = Reset} i r = elim r [ ]
 leaf_wants {y = Part x} i r = absurd i
 leaf_wants {y = Act x} i r = absurd i
 

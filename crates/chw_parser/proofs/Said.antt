@@ -1,5 +1,5 @@
 -- What the symbols of a production read, the grammar reads.
-use Rattle.std.specs.Prelude.{◌≡◌, IsTrue, List, [], ◌∷◌, refl, ◌⊎◌}
+use Rattle.std.specs.Prelude.{◌≡◌, true, false, IsTrue, List, [], ◌∷◌, refl, ◌⊎◌}
 use Rattle.std.proofs.Common.{inl, inr, subst}
 use Rattle.chw_grammar.specs.declared.type_tree.KindTree.{KindTree}
 use Rattle.chw_grammar.specs.declared.terminal.Terminal.{Terminal}
@@ -16,24 +16,25 @@ use Rattle.chw_grammar.specs.declared.program.Declaration.{Declaration}
 use Rattle.chw_grammar.specs.declared.program.Declaration.TheVariants as declaration
 use Rattle.chw_grammar.specs.declared.program.Top.{Top}
 use Rattle.chw_grammar.specs.Lexemes.{Lexeme, terminal, kind_terminal, word_of}
-use Rattle.chw_grammar.specs.Grammar.{Takes, TypeAt, forall_type, sum_type, arrow_type, SumAt, one_product, sum_of, SummandsAt, no_summand, summand, ProductAt, one_factor, product_of, FactorsAt, no_factor, factor, AppliedAt, named_type, atom_type, AtomsAt, no_atom, atom, AtomAt, variable_type, name_type, numeral_type, bracketed_type, NamesAt, no_name, name, constructor_pattern, literal_pattern, TermAt, lambda, type_lambda, letrec, case_of, application, BindingsAt, no_binding, binding, AlternativesAt, no_alternative, alternative, default, head_alone, applied, ArgumentsAt, no_argument, argument, ArgumentAt, term_argument, type_argument, SimpleAt, name_term, constructor_term, literal_term, vec_term, bracketed_term, ElementsAt, no_element, elements, MoreElementsAt, no_more_element, element, ParametersAt, no_parameter, parameter, ConstructorAt, constructor, ConstructorsAt, no_constructor, one_more, domain_declared, definition_declared, data_declared, DeclarationsAt, no_declaration, declared, MorePortsAt, no_port, port, ports, InputNamesAt, no_input, input_names, inputs, TopAt, top}
+use Rattle.chw_grammar.specs.Grammar.{Takes, UpperAt, ResetAt, TypeAt, forall_type, sum_type, arrow_type, SumAt, one_product, sum_of, SummandsAt, no_summand, summand, ProductAt, one_factor, product_of, FactorsAt, no_factor, factor, AppliedAt, named_type, atom_type, AtomsAt, no_atom, atom, AtomAt, variable_type, name_type, numeral_type, bracketed_type, NamesAt, no_name, name, constructor_pattern, literal_pattern, TermAt, lambda, type_lambda, letrec, case_of, application, BindingsAt, no_binding, binding, AlternativesAt, no_alternative, alternative, default, head_alone, applied, ArgumentsAt, no_argument, argument, ArgumentAt, term_argument, type_argument, SimpleAt, name_term, constructor_term, literal_term, vec_term, bracketed_term, ElementsAt, no_element, elements, MoreElementsAt, no_more_element, element, ParametersAt, no_parameter, parameter, ConstructorAt, constructor, ConstructorsAt, no_constructor, one_more, DeclarationAt, domain_declared, reset_declared, definition_declared, data_declared, DeclarationsAt, no_declaration, declared, MorePortsAt, no_port, port, ports, InputNamesAt, no_input, input_names, inputs, TopAt, top}
 use Rattle.chw_grammar.specs.TypeTree.{Ty, type_forall, type_arrow, type_sum, type_product, type_named, type_variable, type_numeral, no_types}
 use Rattle.chw_grammar.specs.TypeView.{types_of}
 use Rattle.chw_grammar.specs.TermTree.{Tm, term_lambda, term_type_lambda, term_letrec, term_case, term_apply, term_name, term_constructor, term_literal, term_vec}
 use Rattle.chw_grammar.specs.TermView.{terms_of, bindings_of, alternatives_of, arguments_of}
 use Rattle.chw_parser.specs.declared.symbol.Symbol.{Symbol}
-use Rattle.chw_parser.specs.declared.symbol.Symbol.TheVariants.{Token, Word, Kind, Part, Act}
+use Rattle.chw_parser.specs.declared.symbol.Symbol.TheVariants.{Token, Word, Kind, Reset, Part, Act}
 use Rattle.chw_parser.specs.declared.symbol.WordSort.{WordSort}
 use Rattle.chw_parser.specs.declared.symbol.Rule.{Rule}
 use Rattle.chw_parser.specs.declared.symbol.Rule.TheVariants as rule
 use Rattle.parser_parts.specs.declared.action.Action.{Action}
-use Rattle.chw_parser.specs.Machine.{is_word}
-use Rattle.chw_parser.proofs.Produces.{Produces, of_program, of_domain, of_definition, of_data, of_top, of_parameter, of_no_parameter, of_constructor, of_one_more, of_no_constructor, of_atoms, of_no_atom, of_no_input, of_inputs, of_port, of_no_port, of_field, of_no_field, of_forall, of_sum, of_arrow, of_no_arrow, of_plus, of_no_plus, of_more_plus, of_no_more_plus, of_product, of_star, of_no_star, of_more_star, of_no_more_star, of_named, of_atom, of_variable, of_name, of_numeral, of_bracketed, of_lambda, of_type_lambda, of_letrec, of_case, of_application, of_binding, of_no_binding, of_constructor_pattern, of_literal_pattern, of_default, of_no_alternative, of_arguments, of_no_arguments, of_more_arguments, of_no_more_arguments, of_type_argument, of_term_argument, of_name_term, of_constructor_term, of_literal_term, of_vec, of_bracketed_term, of_no_element, of_elements, of_element, of_no_more_element}
+use Rattle.chw_parser.specs.Machine.{is_word, IsReset}
+use Rattle.chw_parser.proofs.Produces.{Produces, of_program, of_domain, of_definition, of_data, of_top, of_reset, of_no_reset, of_parameter, of_no_parameter, of_constructor, of_one_more, of_no_constructor, of_atoms, of_no_atom, of_no_input, of_inputs, of_port, of_no_port, of_field, of_no_field, of_forall, of_sum, of_arrow, of_no_arrow, of_plus, of_no_plus, of_more_plus, of_no_more_plus, of_product, of_star, of_no_star, of_more_star, of_no_more_star, of_named, of_atom, of_variable, of_name, of_numeral, of_bracketed, of_lambda, of_type_lambda, of_letrec, of_case, of_application, of_binding, of_no_binding, of_constructor_pattern, of_literal_pattern, of_default, of_no_alternative, of_arguments, of_no_arguments, of_more_arguments, of_no_more_arguments, of_type_argument, of_term_argument, of_name_term, of_constructor_term, of_literal_term, of_vec, of_bracketed_term, of_no_element, of_elements, of_element, of_no_more_element}
 
 -- the grammar reads, from the first tokens up to the second, what the rule stands for
 abbrev pub PartAt : Rule → List Lexeme → List Lexeme → Type 0
 PartAt rule.Program a b = (ds : List Declaration) × (x : Top) × (c : List Lexeme) × DeclarationsAt ds a c × TopAt x c b
 PartAt rule.Declarations a b = (ds : List Declaration) × (x : Top) × (c : List Lexeme) × DeclarationsAt ds a c × TopAt x c b
+PartAt rule.DomainEnd a b = Takes (the.Semicolon ∷ []) a b ⊎ ((c : List Lexeme) × ResetAt a c × Takes (the.Semicolon ∷ []) c b)
 PartAt rule.Parameters a b = (ps : List Parameter) × ParametersAt ps a b
 PartAt rule.Constructor a b = (x : Constructor) × ConstructorAt x a b
 PartAt rule.Constructors a b = (xs : List Constructor) × ConstructorsAt xs a b
@@ -68,6 +69,8 @@ pub data Sequence : List Symbol → List Lexeme → List Lexeme → Type 0 where
       → IsTrue (is_word x (terminal l)) → Sequence s a b → Sequence (Word x ∷ s) (l ∷ a) b
   seq_kind : {s : List Symbol} {a b : List Lexeme} (k : KindTree) (l : Lexeme)
       → terminal l ≡ kind_terminal k → Sequence s a b → Sequence (Kind ∷ s) (l ∷ a) b
+  seq_reset : {s : List Symbol} {a b : List Lexeme} (l : Lexeme)
+      → IsReset (terminal l) (word_of l) → Sequence s a b → Sequence (Reset ∷ s) (l ∷ a) b
   seq_part : {x : Rule} {s : List Symbol} {a b : List Lexeme} (c : List Lexeme) → PartAt x a c → Sequence s c b → Sequence (Part x ∷ s) a b
   seq_act : {x : Action} {s : List Symbol} {a b : List Lexeme} → Sequence s a b → Sequence (Act x ∷ s) a b
 
@@ -89,16 +92,25 @@ arrow_from {t = t} {a = a} {b = b} {c = c} d tail = elim tail [
   | inr w ↦ (type_arrow t w.1, arrow_type _ _ d w.2 w.3)
 ]
 
+domain_from : (w : WordTree) {a d : List Lexeme} (b c : List Lexeme) → Takes (the.Domain ∷ []) a b → UpperAt w b c → PartAt rule.DomainEnd c d → (x : Declaration) × DeclarationAt x a d
+domain_from w b c h1 h2 end = elim end [
+  | inl h3 ↦ (declaration.Domain w false, domain_declared _ _ h1 h2 h3)
+  | inr h3 ↦ (declaration.Domain w true, reset_declared _ _ _ h1 h2 h3.1 h3.2)
+]
+
 pub said : {x : Rule} {p : List Symbol} {a b : List Lexeme} → Produces x p → Sequence p a b → PartAt x a b
 said of_program (seq_act (seq_part c1 x1 seq_done)) = x1
-said of_domain (seq_token l0 e0 (seq_word l1 e1 (seq_token l2 e2 (seq_act (seq_part c4 x1 seq_done))))) =
-    (declaration.Domain (word_of l1) ∷ x1.0, x1.1, x1.2, declared _ (domain_declared _ _ (e0, refl) (e1, refl, refl) (e2, refl)) x1.3, x1.4)
+said of_domain (seq_token l0 e0 (seq_word {a = a} l1 e1 (seq_part c2 x1 (seq_part c3 x2 seq_done)))) =
+    let one = domain_from (word_of l1) (l1 ∷ a) a (e0, refl) (e1, refl, refl) x1 in
+    (one.0 ∷ x2.0, x2.1, x2.2, declared _ one.1 x2.3, x2.4)
 said of_definition (seq_token l0 e0 (seq_word l1 e1 (seq_token l2 e2 (seq_part c3 x1 (seq_token l4 e4 (seq_part c5 x2 (seq_token l6 e6 (seq_act (seq_part c8 x3 seq_done))))))))) =
     (declaration.Def (word_of l1) x1.0 x2.0 ∷ x3.0, x3.1, x3.2, declared _ (definition_declared _ _ _ _ _ _ (e0, refl) (e1, refl, refl) (e2, refl) x1.1 (e4, refl) x2.1 (e6, refl)) x3.3, x3.4)
 said of_data (seq_token l0 e0 (seq_word l1 e1 (seq_act (seq_part c3 x1 (seq_token l4 e4 (seq_act (seq_part c6 x2 (seq_part c7 x3 (seq_token l8 e8 (seq_act (seq_part c10 x4 seq_done))))))))))) =
     (declaration.Data (word_of l1) x1.0 (x2.0 ∷ x3.0) ∷ x4.0, x4.1, x4.2, declared _ (data_declared _ _ _ _ _ _ (e0, refl) (e1, refl, refl) x1.1 (e4, refl) x2.1 x3.1 (e8, refl)) x4.3, x4.4)
 said of_top (seq_token l0 e0 (seq_word l1 e1 (seq_token l2 e2 (seq_act (seq_part c4 x1 (seq_token l5 e5 (seq_token l6 e6 (seq_act (seq_word l8 e8 (seq_act (seq_part c10 x2 (seq_token l11 e11 (seq_token l12 e12 (seq_act seq_done)))))))))))))) =
     ([], record { definition = (word_of l1); inputs = x1.0; outputs = (word_of l8) ∷ x2.0 }, _, no_declaration, top _ _ _ _ (e0, refl) (e1, refl, refl) (inputs _ _ (e2, refl) x1.1 (e5, refl)) (ports _ _ _ (e6, refl) (e8, refl, refl) x2.1 (e11, refl)) (e12, refl))
+said of_reset (seq_reset l0 e0 (seq_token l1 e1 (seq_act seq_done))) = inr (_, (word_of l0, (e0.0, refl, refl), e0.1), (e1, refl))
+said of_no_reset (seq_token l0 e0 (seq_act seq_done)) = inl (e0, refl)
 said of_parameter (seq_token l0 e0 (seq_word l1 e1 (seq_token l2 e2 (seq_kind k l3 e3 (seq_token l4 e4 (seq_act (seq_part c6 x1 seq_done))))))) =
     (record { name = (word_of l1); kind = k } ∷ x1.0, parameter _ _ _ _ _ (e0, refl) (e1, refl, refl) (e2, refl) (e3, refl) (e4, refl) x1.1)
 said of_no_parameter seq_done = ([], no_parameter)

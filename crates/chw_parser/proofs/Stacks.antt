@@ -8,7 +8,7 @@ use Rattle.chw_parser.specs.declared.symbol.Symbol.TheVariants.{Part}
 use Rattle.chw_parser.specs.declared.symbol.Rule.{Rule}
 use Rattle.chw_parser.specs.declared.symbol.Rule.TheVariants as rule
 use Rattle.chw_parser.specs.Ending.{goes_on, first, Fine, weight}
-use Rattle.chw_parser.proofs.Produces.{Produces, of_program, of_domain, of_definition, of_data, of_top, of_parameter, of_no_parameter, of_constructor, of_one_more, of_no_constructor, of_atoms, of_no_atom, of_no_input, of_inputs, of_port, of_no_port, of_field, of_no_field, of_forall, of_sum, of_arrow, of_no_arrow, of_plus, of_no_plus, of_more_plus, of_no_more_plus, of_product, of_star, of_no_star, of_more_star, of_no_more_star, of_named, of_atom, of_variable, of_name, of_numeral, of_bracketed, of_lambda, of_type_lambda, of_letrec, of_case, of_application, of_binding, of_no_binding, of_constructor_pattern, of_literal_pattern, of_default, of_no_alternative, of_arguments, of_no_arguments, of_more_arguments, of_no_more_arguments, of_type_argument, of_term_argument, of_name_term, of_constructor_term, of_literal_term, of_vec, of_bracketed_term, of_no_element, of_elements, of_element, of_no_more_element}
+use Rattle.chw_parser.proofs.Produces.{Produces, of_program, of_domain, of_definition, of_data, of_top, of_reset, of_no_reset, of_parameter, of_no_parameter, of_constructor, of_one_more, of_no_constructor, of_atoms, of_no_atom, of_no_input, of_inputs, of_port, of_no_port, of_field, of_no_field, of_forall, of_sum, of_arrow, of_no_arrow, of_plus, of_no_plus, of_more_plus, of_no_more_plus, of_product, of_star, of_no_star, of_more_star, of_no_more_star, of_named, of_atom, of_variable, of_name, of_numeral, of_bracketed, of_lambda, of_type_lambda, of_letrec, of_case, of_application, of_binding, of_no_binding, of_constructor_pattern, of_literal_pattern, of_default, of_no_alternative, of_arguments, of_no_arguments, of_more_arguments, of_no_more_arguments, of_type_argument, of_term_argument, of_name_term, of_constructor_term, of_literal_term, of_vec, of_bracketed_term, of_no_element, of_elements, of_element, of_no_more_element}
 
 ends_Constructor_Atoms : (x : Terminal) → goes_on rule.Constructor x ≡ false → goes_on rule.Atoms x ≡ false
 ends_Constructor_Atoms the.Domain h = cc
@@ -100,6 +100,8 @@ still_fine of_domain s h f = (refl, (refl, (refl, f)))
 still_fine of_definition s h f = (refl, (refl, (refl, (refl, (refl, (refl, (refl, f)))))))
 still_fine of_data s h f = (refl, (refl, (refl, (refl, (refl, (refl, (refl, f)))))))
 still_fine of_top s h f = (refl, (refl, (refl, (refl, (refl, (refl, (refl, (refl, f))))))))
+still_fine of_reset s h f = (refl, f)
+still_fine of_no_reset s h f = (refl, f)
 still_fine of_parameter s h f = (refl, (refl, (refl, (h, f))))
 still_fine of_no_parameter s h f = f
 still_fine of_constructor s h f = (ends_Constructor_Atoms (first s) h, f)
@@ -165,6 +167,8 @@ lighter of_domain s = omega arith
 lighter of_definition s = omega arith
 lighter of_data s = omega arith
 lighter of_top s = omega arith
+lighter of_reset s = omega arith
+lighter of_no_reset s = omega arith
 lighter of_parameter s = omega arith
 lighter of_no_parameter s = omega arith
 lighter of_constructor s = omega arith

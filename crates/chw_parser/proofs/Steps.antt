@@ -1,17 +1,17 @@
 -- Tokens, words and kinds are read by their symbols.
-use Rattle.std.specs.Prelude.{◌≡◌, Bool, IsTrue, List, [], ◌∷◌}
-use Rattle.std.proofs.Common.{sym, subst}
+use Rattle.std.specs.Prelude.{◌≡◌, ℕ, Bool, IsTrue, List, [], ◌∷◌}
+use Rattle.std.proofs.Common.{sym, ap, ◌∙◌, subst}
 use Rattle.chw_grammar.specs.declared.type_tree.KindTree.{KindTree}
 use Rattle.chw_grammar.specs.declared.terminal.Terminal.{Terminal}
 use Rattle.chw_grammar.specs.declared.word.Word.{Word as WordTree}
 use Rattle.chw_grammar.specs.Lexemes.{Lexeme, next, word_of}
-use Rattle.chw_grammar.specs.Grammar.{Takes, WordAt, KindAt}
+use Rattle.chw_grammar.specs.Grammar.{Takes, WordAt, KindAt, ResetAt}
 use Rattle.chw_parser.specs.declared.symbol.WordSort.{WordSort}
 use Rattle.chw_parser.specs.declared.symbol.Symbol.{Symbol}
-use Rattle.chw_parser.specs.declared.symbol.Symbol.TheVariants.{Token, Word, Kind}
+use Rattle.chw_parser.specs.declared.symbol.Symbol.TheVariants.{Token, Word, Kind, Reset}
 use Rattle.parser_parts.specs.declared.value.Value.{Value}
 use Rattle.parser_parts.specs.declared.value.Value.TheVariants.{OneWord, OneKind}
-use Rattle.chw_parser.specs.Machine.{is_word, Runs, token, word, kind}
+use Rattle.chw_parser.specs.Machine.{is_word, Runs, token, word, kind, reset}
 
 -- the tokens, before other symbols
 abbrev pub tokens : List Terminal → List Symbol → List Symbol
@@ -43,3 +43,9 @@ pub kind_runs : (k : KindTree) {a b : List Lexeme} {s : List Symbol} {vs out : L
 kind_runs k {a = []} h r = absurd h
 kind_runs k {a = l ∷ a} {s = s} {vs = vs} {out = out} h r =
     kind k h.0 (subst (λ (z : List Lexeme). Runs s z (OneKind k ∷ vs) out) (sym h.1) r)
+
+pub reset_runs : {a b : List Lexeme} {s : List Symbol} {vs out : List Value} → ResetAt a b → Runs s b vs out → Runs (Reset ∷ s) a vs out
+reset_runs {a = []} h r = absurd h.1
+reset_runs {a = l ∷ a} {s = s} {vs = vs} {out = out} h r =
+    let bytes : WordTree → List ℕ = λ w. w.bytes in
+    reset (h.1.0, ap bytes (sym h.1.1) ∙ h.2) (subst (λ (z : List Lexeme). Runs s z vs out) (sym h.1.2) r)

@@ -4,7 +4,7 @@ use Rattle.chw_grammar.specs.Grammar.{is_lower}
 use Rattle.chw_grammar.specs.declared.terminal.Terminal.{Terminal}
 use Rattle.chw_grammar.specs.declared.terminal.Terminal.TheVariants as the
 use Rattle.chw_parser.specs.declared.symbol.Symbol.{Symbol}
-use Rattle.chw_parser.specs.declared.symbol.Symbol.TheVariants.{Token, Word, Kind, Part, Act}
+use Rattle.chw_parser.specs.declared.symbol.Symbol.TheVariants.{Token, Word, Kind, Reset, Part, Act}
 use Rattle.chw_parser.specs.declared.symbol.WordSort.{WordSort}
 use Rattle.chw_parser.specs.declared.symbol.WordSort.TheVariants as sort
 use Rattle.chw_parser.specs.declared.symbol.Rule.{Rule}
@@ -15,6 +15,7 @@ use Rattle.chw_parser.specs.Follow.{begins_atom, after_product, after_sum, after
 abbrev pub goes_on : Rule → Terminal → Bool
 goes_on rule.Program x = false
 goes_on rule.Declarations x = false
+goes_on rule.DomainEnd x = false
 goes_on rule.Parameters the.Open = true
 goes_on rule.Parameters x = false
 goes_on rule.Constructor x = begins_atom x
@@ -58,6 +59,7 @@ goes_on rule.MoreElements x = after_term x
 abbrev pub begins : Rule → Terminal → Terminal
 begins rule.Program x = the.Top
 begins rule.Declarations x = the.Top
+begins rule.DomainEnd x = the.Semicolon
 begins rule.Constructor x = the.Upper
 begins rule.Type x = the.Lower
 begins rule.Product x = the.Lower
@@ -80,6 +82,7 @@ first [] = the.End
 first (Token x ∷ s) = x
 first (Word x ∷ s) = word_terminal x
 first (Kind ∷ s) = the.Nat
+first (Reset ∷ s) = the.Lower
 first (Part x ∷ s) = begins x (first s)
 first (Act x ∷ s) = first s
 
@@ -93,6 +96,7 @@ Fine [] = Unit {0}
 Fine (Token x ∷ s) = (is_end x ≡ false) × Fine s
 Fine (Word x ∷ s) = Fine s
 Fine (Kind ∷ s) = Fine s
+Fine (Reset ∷ s) = Fine s
 Fine (Part x ∷ s) = (goes_on x (first s) ≡ false) × Fine s
 Fine (Act x ∷ s) = Fine s
 
@@ -118,6 +122,7 @@ rank _ = 1
 abbrev pub rank_before : Rule → ℕ → ℕ
 rank_before rule.Program n = 3
 rank_before rule.Declarations n = 1
+rank_before rule.DomainEnd n = 1
 rank_before rule.Constructor n = 1
 rank_before rule.Type n = 4
 rank_before rule.Product n = 3
@@ -133,5 +138,6 @@ weight [] = 0
 weight (Token x ∷ s) = 0
 weight (Word x ∷ s) = 0
 weight (Kind ∷ s) = 0
+weight (Reset ∷ s) = 0
 weight (Part x ∷ s) = rank_before x (weight s)
 weight (Act x ∷ s) = weight s + 1

@@ -1,9 +1,9 @@
 -- How each rule goes on, by the next terminal.
-use Rattle.std.specs.Prelude.{Option, Some, None, List, [], ◌∷◌}
+use Rattle.std.specs.Prelude.{true, false, Option, Some, None, List, [], ◌∷◌}
 use Rattle.chw_grammar.specs.declared.terminal.Terminal.{Terminal}
 use Rattle.chw_grammar.specs.declared.terminal.Terminal.TheVariants as the
 use Rattle.chw_parser.specs.declared.symbol.Symbol.{Symbol}
-use Rattle.chw_parser.specs.declared.symbol.Symbol.TheVariants.{Token, Word, Kind, Part, Act}
+use Rattle.chw_parser.specs.declared.symbol.Symbol.TheVariants.{Token, Word, Kind, Reset, Part, Act}
 use Rattle.chw_parser.specs.declared.symbol.WordSort.TheVariants as sort
 use Rattle.chw_parser.specs.declared.symbol.Rule.{Rule}
 use Rattle.chw_parser.specs.declared.symbol.Rule.TheVariants as rule
@@ -11,11 +11,15 @@ use Rattle.parser_parts.specs.declared.action.Action.TheVariants as act
 
 abbrev pub production : Rule → Terminal → Option (List Symbol)
 production rule.Program _ = Some (Act act.NoDeclarations ∷ Part rule.Declarations ∷ [])
-production rule.Declarations the.Domain = Some (Token the.Domain ∷ Word sort.Upper ∷ Token the.Semicolon ∷ Act act.Domain ∷ Part rule.Declarations ∷ [])
+production rule.Declarations the.Domain =
+    Some (Token the.Domain ∷ Word sort.Upper ∷ Part rule.DomainEnd ∷ Part rule.Declarations ∷ [])
 production rule.Declarations the.Def = Some (Token the.Def ∷ Word sort.Lower ∷ Token the.Colon ∷ Part rule.Type ∷ Token the.Equals ∷ Part rule.Term ∷ Token the.Semicolon ∷ Act act.Definition ∷ Part rule.Declarations ∷ [])
 production rule.Declarations the.Data = Some (Token the.Data ∷ Word sort.Upper ∷ Act act.NoParameters ∷ Part rule.Parameters ∷ Token the.Equals ∷ Act act.NoConstructors ∷ Part rule.Constructor ∷ Part rule.Constructors ∷ Token the.Semicolon ∷ Act act.DataType ∷ Part rule.Declarations ∷ [])
 production rule.Declarations the.Top = Some (Token the.Top ∷ Word sort.Lower ∷ Token the.Open ∷ Act act.NoWords ∷ Part rule.Inputs ∷ Token the.Close ∷ Token the.Open ∷ Act act.NoWords ∷ Word sort.Lower ∷ Act act.Word ∷ Part rule.Ports ∷ Token the.Close ∷ Token the.Semicolon ∷ Act act.Tree ∷ [])
 production rule.Declarations _ = None
+production rule.DomainEnd the.Lower =
+    Some (Reset ∷ Token the.Semicolon ∷ Act (act.Domain true) ∷ [])
+production rule.DomainEnd _ = Some (Token the.Semicolon ∷ Act (act.Domain false) ∷ [])
 production rule.Parameters the.Open = Some (Token the.Open ∷ Word sort.Lower ∷ Token the.Colon ∷ Kind ∷ Token the.Close ∷ Act act.Parameter ∷ Part rule.Parameters ∷ [])
 production rule.Parameters _ = Some ([])
 production rule.Constructor _ = Some (Word sort.Upper ∷ Act act.NoTypes ∷ Part rule.Atoms ∷ Act act.Constructor ∷ [])

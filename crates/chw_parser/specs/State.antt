@@ -12,13 +12,13 @@ use Rattle.parser_parts.specs.declared.value.Value.{Value}
 use Rattle.parser_parts.specs.declared.value.Value.TheVariants.{OneWord, OneKind, Whole}
 use Rattle.parser_parts.specs.Parts.{Stands}
 use Rattle.chw_parser.specs.declared.symbol.Symbol.{Symbol}
-use Rattle.chw_parser.specs.declared.symbol.Symbol.TheVariants.{Token, Word, Kind, Part, Act}
+use Rattle.chw_parser.specs.declared.symbol.Symbol.TheVariants.{Token, Word, Kind, Reset, Part, Act}
 use Rattle.chw_parser.specs.declared.symbol.Rule.TheVariants as rule
 use Rattle.chw_parser.specs.declared.machine.Wanted.{Wanted}
 use Rattle.chw_parser.specs.declared.machine.Wanted.TheVariants.{Take, Nothing, Refused}
 use Rattle.chw_parser.specs.Ending.{Fine}
 use Rattle.chw_parser.specs.Faults.{open_after, Shallow}
-use Rattle.chw_parser.specs.Machine.{is_word, Runs, Reading}
+use Rattle.chw_parser.specs.Machine.{is_word, IsReset, Runs, Reading}
 
 -- what stands for a description, before any token is read
 abbrev pub start : List Symbol
@@ -29,6 +29,7 @@ abbrev pub IsLeaf : Symbol → Type 0
 IsLeaf (Token x) = Unit {0}
 IsLeaf (Word x) = Unit {0}
 IsLeaf Kind = Unit {0}
+IsLeaf Reset = Unit {0}
 IsLeaf (Part x) = ⊥
 IsLeaf (Act x) = ⊥
 
@@ -66,6 +67,8 @@ IsTaken (Word y) x w p p' true = IsTrue (is_word y x) × Gains (OneWord w) p p'
 IsTaken (Word y) x w p p' false = is_word y x ≡ false
 IsTaken Kind x w p p' true = (k : KindTree) × (x ≡ kind_terminal k) × Gains (OneKind k) p p'
 IsTaken Kind x w p p' false = (k : KindTree) → x ≡ kind_terminal k → ⊥
+IsTaken Reset x w p p' true = IsReset x w × (p' ≡ p)
+IsTaken Reset x w p p' false = IsReset x w → ⊥
 IsTaken (Part y) x w p p' b = Unit {0}
 IsTaken (Act y) x w p p' b = Unit {0}
 

@@ -13,8 +13,7 @@ pub fn of_declarations(next: Terminal) -> Option<&'static [Symbol]>
         Terminal::Domain => Some(&[
             Symbol::Token(Terminal::Domain),
             Symbol::Word(WordSort::Upper),
-            Symbol::Token(Terminal::Semicolon),
-            Symbol::Act(Action::Domain),
+            Symbol::Part(Rule::DomainEnd),
             Symbol::Part(Rule::Declarations),
         ]),
         Terminal::Def => Some(&[
@@ -58,6 +57,22 @@ pub fn of_declarations(next: Terminal) -> Option<&'static [Symbol]>
             Symbol::Act(Action::Tree),
         ]),
         _ => None,
+    }
+}
+
+pub fn of_domain_end(next: Terminal) -> Option<&'static [Symbol]>
+    ensures { MatchOption result (production Rule.DomainEnd next ≡ None) (λ symbols. production Rule.DomainEnd next ≡ Some symbols.now) }
+{
+    match next {
+        Terminal::Lower => Some(&[
+            Symbol::Reset,
+            Symbol::Token(Terminal::Semicolon),
+            Symbol::Act(Action::Domain(true)),
+        ]),
+        _ => Some(&[
+            Symbol::Token(Terminal::Semicolon),
+            Symbol::Act(Action::Domain(false)),
+        ]),
     }
 }
 

@@ -3,7 +3,7 @@ ghost use Rattle.std.specs.Prelude.{◌≡◌, ◌++◌, IsTrue, IfOk, MatchOpti
 ghost use Rattle.chw_lexer.specs.Words.{LiesIn};
 ghost use Rattle.chw_grammar.specs.Lexemes.{kind_terminal, lexeme_of};
 ghost use Rattle.chw_grammar.specs.declared.type_tree.KindTree.{KindTree};
-ghost use Rattle.chw_parser.specs.Machine.{is_word};
+ghost use Rattle.chw_parser.specs.Machine.{is_word, IsReset};
 ghost use Rattle.chw_parser.specs.State.{IsLeaf, IsWanted, IsTaken, IsRead};
 
 use crate::production::production;
@@ -15,7 +15,7 @@ use parser_parts::{Parts, Stack};
 use std::alloc::Global;
 
 /// What the stack wants next.
-#[derive(Clone, Copy, Debug)]
+#[derive(Clone, Copy)]
 pub enum Wanted {
     /// A token that is this symbol.
     Take(Symbol),
@@ -51,6 +51,7 @@ pub fn advance(
             Symbol::Token(terminal) => return Ok(Wanted::Take(Symbol::Token(terminal))),
             Symbol::Word(sort) => return Ok(Wanted::Take(Symbol::Word(sort))),
             Symbol::Kind => return Ok(Wanted::Take(Symbol::Kind)),
+            Symbol::Reset => return Ok(Wanted::Take(Symbol::Reset)),
             Symbol::Act(action) => {
                 parts.act(alloc, action)?;
             }
@@ -77,6 +78,14 @@ fn is_word(sort: WordSort, terminal: Terminal) -> bool
         WordSort::Numeral => matches!(terminal, Terminal::Numeral),
         WordSort::Literal => matches!(terminal, Terminal::Literal),
     }
+}
+
+/// Whether this word, whose terminal this is, is the lower name `reset`.
+fn is_reset(terminal: Terminal, word: &Word) -> bool
+    ensures yes { IsTrue result → IsReset terminal word.now }
+    ensures no { result ≡ false → IsReset terminal word.now → ⊥ }
+{
+    is_word(WordSort::Lower, terminal) && word.bytes.as_slice() == "reset".as_bytes()
 }
 
 fn kind_of(terminal: Terminal) -> Option<KindTree>
@@ -127,6 +136,7 @@ fn take(symbol: Symbol, terminal: Terminal, word: Word, parts: &mut Parts) -> Re
             }
             None => Ok(false),
         },
+        Symbol::Reset => Ok(is_reset(terminal, &word)),
         Symbol::Part(_) | Symbol::Act(_) => unreachable!(),
     }
 }

@@ -17,6 +17,7 @@ pub fn production(rule: Rule, next: Terminal) -> Option<&'static [Symbol]>
             Symbol::Part(Rule::Declarations),
         ]),
         Rule::Declarations => declaration_rules::of_declarations(next),
+        Rule::DomainEnd => declaration_rules::of_domain_end(next),
         Rule::Parameters => declaration_rules::of_parameters(next),
         Rule::Constructor => Some(&[
             Symbol::Word(WordSort::Upper),

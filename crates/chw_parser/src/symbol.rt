@@ -3,7 +3,7 @@ use chw_grammar::Terminal;
 use parser_parts::Action;
 
 /// What a production has in one place.
-#[derive(Clone, Copy, Debug)]
+#[derive(Clone, Copy)]
 pub enum Symbol {
     /// This token.
     Token(Terminal),
@@ -11,6 +11,8 @@ pub enum Symbol {
     Word(WordSort),
     /// A token that is a kind.
     Kind,
+    /// A token that is the lower name `reset`.
+    Reset,
     /// What a rule of the grammar says.
     Part(Rule),
     /// No token: what was read so far becomes a part of the tree.
@@ -18,7 +20,7 @@ pub enum Symbol {
 }
 
 /// The sorts of words.
-#[derive(Clone, Copy, Debug)]
+#[derive(Clone, Copy)]
 pub enum WordSort {
     Lower,
     Upper,
@@ -27,12 +29,14 @@ pub enum WordSort {
 }
 
 /// The rules of the grammar, in the form in which the next token alone says how each goes on.
-#[derive(Clone, Copy, Debug)]
+#[derive(Clone, Copy)]
 pub enum Rule {
     /// A whole description.
     Program,
     /// The declarations that are left, and the top.
     Declarations,
+    /// What is behind the name of a domain: `;`, or `reset` and `;`.
+    DomainEnd,
     /// The parameters that are left.
     Parameters,
     /// A constructor and its fields.

@@ -1,3 +1,4 @@
 pub mod Names
 pub mod SchemaKinds
 pub mod Schemas
+mod Signatures

@@ -1,5 +1,6 @@
 //! Parts of the types of primitives. Variables are given by their numbers.
 ghost use Rattle.std.specs.Prelude.{◌≡◌, IfOk};
+ghost use Rattle.chw_types.specs.declared.kind.Scalar.TheVariants.{U};
 ghost use Rattle.chw_types.specs.TypeTree.{ty_var, nat_lit, nat_sum, scalar, vector, signal, fun, for_all};
 ghost use Rattle.chw_prims.specs.Schemas.{bool, maybe, pair};
 
@@ -12,20 +13,6 @@ pub(crate) fn var(number: u32) -> Ty
     ensures { result ≡ ty_var number }
 {
     Ty::var(TyIx { number })
-}
-
-/// A word whose width is a variable.
-pub(crate) fn word(alloc: Global, sort: Scalar, width: u32) -> Result<Ty, NoMemory>
-    ensures { IfOk result (λ t. t ≡ scalar sort (ty_var width)) }
-{
-    Ty::scalar(alloc, sort, var(width))
-}
-
-/// A word whose width is a sum of variables.
-pub(crate) fn wide_word(alloc: Global, sort: Scalar, left: u32, right: u32) -> Result<Ty, NoMemory>
-    ensures { IfOk result (λ t. t ≡ scalar sort (nat_sum (ty_var left) (ty_var right))) }
-{
-    Ty::scalar(alloc, sort, sum(alloc, left, right)?)
 }
 
 /// The sum of two variables.
@@ -42,32 +29,32 @@ pub(crate) fn one_more(alloc: Global, number: u32) -> Result<Ty, NoMemory>
     Ty::sum(alloc, var(number), Ty::nat(1))
 }
 
-/// A vector whose length and type of elements are variables.
-pub(crate) fn elements(alloc: Global, len: u32, of: u32) -> Result<Ty, NoMemory>
-    ensures { IfOk result (λ t. t ≡ vector (ty_var len) (ty_var of)) }
+/// An unsigned word whose width is a variable.
+pub(crate) fn place(alloc: Global, width: u32) -> Result<Ty, NoMemory>
+    ensures { IfOk result (λ t. t ≡ scalar U (ty_var width)) }
 {
-    Ty::vec(alloc, var(len), var(of))
+    Ty::scalar(alloc, Scalar::U, var(width))
 }
 
-/// A signal whose domain and payload are variables.
-pub(crate) fn samples(alloc: Global, dom: u32, of: u32) -> Result<Ty, NoMemory>
-    ensures { IfOk result (λ t. t ≡ signal (ty_var dom) (ty_var of)) }
+/// A vector whose length is a variable.
+pub(crate) fn elements(alloc: Global, len: u32, of: Ty) -> Result<Ty, NoMemory>
+    ensures { IfOk result (λ t. t ≡ vector (ty_var len) of) }
 {
-    Ty::signal(alloc, var(dom), var(of))
+    Ty::vec(alloc, var(len), of)
 }
 
-/// A function of two arguments.
-pub(crate) fn fun_2(alloc: Global, a: Ty, b: Ty, to: Ty) -> Result<Ty, NoMemory>
-    ensures { IfOk result (λ t. t ≡ fun a (fun b to)) }
+/// A signal whose domain is a variable.
+pub(crate) fn samples(alloc: Global, dom: u32, of: Ty) -> Result<Ty, NoMemory>
+    ensures { IfOk result (λ t. t ≡ signal (ty_var dom) of) }
 {
-    Ty::fun(alloc, a, Ty::fun(alloc, b, to)?)
+    Ty::signal(alloc, var(dom), of)
 }
 
-/// A function of three arguments.
-pub(crate) fn fun_3(alloc: Global, a: Ty, b: Ty, c: Ty, to: Ty) -> Result<Ty, NoMemory>
-    ensures { IfOk result (λ t. t ≡ fun a (fun b (fun c to))) }
+/// A function whose argument is a variable.
+pub(crate) fn function(alloc: Global, from: u32, to: Ty) -> Result<Ty, NoMemory>
+    ensures { IfOk result (λ t. t ≡ fun (ty_var from) to) }
 {
-    Ty::fun(alloc, a, fun_2(alloc, b, c, to)?)
+    Ty::fun(alloc, var(from), to)
 }
 
 /// A type with two type arguments.
@@ -75,13 +62,6 @@ pub(crate) fn for_2(alloc: Global, i: Kind, j: Kind, of: Ty) -> Result<Ty, NoMem
     ensures { IfOk result (λ t. t ≡ for_all i (for_all j of)) }
 {
     Ty::forall(alloc, i, Ty::forall(alloc, j, of)?)
-}
-
-/// A type with three type arguments.
-pub(crate) fn for_3(alloc: Global, i: Kind, j: Kind, k: Kind, of: Ty) -> Result<Ty, NoMemory>
-    ensures { IfOk result (λ t. t ≡ for_all i (for_all j (for_all k of))) }
-{
-    Ty::forall(alloc, i, for_2(alloc, j, k, of)?)
 }
 
 /// The data type `Bool`.
@@ -108,4 +88,11 @@ pub(crate) fn pair(alloc: Global, first: Ty, second: Ty) -> Result<Ty, NoMemory>
     args.push(first)?;
     args.push(second)?;
     Ok(Ty::data_of(DataId { number: 2 }, args))
+}
+
+/// A write, where there is one: the place, and the value.
+pub(crate) fn write(alloc: Global, width: u32, of: u32) -> Result<Ty, NoMemory>
+    ensures { IfOk result (λ t. t ≡ maybe (pair (scalar U (ty_var width)) (ty_var of))) }
+{
+    maybe(alloc, pair(alloc, place(alloc, width)?, var(of))?)
 }

@@ -9,6 +9,7 @@ pub mod prim;
 pub mod row;
 pub mod schemas;
 mod signals;
+mod signature;
 mod vectors;
 mod words;
 

@@ -1,8 +1,10 @@
 //! The type of a primitive.
 ghost use Rattle.std.specs.Prelude.{◌≡◌, IfOk};
 ghost use Rattle.chw_prims.specs.Schemas.{schema_type, row_type};
+ghost use Rattle.chw_prims.specs.Signatures.{signature_type};
 
 use crate::row::Row;
+use crate::signature::Signature;
 use crate::{Prim, signals, vectors, words};
 use chw_base::NoMemory;
 use chw_types::Ty;
@@ -12,47 +14,47 @@ use std::alloc::Global;
 pub fn schema(alloc: Global, p: Prim) -> Result<Ty, NoMemory>
     ensures { IfOk result (λ t. t ≡ schema_type p) }
 {
-    of_row(alloc, Row::of(p))
+    signature_of(Row::of(p)).ty(alloc)
 }
 
-// The type of a line of the table.
-fn of_row(alloc: Global, row: Row) -> Result<Ty, NoMemory>
-    ensures { IfOk result (λ t. t ≡ row_type row) }
+// The signature of a line of the table.
+fn signature_of(row: Row) -> Signature
+    ensures { signature_type result ≡ row_type row }
 {
     match row {
-        Row::Binary(x) => words::binary(alloc, x),
-        Row::WideSum(x) => words::wide_sum(alloc, x),
-        Row::WideProduct(x) => words::wide_product(alloc, x),
-        Row::Unary(x) => words::unary(alloc, x),
-        Row::Shift(x) => words::shift(alloc, x),
-        Row::Compare(x) => words::compare(alloc, x),
-        Row::Extend(x) => words::extend(alloc, x),
-        Row::Truncate(x) => words::truncate(alloc, x),
-        Row::Cut => words::cut(alloc),
-        Row::Joined => words::joined(alloc),
-        Row::Reduce => words::reduce(alloc),
-        Row::Packed(x) => words::packed(alloc, x),
-        Row::Unpacked(x) => words::unpacked(alloc, x),
-        Row::Mapping => signals::mapping(alloc),
-        Row::Applying => signals::applying(alloc),
-        Row::Constant => signals::constant(alloc),
-        Row::Delay => signals::delay(alloc),
-        Row::Memory => signals::memory(alloc),
-        Row::Crossing => signals::crossing(alloc),
-        Row::Element(kind) => vectors::element(alloc, kind),
-        Row::ElementAt => vectors::element_at(alloc),
-        Row::Replaced => vectors::replaced(alloc),
-        Row::Mapped(kind) => vectors::mapped(alloc, kind),
-        Row::Zipped(kind) => vectors::zipped(alloc, kind),
-        Row::FoldedLeft(kind) => vectors::folded_left(alloc, kind),
-        Row::FoldedRight(kind) => vectors::folded_right(alloc, kind),
-        Row::Generated(kind) => vectors::generated(alloc, kind),
-        Row::Replicated(kind) => vectors::replicated(alloc, kind),
-        Row::Appended(kind) => vectors::appended(alloc, kind),
-        Row::Concatenated(kind) => vectors::concatenated(alloc, kind),
-        Row::Taken(kind) => vectors::taken(alloc, kind),
-        Row::Dropped(kind) => vectors::dropped(alloc, kind),
-        Row::Reversed(kind) => vectors::reversed(alloc, kind),
-        Row::Rotated(kind) => vectors::rotated(alloc, kind),
+        Row::Binary(x) => words::binary(x),
+        Row::WideSum(x) => words::wide_sum(x),
+        Row::WideProduct(x) => words::wide_product(x),
+        Row::Unary(x) => words::unary(x),
+        Row::Shift(x) => words::shift(x),
+        Row::Compare(x) => words::compare(x),
+        Row::Extend(x) => words::extend(x),
+        Row::Truncate(x) => words::truncate(x),
+        Row::Cut => words::cut(),
+        Row::Joined => words::joined(),
+        Row::Reduce => words::reduce(),
+        Row::Packed(x) => words::packed(x),
+        Row::Unpacked(x) => words::unpacked(x),
+        Row::Mapping => signals::mapping(),
+        Row::Applying => signals::applying(),
+        Row::Constant => signals::constant(),
+        Row::Delay => signals::delay(),
+        Row::Memory => signals::memory(),
+        Row::Crossing => signals::crossing(),
+        Row::Element(kind) => vectors::element(kind),
+        Row::ElementAt => vectors::element_at(),
+        Row::Replaced => vectors::replaced(),
+        Row::Mapped(kind) => vectors::mapped(kind),
+        Row::Zipped(kind) => vectors::zipped(kind),
+        Row::FoldedLeft(kind) => vectors::folded_left(kind),
+        Row::FoldedRight(kind) => vectors::folded_right(kind),
+        Row::Generated(kind) => vectors::generated(kind),
+        Row::Replicated(kind) => vectors::replicated(kind),
+        Row::Appended(kind) => vectors::appended(kind),
+        Row::Concatenated(kind) => vectors::concatenated(kind),
+        Row::Taken(kind) => vectors::taken(kind),
+        Row::Dropped(kind) => vectors::dropped(kind),
+        Row::Reversed(kind) => vectors::reversed(kind),
+        Row::Rotated(kind) => vectors::rotated(kind),
     }
 }

@@ -1,124 +1,146 @@
 //! The types of the primitives on words.
-ghost use Rattle.std.specs.Prelude.{◌≡◌, IfOk};
+ghost use Rattle.std.specs.Prelude.{◌≡◌};
 ghost use Rattle.chw_prims.specs.Schemas.{row_type};
+ghost use Rattle.chw_prims.specs.Signatures.{signature_type};
 ghost use Rattle.chw_prims.specs.declared.row.Row.TheVariants.{Binary, WideSum, WideProduct, Unary, Shift, Compare, Extend, Truncate, Cut, Joined, Reduce, Packed, Unpacked};
 
-use crate::build::{boolean, for_2, for_3, fun_2, one_more, sum, var, wide_word, word};
-use chw_base::NoMemory;
-use chw_types::{Kind, Scalar, Ty};
-use std::alloc::Global;
+use crate::signature::{Inputs, Kinds, Part, Signature, Size};
+use chw_types::{Kind, Scalar};
 
-pub(crate) fn binary(alloc: Global, x: Scalar) -> Result<Ty, NoMemory>
-    ensures { IfOk result (λ t. t ≡ row_type (Binary x)) }
+pub(crate) fn binary(x: Scalar) -> Signature
+    ensures { signature_type result ≡ row_type (Binary x) }
 {
-    let a = word(alloc, x, 0)?;
-    let b = word(alloc, x, 0)?;
-    let to = word(alloc, x, 0)?;
-    Ty::forall(alloc, Kind::Nat, fun_2(alloc, a, b, to)?)
+    let word = Part::Word(x, Size::Given(0));
+    Signature {
+        kinds: Kinds::One(Kind::Nat),
+        inputs: Inputs::Double(word, word),
+        output: word,
+    }
 }
 
-pub(crate) fn wide_sum(alloc: Global, x: Scalar) -> Result<Ty, NoMemory>
-    ensures { IfOk result (λ t. t ≡ row_type (WideSum x)) }
+pub(crate) fn wide_sum(x: Scalar) -> Signature
+    ensures { signature_type result ≡ row_type (WideSum x) }
 {
-    let a = word(alloc, x, 0)?;
-    let b = word(alloc, x, 0)?;
-    let to = Ty::scalar(alloc, x, one_more(alloc, 0)?)?;
-    Ty::forall(alloc, Kind::Nat, fun_2(alloc, a, b, to)?)
+    let word = Part::Word(x, Size::Given(0));
+    Signature {
+        kinds: Kinds::One(Kind::Nat),
+        inputs: Inputs::Double(word, word),
+        output: Part::Word(x, Size::OneMore(0)),
+    }
 }
 
-pub(crate) fn wide_product(alloc: Global, x: Scalar) -> Result<Ty, NoMemory>
-    ensures { IfOk result (λ t. t ≡ row_type (WideProduct x)) }
+pub(crate) fn wide_product(x: Scalar) -> Signature
+    ensures { signature_type result ≡ row_type (WideProduct x) }
 {
-    let a = word(alloc, x, 1)?;
-    let b = word(alloc, x, 0)?;
-    let to = wide_word(alloc, x, 1, 0)?;
-    for_2(alloc, Kind::Nat, Kind::Nat, fun_2(alloc, a, b, to)?)
+    Signature {
+        kinds: Kinds::Two(Kind::Nat, Kind::Nat),
+        inputs: Inputs::Double(Part::Word(x, Size::Given(1)), Part::Word(x, Size::Given(0))),
+        output: Part::Word(x, Size::Sum(1, 0)),
+    }
 }
 
-pub(crate) fn unary(alloc: Global, x: Scalar) -> Result<Ty, NoMemory>
-    ensures { IfOk result (λ t. t ≡ row_type (Unary x)) }
+pub(crate) fn unary(x: Scalar) -> Signature
+    ensures { signature_type result ≡ row_type (Unary x) }
 {
-    let a = word(alloc, x, 0)?;
-    let to = word(alloc, x, 0)?;
-    Ty::forall(alloc, Kind::Nat, Ty::fun(alloc, a, to)?)
+    let word = Part::Word(x, Size::Given(0));
+    Signature {
+        kinds: Kinds::One(Kind::Nat),
+        inputs: Inputs::Single(word),
+        output: word,
+    }
 }
 
-pub(crate) fn shift(alloc: Global, x: Scalar) -> Result<Ty, NoMemory>
-    ensures { IfOk result (λ t. t ≡ row_type (Shift x)) }
+pub(crate) fn shift(x: Scalar) -> Signature
+    ensures { signature_type result ≡ row_type (Shift x) }
 {
-    let a = word(alloc, x, 1)?;
-    let places = word(alloc, Scalar::U, 0)?;
-    let to = word(alloc, x, 1)?;
-    for_2(alloc, Kind::Nat, Kind::Nat, fun_2(alloc, a, places, to)?)
+    let word = Part::Word(x, Size::Given(1));
+    Signature {
+        kinds: Kinds::Two(Kind::Nat, Kind::Nat),
+        inputs: Inputs::Double(word, Part::Word(Scalar::U, Size::Given(0))),
+        output: word,
+    }
 }
 
-pub(crate) fn compare(alloc: Global, x: Scalar) -> Result<Ty, NoMemory>
-    ensures { IfOk result (λ t. t ≡ row_type (Compare x)) }
+pub(crate) fn compare(x: Scalar) -> Signature
+    ensures { signature_type result ≡ row_type (Compare x) }
 {
-    let a = word(alloc, x, 0)?;
-    let b = word(alloc, x, 0)?;
-    Ty::forall(alloc, Kind::Nat, fun_2(alloc, a, b, boolean(alloc))?)
+    let word = Part::Word(x, Size::Given(0));
+    Signature {
+        kinds: Kinds::One(Kind::Nat),
+        inputs: Inputs::Double(word, word),
+        output: Part::Bool,
+    }
 }
 
-pub(crate) fn extend(alloc: Global, x: Scalar) -> Result<Ty, NoMemory>
-    ensures { IfOk result (λ t. t ≡ row_type (Extend x)) }
+pub(crate) fn extend(x: Scalar) -> Signature
+    ensures { signature_type result ≡ row_type (Extend x) }
 {
-    let a = word(alloc, x, 1)?;
-    let to = wide_word(alloc, x, 1, 0)?;
-    for_2(alloc, Kind::Nat, Kind::Nat, Ty::fun(alloc, a, to)?)
+    Signature {
+        kinds: Kinds::Two(Kind::Nat, Kind::Nat),
+        inputs: Inputs::Single(Part::Word(x, Size::Given(1))),
+        output: Part::Word(x, Size::Sum(1, 0)),
+    }
 }
 
-pub(crate) fn truncate(alloc: Global, x: Scalar) -> Result<Ty, NoMemory>
-    ensures { IfOk result (λ t. t ≡ row_type (Truncate x)) }
+pub(crate) fn truncate(x: Scalar) -> Signature
+    ensures { signature_type result ≡ row_type (Truncate x) }
 {
-    let a = wide_word(alloc, x, 1, 0)?;
-    let to = word(alloc, x, 1)?;
-    for_2(alloc, Kind::Nat, Kind::Nat, Ty::fun(alloc, a, to)?)
+    Signature {
+        kinds: Kinds::Two(Kind::Nat, Kind::Nat),
+        inputs: Inputs::Single(Part::Word(x, Size::Sum(1, 0))),
+        output: Part::Word(x, Size::Given(1)),
+    }
 }
 
-pub(crate) fn cut(alloc: Global) -> Result<Ty, NoMemory>
-    ensures { IfOk result (λ t. t ≡ row_type Cut) }
+pub(crate) fn cut() -> Signature
+    ensures { signature_type result ≡ row_type Cut }
 {
-    let width = Ty::sum(alloc, sum(alloc, 0, 1)?, var(2))?;
-    let a = Ty::scalar(alloc, Scalar::B, width)?;
-    let to = word(alloc, Scalar::B, 1)?;
-    for_3(
-        alloc,
-        Kind::Nat,
-        Kind::Nat,
-        Kind::Nat,
-        Ty::fun(alloc, a, to)?,
-    )
+    Signature {
+        kinds: Kinds::Three(Kind::Nat, Kind::Nat, Kind::Nat),
+        inputs: Inputs::Single(Part::Word(Scalar::B, Size::SumOfThree(0, 1, 2))),
+        output: Part::Word(Scalar::B, Size::Given(1)),
+    }
 }
 
-pub(crate) fn joined(alloc: Global) -> Result<Ty, NoMemory>
-    ensures { IfOk result (λ t. t ≡ row_type Joined) }
+pub(crate) fn joined() -> Signature
+    ensures { signature_type result ≡ row_type Joined }
 {
-    let a = word(alloc, Scalar::B, 1)?;
-    let b = word(alloc, Scalar::B, 0)?;
-    let to = wide_word(alloc, Scalar::B, 1, 0)?;
-    for_2(alloc, Kind::Nat, Kind::Nat, fun_2(alloc, a, b, to)?)
+    Signature {
+        kinds: Kinds::Two(Kind::Nat, Kind::Nat),
+        inputs: Inputs::Double(
+            Part::Word(Scalar::B, Size::Given(1)),
+            Part::Word(Scalar::B, Size::Given(0)),
+        ),
+        output: Part::Word(Scalar::B, Size::Sum(1, 0)),
+    }
 }
 
-pub(crate) fn reduce(alloc: Global) -> Result<Ty, NoMemory>
-    ensures { IfOk result (λ t. t ≡ row_type Reduce) }
+pub(crate) fn reduce() -> Signature
+    ensures { signature_type result ≡ row_type Reduce }
 {
-    let a = word(alloc, Scalar::B, 0)?;
-    Ty::forall(alloc, Kind::Nat, Ty::fun(alloc, a, boolean(alloc))?)
+    Signature {
+        kinds: Kinds::One(Kind::Nat),
+        inputs: Inputs::Single(Part::Word(Scalar::B, Size::Given(0))),
+        output: Part::Bool,
+    }
 }
 
-pub(crate) fn packed(alloc: Global, x: Scalar) -> Result<Ty, NoMemory>
-    ensures { IfOk result (λ t. t ≡ row_type (Packed x)) }
+pub(crate) fn packed(x: Scalar) -> Signature
+    ensures { signature_type result ≡ row_type (Packed x) }
 {
-    let a = word(alloc, x, 0)?;
-    let to = word(alloc, Scalar::B, 0)?;
-    Ty::forall(alloc, Kind::Nat, Ty::fun(alloc, a, to)?)
+    Signature {
+        kinds: Kinds::One(Kind::Nat),
+        inputs: Inputs::Single(Part::Word(x, Size::Given(0))),
+        output: Part::Word(Scalar::B, Size::Given(0)),
+    }
 }
 
-pub(crate) fn unpacked(alloc: Global, x: Scalar) -> Result<Ty, NoMemory>
-    ensures { IfOk result (λ t. t ≡ row_type (Unpacked x)) }
+pub(crate) fn unpacked(x: Scalar) -> Signature
+    ensures { signature_type result ≡ row_type (Unpacked x) }
 {
-    let a = word(alloc, Scalar::B, 0)?;
-    let to = word(alloc, x, 0)?;
-    Ty::forall(alloc, Kind::Nat, Ty::fun(alloc, a, to)?)
+    Signature {
+        kinds: Kinds::One(Kind::Nat),
+        inputs: Inputs::Single(Part::Word(Scalar::B, Size::Given(0))),
+        output: Part::Word(x, Size::Given(0)),
+    }
 }

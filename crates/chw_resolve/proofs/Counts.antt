@@ -24,13 +24,13 @@ not_passed false x o e = (refl, e)
 
 defs_counted : (g : Globals) (ds : List Declaration) → count_by is_definition ds ≡ length (flat_map (defs_in g) ds)
 defs_counted g [] = refl
-defs_counted g (declaration.Domain w ∷ ds) = sum_by-cons (λ (x : Declaration). cond (is_definition x) 1 0) (declaration.Domain w) ds ∙ (let e = defs_counted g ds in omega (arith, e))
+defs_counted g (declaration.Domain w has_reset ∷ ds) = sum_by-cons (λ (x : Declaration). cond (is_definition x) 1 0) (declaration.Domain w has_reset) ds ∙ (let e = defs_counted g ds in omega (arith, e))
 defs_counted g (declaration.Data w ps cs ∷ ds) = sum_by-cons (λ (x : Declaration). cond (is_definition x) 1 0) (declaration.Data w ps cs) ds ∙ (let e = defs_counted g ds in omega (arith, e))
 defs_counted g (declaration.Def w t e ∷ ds) = sum_by-cons (λ (x : Declaration). cond (is_definition x) 1 0) (declaration.Def w t e) ds ∙ (let e = defs_counted g ds in omega (arith, e))
 
 datas_counted : (g : Globals) (ds : List Declaration) → count_by is_data_type ds ≡ length (flat_map (datas_in g) ds)
 datas_counted g [] = refl
-datas_counted g (declaration.Domain w ∷ ds) = sum_by-cons (λ (x : Declaration). cond (is_data_type x) 1 0) (declaration.Domain w) ds ∙ (let e = datas_counted g ds in omega (arith, e))
+datas_counted g (declaration.Domain w has_reset ∷ ds) = sum_by-cons (λ (x : Declaration). cond (is_data_type x) 1 0) (declaration.Domain w has_reset) ds ∙ (let e = datas_counted g ds in omega (arith, e))
 datas_counted g (declaration.Data w ps cs ∷ ds) = sum_by-cons (λ (x : Declaration). cond (is_data_type x) 1 0) (declaration.Data w ps cs) ds ∙ (let e = datas_counted g ds in omega (arith, e))
 datas_counted g (declaration.Def w t e ∷ ds) = sum_by-cons (λ (x : Declaration). cond (is_data_type x) 1 0) (declaration.Def w t e) ds ∙ (let e = datas_counted g ds in omega (arith, e))
 

@@ -1,5 +1,5 @@
 -- The data types and definitions of single declarations.
-use Rattle.std.proofs.Common.{◌≡◌, ℕ, List, [], map, ap, ◌∙◌}
+use Rattle.std.proofs.Common.{◌≡◌, ℕ, List, [], map}
 use Rattle.chw_grammar.specs.declared.program.Constructor.{Constructor}
 use Rattle.chw_grammar.specs.declared.program.Parameter.{Parameter}
 use Rattle.chw_grammar.specs.declared.word.Word.{Word}
@@ -20,10 +20,9 @@ pub data_type_made : (g : Globals) (w : Word) (ps : List Parameter) (cs : List C
     → cons ≡ map (constructor_in g (parameters_in ps)) cs → data_type_of name params cons ≡ data_type_in g w ps cs
 data_type_made g w ps cs named kinds made = λ j. data_type_of (named j) (kinds j) (made j)
 
-abbrev pub definition_of : List ℕ → TypeTree → TermTree → Def
+abbrev definition_of : List ℕ → TypeTree → TermTree → Def
 definition_of name ty body = record { name = name; ty = ty; body = body }
 
-pub definition_made : (g : Globals) (w : Word) (t : Ty) (e : Tm) {types more values : List (List ℕ)} {name : List ℕ} {ty : TypeTree} {body : TermTree} → types ≡ [] → more ≡ types → values ≡ []
-    → name ≡ w.bytes → ty ≡ type_in g types t → body ≡ term_in g more values e → definition_of name ty body ≡ definition_in g w t e
-definition_made g w t e none same no_values named typed made =
-    λ j. definition_of (named j) ((typed ∙ ap (λ (names : List (List ℕ)). type_in g names t) none) j) ((made ∙ (λ i. term_in g ((same ∙ none) i) (no_values i) e)) j)
+pub definition_made : (g : Globals) (w : Word) (t : Ty) (e : Tm) {name : List ℕ} {ty : TypeTree} {body : TermTree} → name ≡ w.bytes → ty ≡ type_in g [] t → body ≡ term_in g [] [] e
+    → definition_of name ty body ≡ definition_in g w t e
+definition_made g w t e named typed made = λ j. definition_of (named j) (typed j) (made j)

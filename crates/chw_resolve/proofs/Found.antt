@@ -34,9 +34,10 @@ def_circle datas found defs now places nodes names told same at kinds none cycle
 
 pub kinds_got : (p : Program) (before found after : List Data) (domains : List (List ℕ)) (defs : List Def) → before ≡ p.datas → after ≡ found → domains ≡ p.domains → defs ≡ p.defs
     → SameButKinds before found → HaveTheirKinds found (length domains) → HasNoCycle (DataRefers found) → HasNoCycle (DefRefers defs)
-    → GetsKinds p (record { domains = p.domains; datas = after; defs = p.defs; top = p.top })
+    → GetsKinds p (record { domains = p.domains; resets = p.resets; datas = after; defs = p.defs; top = p.top })
 kinds_got p before found after domains defs was is domains_are defs_are same kinds data_acyclic defs_acyclic = record {
   domains = refl;
+  resets = refl;
   datas = subst (SameButKinds p.datas) (sym is) (subst (λ (ds : List Data). SameButKinds ds found) was same);
   defs = refl;
   top = refl;

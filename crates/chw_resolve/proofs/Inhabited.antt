@@ -4,7 +4,7 @@ use Rattle.std.specs.List.{flat_map, slice_get}
 use Rattle.std.proofs.lemmas.Option.{none-some, same_Some, slice_get-map}
 use Rattle.chw_grammar.specs.declared.program.Declaration.{Declaration}
 use Rattle.chw_grammar.specs.declared.program.Tree.{Tree}
-use Rattle.chw_grammar.specs.Grammar.{DeclarationAt, domain_declared, definition_declared, data_declared, DeclarationsAt, no_declaration, declared}
+use Rattle.chw_grammar.specs.Grammar.{DeclarationAt, domain_declared, reset_declared, definition_declared, data_declared, DeclarationsAt, no_declaration, declared}
 use Rattle.chw_grammar.specs.Lexemes.{Lexeme}
 use Rattle.chw_names.specs.declared.globals.Globals.{Globals}
 use Rattle.chw_names.specs.Globals.{globals_of}
@@ -24,6 +24,7 @@ inhabited_at (x ∷ xs) (suc d) it all h = inhabited_at xs d it all.1 h
 
 one_inhabited : {x : Declaration} {a b : List Lexeme} → DeclarationAt x a b → (g : Globals) (rest : List Data) → AreInhabited rest → AreInhabited (datas_in g x ++ rest)
 one_inhabited (domain_declared _ _ _ _ _) g rest all = all
+one_inhabited (reset_declared _ _ _ _ _ _ _) g rest all = all
 one_inhabited (definition_declared _ _ _ _ _ _ _ _ _ _ _ _ _) g rest all = all
 one_inhabited (data_declared _ _ _ _ _ _ _ _ _ _ _ _ _) g rest all = (omega arith, all)
 

@@ -14,8 +14,10 @@ pub mod NoFault
 pub mod Places
 pub mod ProgramMade
 pub mod Ranges
+pub mod Resets
 pub mod ScopesClosed
 pub mod Shaped
+pub mod Smaller
 pub mod TermMade
 pub mod Tidied
 pub mod Told

@@ -83,7 +83,7 @@ counted_behind known new name n size new_name among = by (place_of (with_names k
 -- each definition has a word
 words_counted : (g : Globals) (ds : List Declaration) → length (names_of (flat_map (words_in Definitions) ds)) ≡ length (flat_map (defs_in g) ds)
 words_counted g [] = refl
-words_counted g (declaration.Domain w ∷ ds) = words_counted g ds
+words_counted g (declaration.Domain w has_reset ∷ ds) = words_counted g ds
 words_counted g (declaration.Data w ps cs ∷ ds) = words_counted g ds
 words_counted g (declaration.Def w t e ∷ ds) = ap suc (words_counted g ds)
 

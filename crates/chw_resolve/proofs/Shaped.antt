@@ -1,5 +1,5 @@
 -- The names of a tree that was read have the forms of their tokens.
-use Rattle.std.proofs.Common.{ℕ, List, [], ◌∷◌, ◌++◌}
+use Rattle.std.proofs.Common.{ℕ, true, false, List, [], ◌∷◌, ◌++◌}
 use Rattle.std.specs.List.{flat_map}
 use Rattle.chw_lexer.proofs.SpacedWords.{forms}
 use Rattle.chw_grammar.specs.declared.program.Declaration.{Declaration}
@@ -24,7 +24,8 @@ HaveForm Form (w ∷ ws) = Form w.bytes × HaveForm Form ws
 
 domains_upper : (ds : List Declaration) → DeclarationsFormed ds → HaveForm IsUpper (flat_map (words_in Domains) ds)
 domains_upper [] formed = tt
-domains_upper (declaration.Domain w ∷ ds) formed = (formed.0.1.0, domains_upper ds formed.1)
+domains_upper (declaration.Domain w false ∷ ds) formed = (formed.0.1.0, domains_upper ds formed.1)
+domains_upper (declaration.Domain w true ∷ ds) formed = (formed.0.1.0, domains_upper ds formed.1)
 domains_upper (declaration.Data w ps cs ∷ ds) formed = domains_upper ds formed.1
 domains_upper (declaration.Def w t e ∷ ds) formed = domains_upper ds formed.1
 

@@ -13,6 +13,7 @@ use Rattle.chw_terms.specs.declared.program.Def.{Def}
 use Rattle.chw_terms.specs.declared.program.Program.{Program}
 use Rattle.chw_terms.specs.declared.program.Top.{Top}
 use Rattle.chw_base.specs.Names.{IsUpper, IsLower}
+use Rattle.chw_base.specs.Ordered.{AreOrdered}
 use Rattle.chw_terms.specs.Names.{AreNames}
 use Rattle.chw_terms.specs.References.{DefRefers}
 use Rattle.graph_order.specs.References.{HasNoCycle}
@@ -26,6 +27,7 @@ use Rattle.chw_resolve.proofs.Distinct.{are_names}
 use Rattle.chw_resolve.proofs.Empty.{left_nil, right_nil}
 use Rattle.chw_resolve.proofs.Inhabited.{inhabited}
 use Rattle.chw_resolve.proofs.Places.{top_below}
+use Rattle.chw_resolve.proofs.Resets.{resets_ordered}
 use Rattle.chw_resolve.proofs.Shaped.{names_formed}
 use Rattle.chw_resolve.specs.Programs.{IsProgramOf, domains_in, datas_in, top_in}
 
@@ -33,6 +35,7 @@ use Rattle.chw_resolve.specs.Programs.{IsProgramOf, domains_in, datas_in, top_in
 pub program_kept : (tree : Tree) (before after : Program) → IsProgramOf tree before → GetsKinds before after → IsProgramOf tree after
 program_kept tree before after p got = record {
   domains = got.domains ∙ p.domains;
+  resets = got.resets ∙ p.resets;
   datas = got.datas ∙ p.datas;
   defs = got.defs ∙ p.defs;
   top = got.top ∙ p.top;
@@ -63,7 +66,7 @@ declared_once tree none =
 
 domains_are : (ds : List Declaration) → names_of (flat_map (words_in Domains) ds) ≡ flat_map domains_in ds
 domains_are [] = refl
-domains_are (declaration.Domain w ∷ ds) = ap (λ (names : List (List ℕ)). w.bytes ∷ names) (domains_are ds)
+domains_are (declaration.Domain w has_reset ∷ ds) = ap (λ (names : List (List ℕ)). w.bytes ∷ names) (domains_are ds)
 domains_are (declaration.Data w ps cs ∷ ds) = domains_are ds
 domains_are (declaration.Def w t e ∷ ds) = domains_are ds
 
@@ -86,6 +89,8 @@ module _ (tree : Tree) (before after : Program) (names : HasNames tree) (bare : 
             (subst (λ (ds : List Def). (top_in (globals_of tree.declarations) tree.top).«def».number < length ds) (sym made.defs) (top_below tree names.known));
         domain_names = subst (AreNames IsUpper) (domains_are tree.declarations ∙ sym made.domains)
             (are_names IsUpper [] (flat_map (words_in Domains) tree.declarations) formed.domains once.domains);
+        resets = subst (λ (names : List (List ℕ)). AreOrdered (length names) after.resets) (sym made.domains)
+            (subst (AreOrdered (length (flat_map domains_in tree.declarations))) (sym made.resets) (resets_ordered tree.declarations));
         input_names = subst (λ (t : Top). AreNames IsLower t.inputs) (sym top_is) (are_names IsLower [] tree.top.inputs formed.inputs once.inputs);
         output_names = subst (λ (t : Top). AreNames IsLower t.outputs) (sym top_is) (are_names IsLower [] tree.top.outputs formed.outputs once.outputs);
       }

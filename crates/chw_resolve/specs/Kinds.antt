@@ -8,6 +8,7 @@ use Rattle.data_kinds.specs.Kinds.{HaveTheirKinds, SameButKinds}
 -- the data types have their kinds, nothing else differs, and there are no circles
 pub record GetsKinds (before after : Program) : Type 0 where
   pub domains : after.domains ≡ before.domains
+  pub resets : after.resets ≡ before.resets
   pub datas : SameButKinds before.datas after.datas
   pub defs : after.defs ≡ before.defs
   pub top : after.top ≡ before.top

@@ -1,5 +1,6 @@
 -- The program that a tree becomes.
-use Rattle.std.specs.Prelude.{◌≡◌, ℕ, ◌-◌, List, [], ◌∷◌, ◌++◌, map, flat_map}
+use Rattle.std.specs.Prelude.{◌≡◌, ℕ, suc, ◌-◌, true, false, List, [], ◌∷◌, ◌++◌, map, flat_map}
+use Rattle.chw_base.specs.declared.index.DomId.{DomId}
 use Rattle.chw_grammar.specs.declared.program.Constructor.{Constructor}
 use Rattle.chw_grammar.specs.declared.program.Declaration.{Declaration}
 use Rattle.chw_grammar.specs.declared.program.Declaration.TheVariants as declaration
@@ -44,17 +45,26 @@ definition_in g w t e = record { name = w.bytes; ty = type_in g [] t; body = ter
 
 -- what a declaration declares
 abbrev pub domains_in : Declaration → List (List ℕ)
-domains_in (declaration.Domain w) = w.bytes ∷ []
+domains_in (declaration.Domain w has_reset) = w.bytes ∷ []
 domains_in (declaration.Data w ps cs) = []
 domains_in (declaration.Def w t e) = []
 
+-- the domains that have a reset, in order of declaration; the first domain declared here has this
+-- number
+abbrev pub resets_from : ℕ → List Declaration → List DomId
+resets_from d [] = []
+resets_from d (declaration.Domain w true ∷ ds) = record { number = d } ∷ resets_from (suc d) ds
+resets_from d (declaration.Domain w false ∷ ds) = resets_from (suc d) ds
+resets_from d (declaration.Data w ps cs ∷ ds) = resets_from d ds
+resets_from d (declaration.Def w t e ∷ ds) = resets_from d ds
+
 abbrev pub datas_in : Globals → Declaration → List Data
-datas_in g (declaration.Domain w) = []
+datas_in g (declaration.Domain w has_reset) = []
 datas_in g (declaration.Data w ps cs) = data_type_in g w ps cs ∷ []
 datas_in g (declaration.Def w t e) = []
 
 abbrev pub defs_in : Globals → Declaration → List Def
-defs_in g (declaration.Domain w) = []
+defs_in g (declaration.Domain w has_reset) = []
 defs_in g (declaration.Data w ps cs) = []
 defs_in g (declaration.Def w t e) = definition_in g w t e ∷ []
 
@@ -70,6 +80,7 @@ without_kind it = record { name = it.name; params = it.params; kind = Val; cons 
 -- the program is that of the tree, but for the kinds of its data types
 pub record IsProgramOf (tree : Tree) (p : Program) : Type 0 where
   pub domains : p.domains ≡ flat_map domains_in tree.declarations
+  pub resets : p.resets ≡ resets_from 0 tree.declarations
   pub datas : map without_kind p.datas ≡ built_in ++ flat_map (datas_in (globals_of tree.declarations)) tree.declarations
   pub defs : p.defs ≡ flat_map (defs_in (globals_of tree.declarations)) tree.declarations
   pub top : p.top ≡ top_in (globals_of tree.declarations) tree.top

@@ -1,6 +1,7 @@
 -- The types that the types of a tree become, by the names in scope.
 use Rattle.std.specs.Prelude.{ℕ, ◌-◌, List, ◌∷◌, length, Option, Some, None, slice_get}
 use Rattle.std.specs.Option.{unwrap_or}
+use Rattle.chw_base.specs.declared.limits.TheConstants.{TYPE_NUMERAL_BITS}
 use Rattle.chw_grammar.specs.declared.type_tree.KindTree.{KindTree}
 use Rattle.chw_grammar.specs.declared.type_tree.KindTree.TheVariants as kind_word
 use Rattle.chw_grammar.specs.TypeTree.{Ty, type_forall, type_arrow, type_sum, type_product, type_named, type_variable, type_numeral, Tys}
@@ -71,7 +72,8 @@ abbrev mutual
   type_in g variables (type_product ts) = chain_of nat_product (types_in g variables ts)
   type_in g variables (type_named w ts) = at_arguments (data_types_in g) (named_type g w.bytes) (types_in g variables ts)
   type_in g variables (type_variable w) = ty_var (place_in variables w.bytes)
-  type_in g variables (type_numeral w) = nat_lit (unwrap_or (within 32 (number_of w.bytes)) 0)
+  type_in g variables (type_numeral w) =
+      nat_lit (unwrap_or (within TYPE_NUMERAL_BITS (number_of w.bytes)) 0)
 
   pub types_in : Globals → List (List ℕ) → Tys → TypeTrees
   types_in g variables written.no_types = no_types

@@ -20,6 +20,7 @@ pub(crate) fn with_kinds(alloc: Global, program: Program) -> Result<Program, Or<
 {
     let Program {
         domains,
+        resets,
         datas,
         defs,
         top,
@@ -36,6 +37,7 @@ pub(crate) fn with_kinds(alloc: Global, program: Program) -> Result<Program, Or<
     let datas = Seq::from(datas);
     Ok(Program {
         domains,
+        resets,
         datas,
         defs,
         top,

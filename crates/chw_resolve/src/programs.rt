@@ -1,14 +1,14 @@
 //! The program of a tree.
-ghost use Rattle.std.specs.Prelude.{◌≡◌, IfOk, OnOk};
+ghost use Rattle.std.specs.Prelude.{◌≡◌, ◌+◌, IfOk, OnOk};
 ghost use Rattle.chw_names.specs.Globals.{globals_of};
-ghost use Rattle.chw_resolve.specs.Programs.{top_in, IsProgramOf};
-ghost use Rattle.chw_resolve.specs.Walks.{Adds};
+ghost use Rattle.chw_resolve.specs.Programs.{resets_from, top_in, IsProgramOf};
+ghost use Rattle.chw_resolve.specs.Walks.{Adds, IsDeclared, ListsReset};
 
 use crate::built_in::built_in;
 use crate::declarations::{data_type_in, definition_in};
 use crate::names::{name_of, names_of};
 use crate::terms::behind_primitives;
-use chw_base::{Name, NoMemory, Seq};
+use chw_base::{DomId, Name, NoMemory, Seq};
 use chw_grammar::{Declaration, Top as WrittenTop, Tree};
 use chw_names::Globals;
 use chw_terms::{Def, Program, Top};
@@ -27,29 +27,54 @@ pub fn program_of<'t>(
     requires { globals.now ≡ globals_of tree.now.declarations }
     ensures { IfOk result (λ program. IsProgramOf tree.now program) }
 {
-    let mut declared = Declared {
-        domains: Vec::new(alloc),
-        datas: built_in(alloc)?,
-        defs: Vec::new(alloc),
-    };
-    for declaration in tree.declarations.as_slice() {
-        declared.add(alloc, globals, declaration)?;
-    }
+    let declarations = tree.declarations.as_slice();
+    let resets = resets_in(alloc, declarations)?;
     let top = top_in(alloc, globals, &tree.top)?;
-    let Declared {
-        domains,
-        datas,
-        defs,
-    } = declared;
-    let domains = Seq::from(domains);
-    let datas = Seq::from(datas);
-    let defs = Seq::from(defs);
+    let declared = declared_in(alloc, globals, declarations)?;
     Ok(Program {
-        domains,
-        datas,
-        defs,
+        domains: Seq::from(declared.domains),
+        resets: Seq::from(resets),
+        datas: Seq::from(declared.datas),
+        defs: Seq::from(declared.defs),
         top,
     })
+}
+
+/// The domains that have a reset.
+fn resets_in(alloc: Global, declarations: &[Declaration]) -> Result<Vec<DomId>, NoMemory>
+    ensures { IfOk result (λ resets. resets.items ≡ resets_from 0 declarations.now) }
+{
+    let mut resets = Vec::new(alloc);
+    let mut number = 0;
+    for declaration in declarations {
+        number = list_reset(&mut resets, number, declaration)?;
+    }
+    Ok(resets)
+}
+
+/// Lists the domain of this number, if the declaration declares one with a reset. The number of the next domain.
+fn list_reset(
+    resets: &mut Vec<DomId>,
+    number: u32,
+    declaration: &Declaration,
+) -> Result<u32, NoMemory>
+    ensures { IfOk result (ListsReset declaration.now number resets.old.items resets.new.items) }
+{
+    match declaration {
+        Declaration::Domain(_, true) => {
+            resets.push(DomId { number })?;
+            after(number)
+        }
+        Declaration::Domain(_, false) => after(number),
+        Declaration::Data(_, _, _) | Declaration::Def(_, _, _) => Ok(number),
+    }
+}
+
+/// The number after this one.
+fn after(number: u32) -> Result<u32, NoMemory>
+    ensures { IfOk result (λ next. next ≡ number + 1) }
+{
+    number.checked_add(1).ok_or(NoMemory)
 }
 
 /// What was declared so far, in the order of declaration.
@@ -58,6 +83,25 @@ struct Declared {
     domains: Vec<Name>,
     datas: Vec<Data>,
     defs: Vec<Def>,
+}
+
+/// What declarations declare, the built-in data types first.
+fn declared_in<'t>(
+    alloc: Global,
+    globals: &Globals<'t>,
+    declarations: &'t [Declaration],
+) -> Result<Declared, NoMemory>
+    ensures { IfOk result (IsDeclared globals.now declarations.now) }
+{
+    let mut declared = Declared {
+        domains: Vec::new(alloc),
+        datas: built_in(alloc)?,
+        defs: Vec::new(alloc),
+    };
+    for declaration in declarations {
+        declared.add(alloc, globals, declaration)?;
+    }
+    Ok(declared)
 }
 
 impl Declared {
@@ -71,7 +115,7 @@ impl Declared {
         ensures { OnOk result (Adds globals.now declaration.now self.old self.new) }
     {
         match declaration {
-            Declaration::Domain(word) => {
+            Declaration::Domain(word, _) => {
                 let domain = name_of(alloc, word)?;
                 self.domains.push(domain)?;
                 Ok(())

@@ -1,13 +1,15 @@
 //! Types.
-ghost use Rattle.std.specs.Prelude.{◌≡◌, IfOk, OnOk};
+ghost use Rattle.std.specs.Prelude.{◌≡◌, map, IfOk, OnOk};
 ghost use Rattle.std.specs.Option.{unwrap_or};
-ghost use Rattle.chw_types.specs.TypeTree.{nat_lit, nat_sum, nat_product};
+ghost use Rattle.chw_grammar.specs.TypeTree.{type_forall, type_arrow};
+ghost use Rattle.chw_grammar.specs.TypeView.{types_of};
+ghost use Rattle.chw_types.specs.TypeTree.{nat_lit};
 ghost use Rattle.chw_types.specs.TypeView.{trees_of};
-ghost use Rattle.chw_resolve.specs.Types.{kind_in, type_at, named_type, data_types_in, at_arguments, type_in};
-ghost use Rattle.chw_resolve.specs.Walks.{next_in};
+ghost use Rattle.chw_resolve.specs.Types.{kind_in, type_at, named_type, data_types_in, at_arguments, chain_of, type_in, types_in};
+ghost use Rattle.chw_resolve.specs.Walks.{next_in, joined};
 
 use chw_base::{DataId, DomId, NoMemory, TyIx};
-use chw_grammar::{KindTree, TypeNode, TypeTree, read_numeral};
+use chw_grammar::{KindTree, TypeNode, TypeTree, Word, read_numeral};
 use chw_names::Globals;
 use chw_types::{Kind, Scalar, Ty};
 use name_tables::Scope;
@@ -23,6 +25,13 @@ pub enum TypeName {
     Domain(DomId),
 }
 
+/// How the parts of a chain are joined.
+#[derive(Clone, Copy)]
+enum Join {
+    Sum,
+    Product,
+}
+
 /// The built-in types that are no data types, in the order in which their names stand before those of the data types.
 pub const TYPE_FORMS: [TypeName; 5] = [
     TypeName::Scalar(Scalar::U),
@@ -36,6 +45,7 @@ pub const TYPE_FORMS: [TypeName; 5] = [
 ///
 /// A name that nothing declares stands for what has the number 0. A name with too few or too many arguments is the data type of a
 /// number that names none, which has no kind.
+#[cycle(type_in)]
 pub fn type_in<'t>(
     alloc: Global,
     globals: &Globals<'t>,
@@ -47,42 +57,17 @@ pub fn type_in<'t>(
 {
     match &tree.node {
         TypeNode::Forall(variable, kind, body) => {
-            variables.bind(variable.bytes.as_slice())?;
-            let body = type_in(alloc, globals, variables, body)?;
-            variables.unbind();
-            Ok(Ty::forall(alloc, kind_in(*kind), body)?)
+            forall_in(alloc, globals, variables, variable, *kind, body)
         }
-        TypeNode::Arrow(from, to) => {
-            let from = type_in(alloc, globals, variables, from)?;
-            let to = type_in(alloc, globals, variables, to)?;
-            Ok(Ty::fun(alloc, from, to)?)
-        }
-        TypeNode::Sum(parts) => {
-            let mut sum = None;
-            for part in parts {
-                let part = type_in(alloc, globals, variables, part)?;
-                sum = Some(added(alloc, sum, part)?);
-            }
-            let sum = or_zero(sum);
-            Ok(sum)
-        }
+        TypeNode::Arrow(from, to) => arrow_in(alloc, globals, variables, from, to),
+        TypeNode::Sum(parts) => chain_in(alloc, globals, variables, Join::Sum, parts.as_slice()),
         TypeNode::Product(factors) => {
-            let mut product = None;
-            for factor in factors {
-                let factor = type_in(alloc, globals, variables, factor)?;
-                product = Some(multiplied(alloc, product, factor)?);
-            }
-            let product = or_zero(product);
-            Ok(product)
+            chain_in(alloc, globals, variables, Join::Product, factors.as_slice())
         }
         TypeNode::Named(word, arguments) => {
-            let none = data_types_in(globals);
+            let arguments = types_in(alloc, globals, variables, arguments.as_slice())?;
             let name = named_type(globals, word.bytes.as_slice());
-            let mut done = Vec::new(alloc);
-            for argument in arguments {
-                done.push(type_in(alloc, globals, variables, argument)?)?;
-            }
-            Ok(at_arguments(alloc, none, name, done)?)
+            Ok(at_arguments(alloc, data_types_in(globals), name, arguments)?)
         }
         TypeNode::Variable(word) => {
             let number = variables.find(word.bytes.as_slice()).unwrap_or(0);
@@ -93,6 +78,80 @@ pub fn type_in<'t>(
             Ok(Ty::nat(number.unwrap_or(0)))
         }
     }
+}
+
+/// The type that binds a type variable of this name.
+#[cycle(type_in)]
+fn forall_in<'t>(
+    alloc: Global,
+    globals: &Globals<'t>,
+    variables: &mut Scope<'t>,
+    variable: &'t Word,
+    kind: KindTree,
+    body: &'t TypeTree,
+) -> Result<Ty, NoMemory>
+    ensures made { IfOk result (λ t. t ≡ type_in globals.now variables.old (type_forall variable.now kind body.now)) }
+    ensures scope { OnOk result (variables.new ≡ variables.old) }
+{
+    variables.bind(variable.bytes.as_slice())?;
+    let body = type_in(alloc, globals, variables, body)?;
+    variables.unbind();
+    Ok(Ty::forall(alloc, kind_in(kind), body)?)
+}
+
+/// The functions from one type to another.
+#[cycle(type_in)]
+fn arrow_in<'t>(
+    alloc: Global,
+    globals: &Globals<'t>,
+    variables: &mut Scope<'t>,
+    from: &'t TypeTree,
+    to: &'t TypeTree,
+) -> Result<Ty, NoMemory>
+    ensures made { IfOk result (λ t. t ≡ type_in globals.now variables.old (type_arrow from.now to.now)) }
+    ensures scope { OnOk result (variables.new ≡ variables.old) }
+{
+    let from = type_in(alloc, globals, variables, from)?;
+    let to = type_in(alloc, globals, variables, to)?;
+    Ok(Ty::fun(alloc, from, to)?)
+}
+
+/// The sum or the product of these parts.
+#[cycle(type_in)]
+fn chain_in<'t>(
+    alloc: Global,
+    globals: &Globals<'t>,
+    variables: &mut Scope<'t>,
+    join: Join,
+    parts: &'t [TypeTree],
+) -> Result<Ty, NoMemory>
+    ensures made { IfOk result (λ t. t ≡ chain_of (joined join) (types_in globals.now variables.old (types_of parts.now))) }
+    ensures scope { OnOk result (variables.new ≡ variables.old) }
+{
+    let mut chain = None;
+    for part in parts {
+        let part = type_in(alloc, globals, variables, part)?;
+        chain = Some(joined(alloc, join, chain, part)?);
+    }
+    Ok(or_zero(chain))
+}
+
+/// The types of trees.
+#[cycle(type_in)]
+pub fn types_in<'t>(
+    alloc: Global,
+    globals: &Globals<'t>,
+    variables: &mut Scope<'t>,
+    trees: &'t [TypeTree],
+) -> Result<Vec<Ty>, NoMemory>
+    ensures made { IfOk result (λ t. t.items ≡ map (type_in globals.now variables.old) trees.now) }
+    ensures scope { OnOk result (variables.new ≡ variables.old) }
+{
+    let mut done = Vec::new(alloc);
+    for tree in trees {
+        done.push(type_in(alloc, globals, variables, tree)?)?;
+    }
+    Ok(done)
 }
 
 /// The kind that is written.
@@ -107,23 +166,14 @@ pub fn kind_in(kind: KindTree) -> Kind
     }
 }
 
-/// The sum so far with one more part behind it.
-fn added(alloc: Global, sum: Option<Ty>, part: Ty) -> Result<Ty, NoMemory>
-    ensures { IfOk result (λ t. t ≡ next_in nat_sum sum part) }
+/// The chain so far with one more part behind it.
+fn joined(alloc: Global, join: Join, chain: Option<Ty>, part: Ty) -> Result<Ty, NoMemory>
+    ensures { IfOk result (λ t. t ≡ next_in (joined join) chain part) }
 {
-    match sum {
-        Some(sum) => Ty::sum(alloc, sum, part),
-        None => Ok(part),
-    }
-}
-
-/// The product so far with one more factor behind it.
-fn multiplied(alloc: Global, product: Option<Ty>, factor: Ty) -> Result<Ty, NoMemory>
-    ensures { IfOk result (λ t. t ≡ next_in nat_product product factor) }
-{
-    match product {
-        Some(product) => Ty::times(alloc, product, factor),
-        None => Ok(factor),
+    match (chain, join) {
+        (None, _) => Ok(part),
+        (Some(chain), Join::Sum) => Ok(Ty::sum(alloc, chain, part)?),
+        (Some(chain), Join::Product) => Ok(Ty::times(alloc, chain, part)?),
     }
 }
 

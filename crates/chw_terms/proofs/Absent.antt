@@ -1,5 +1,5 @@
 -- Only what is put for the variables that occur matters.
-use Rattle.std.proofs.Common.{◌≡◌, ℕ, suc, zero, ◌+◌, Bool, true, false, ◌||◌, ◌==◌, refl, sym, ap, ◌∙◌, arith, subst}
+use Rattle.std.proofs.Common.{◌≡◌, ℕ, suc, zero, ◌+◌, Bool, true, false, ◌==◌, refl, sym, ap, ◌∙◌, arith, subst}
 use Rattle.std.proofs.Math.Dec.{eqb-suc-suc}
 use Rattle.std.proofs.lemmas.Bool.{or_left, or_right}
 use Rattle.chw_types.specs.TypeMoves.{lift, raised}

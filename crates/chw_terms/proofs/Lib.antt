@@ -10,4 +10,3 @@ pub mod TermsEvaluated
 pub mod TermsPut
 pub mod TypesEvaluated
 pub mod TypesPut
-pub mod TypesTyped

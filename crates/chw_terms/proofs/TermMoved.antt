@@ -1,107 +1,50 @@
--- What the arms of shifting and putting owe.
+-- What the arms of the walk over a term owe.
 use Rattle.std.proofs.Common.{◌≡◌, ℕ, suc, zero, ◌+◌, ◌-◌, ◌<◌, ◌≤◌, take, List, [], ◌∷◌, map, length, refl, ap, sym, ◌∙◌, arith}
 use Rattle.std.proofs.lemmas.List.{take_all}
 use Rattle.chw_types.specs.declared.kind.Kind.{Kind}
 use Rattle.chw_types.specs.TypeTree.{TypeTree}
-use Rattle.chw_types.specs.TypeMoves.{raised, lift_by, shift as shift_type}
+use Rattle.chw_types.specs.TypeMoves.{raised, lift_by, up_by as up_type_by, put_at as type_put_at}
 use Rattle.chw_types.proofs.TypeLaws.{same, lifted}
-use Rattle.chw_types.proofs.TypeMoved.{raised_below, raised_above}
-use Rattle.chw_terms.specs.declared.shifting.Raising.{Raising}
+use Rattle.chw_types.proofs.TypeMoved.{put_deeper as type_put_deeper}
+use Rattle.chw_terms.specs.declared.moves.Move.{Move}
+use Rattle.chw_terms.specs.declared.moves.Move.TheVariants.{Raise, PutTerm, PutType}
+use Rattle.chw_terms.specs.declared.term.Head.{Head}
+use Rattle.chw_terms.specs.declared.term.Head.TheVariants.{Var, Global, Made, Lam, TyLam, LetRec, Con, PrimOf, Lit, VecLit, Case}
 use Rattle.chw_terms.specs.declared.term.Binding.{Binding}
 use Rattle.chw_terms.specs.declared.term.Alt.{Alt}
 use Rattle.chw_terms.specs.declared.term.Arg.{Arg}
 use Rattle.chw_terms.specs.declared.term.Arg.TheVariants.{OfTerm, OfType}
 use Rattle.chw_terms.specs.TermTree.{TermTree, var, lam, app, ty_lam, ty_app, letrec, vec_lit, case_of, term_and, bind, alt, binders, size_of}
-use Rattle.chw_terms.specs.TermView.{terms_of, group_of, alts_of, applied}
-use Rattle.chw_terms.specs.TypesMoved.{rename_types, rename_types_all, rename_types_group, rename_types_alts, shift_types}
+use Rattle.chw_terms.specs.TermView.{terms_of, group_of, alts_of, tree_of, applied}
+use Rattle.chw_terms.specs.TypesMoved.{rename_types, rename_types_all, rename_types_group, rename_types_alts, sub_types, sub_types_all, sub_types_group, sub_types_alts, shift_types}
 use Rattle.chw_terms.specs.TermMoves.{rename, rename_all, rename_group, rename_alts, up, up_by, sub, sub_all, sub_group, sub_alts, shift, put_at, put}
-use Rattle.chw_terms.specs.Raised.{under, under_type, raised_by, raised_arg, raised_binding, raised_alt, put_under, put_in_arg, put_in_binding, put_in_alt}
+use Rattle.chw_terms.specs.Evaluated.{evaluated_in, evaluated_in_all, evaluated_in_group, evaluated_in_alts}
+use Rattle.chw_terms.specs.Moved.{raised_by, put_under, typed, moved, moved_type, moved_arg, moved_binding, moved_alt, IsLeaf}
 use Rattle.chw_terms.proofs.Renamed.{rename_rename, types_types, types_after_rename, rename_ids, types_ids}
 use Rattle.chw_terms.proofs.ShiftLaws.{put_deeper}
 
 none_added : (x : ℕ) → x + 0 ≡ x
 none_added x = omega arith
 
-pub shift_by_none : (e : TermTree) → shift e 0 0 ≡ e
+shift_by_none : (e : TermTree) → shift e 0 0 ≡ e
 shift_by_none e = ap (rename e) (same _ _ none_added) ∙ rename_ids e
 
-pub types_by_none : (e : TermTree) → shift_types e 0 0 ≡ e
+types_by_none : (e : TermTree) → shift_types e 0 0 ≡ e
 types_by_none e = ap (rename_types e) (same _ _ none_added) ∙ types_ids e
 
-pub shift_alone : (r : Raising) (e : TermTree) → r.types_from ≡ 0 → r.types_by ≡ 0 → raised_by r e ≡ shift e r.from r.by
-shift_alone r e p q = (λ i. shift_types (shift e r.from r.by) (p i) (q i)) ∙ types_by_none (shift e r.from r.by)
+pub shift_alone : (e : TermTree) (c by : ℕ) → raised_by by 0 c 0 e ≡ shift e c by
+shift_alone e c by = types_by_none (shift e c by)
 
-pub shift_types_alone : (r : Raising) (e : TermTree) → r.from ≡ 0 → r.by ≡ 0 → raised_by r e ≡ shift_types e r.types_from r.types_by
-shift_types_alone r e p q = ap (λ e. shift_types e r.types_from r.types_by) ((λ i. shift e (p i) (q i)) ∙ shift_by_none e)
+pub shift_types_alone : (e : TermTree) (c by : ℕ) → raised_by 0 by 0 c e ≡ shift_types e c by
+shift_types_alone e c by = ap (λ e. shift_types e c by) (shift_by_none e)
 
-pub raise_nothing : (e : TermTree) → raised_by (record { from = 0; by = 0; types_from = 0; types_by = 0 }) e ≡ e
+pub raise_nothing : (e : TermTree) → raised_by 0 0 0 0 e ≡ e
 raise_nothing e = types_by_none (shift e 0 0) ∙ shift_by_none e
 
-pub put_alone : (c : ℕ) (a e : TermTree) → put_under c 0 a e ≡ put e c a
-put_alone c a e = ap (put e c) (types_by_none a)
+pub put_alone : (e a : TermTree) (c : ℕ) → put_under a c 0 e ≡ put e c a
+put_alone e a c = ap (put e c) (types_by_none a)
 
-pub raise_below : (r : Raising) (x : ℕ) → x < r.from → var x ≡ raised_by r (var x)
-unfolding rename rename_types
-raise_below r x h = ap var (sym (raised_below r.from r.by x h))
-
-pub raise_above : (r : Raising) (x : ℕ) → r.from ≤ x → var (x + r.by) ≡ raised_by r (var x)
-unfolding rename rename_types
-raise_above r x h = ap var (sym (raised_above r.from r.by x h))
-
--- a head and its arguments are raised each for itself
-raised_applied : (r : Raising) (e : TermTree) (args : List Arg) → applied (raised_by r e) (map (raised_arg r) args) ≡ raised_by r (applied e args)
-unfolding rename rename_types
-raised_applied r e [] = refl
-raised_applied r e (OfTerm a ∷ args) = raised_applied r (app e a) args
-raised_applied r e (OfType t ∷ args) = raised_applied r (ty_app e t) args
-
-pub raise_spine : (r : Raising) (e e' : TermTree) (args done : List Arg) (i : ℕ) → e' ≡ raised_by r e → done ≡ map (raised_arg r) (take i args) → length args ≤ i → applied e' done ≡ raised_by r (applied e args)
-raise_spine r e e' args done i h d all =
-    (λ j. applied (h j) ((d ∙ ap (map (raised_arg r)) (take_all i args all)) j)) ∙ raised_applied r e args
-
-pub raise_lam : (r : Raising) (t : TypeTree) (e e' : TermTree) → e' ≡ raised_by (under 1 r) e → lam (shift_type t r.types_from r.types_by) e' ≡ raised_by r (lam t e)
-unfolding rename rename_types
-raise_lam r t e e' h = ap (lam (shift_type t r.types_from r.types_by)) (h ∙ ap (λ ρ. shift_types (rename e ρ) r.types_from r.types_by) (sym (lifted 1 r.from r.by)))
-
-pub raise_ty_lam : (r : Raising) (k : Kind) (e e' : TermTree) → e' ≡ raised_by (under_type r) e → ty_lam k e' ≡ raised_by r (ty_lam k e)
-unfolding rename rename_types
-raise_ty_lam r k e e' h = ap (ty_lam k) (h ∙ ap (rename_types (shift e r.from r.by)) (sym (lifted 1 r.types_from r.types_by)))
-
-pub raise_letrec : (r inner : Raising) (bs done : List Binding) (e e' : TermTree) (i : ℕ) → done ≡ map (raised_binding r inner) (take i bs) → length bs ≤ i → inner ≡ under (length bs) r → e' ≡ raised_by inner e → letrec (group_of done) e' ≡ raised_by r (letrec (group_of bs) e)
-unfolding rename rename_types
-raise_letrec r inner bs done e e' i d all at body =
-    let whole : done ≡ map (raised_binding r (under (length bs) r)) bs = d ∙ ap (map (raised_binding r inner)) (take_all i bs all) ∙ ap (λ n. map (raised_binding r n) bs) at in
-    let deep : raised (r.from + length bs) r.by ≡ lift_by (size_of (group_of bs)) (raised r.from r.by) = sym (lifted (length bs) r.from r.by) ∙ ap (λ n. lift_by n (raised r.from r.by)) (sym (size_of_group bs)) in
-    let group : group_of done ≡ rename_types_group (rename_group (group_of bs) (raised (r.from + length bs) r.by)) (raised r.types_from r.types_by) = ap group_of whole ∙ group_raised r (r.from + length bs) bs in
-    (λ j. letrec (group j) ((body ∙ ap (λ n. raised_by n e) at) j))
-    ∙ ap (λ ρ. letrec (rename_types_group (rename_group (group_of bs) ρ) (raised r.types_from r.types_by)) (rename_types (rename e ρ) (raised r.types_from r.types_by))) deep
-  where
-    size_of_group : (bs : List Binding) → size_of (group_of bs) ≡ length bs
-    size_of_group [] = refl
-    size_of_group (b ∷ bs) = ap suc (size_of_group bs)
-
-    group_raised : (r : Raising) (n : ℕ) (bs : List Binding) → group_of (map (raised_binding r (record { from = n; by = r.by; types_from = r.types_from; types_by = r.types_by })) bs) ≡ rename_types_group (rename_group (group_of bs) (raised n r.by)) (raised r.types_from r.types_by)
-    group_raised r n [] = refl
-    group_raised r n (b ∷ bs) = ap (bind (shift_type b.ty r.types_from r.types_by) (rename_types (rename b.body (raised n r.by)) (raised r.types_from r.types_by))) (group_raised r n bs)
-
-pub raise_vec : (r : Raising) (t : TypeTree) (es done : List TermTree) (i : ℕ) → done ≡ map (raised_by r) (take i es) → length es ≤ i → vec_lit (shift_type t r.types_from r.types_by) (terms_of done) ≡ raised_by r (vec_lit t (terms_of es))
-unfolding rename rename_types
-raise_vec r t es done i d all =
-    ap (λ es. vec_lit (shift_type t r.types_from r.types_by) (terms_of es)) (d ∙ ap (map (raised_by r)) (take_all i es all)) ∙ ap (vec_lit (shift_type t r.types_from r.types_by)) (each es)
-  where
-    each : (es : List TermTree) → terms_of (map (raised_by r) es) ≡ rename_types_all (rename_all (terms_of es) (raised r.from r.by)) (raised r.types_from r.types_by)
-    each [] = refl
-    each (e ∷ es) = ap (term_and (raised_by r e)) (each es)
-
-pub raise_case : (r : Raising) (alts done : List Alt) (s s' : TermTree) (i : ℕ) → done ≡ map (raised_alt r) (take i alts) → length alts ≤ i → s' ≡ raised_by r s → case_of s' (alts_of done) ≡ raised_by r (case_of s (alts_of alts))
-unfolding rename rename_types
-raise_case r alts done s s' i d all on =
-    λ j. case_of (on j) ((ap alts_of (d ∙ ap (map (raised_alt r)) (take_all i alts all)) ∙ each alts) j)
-  where
-    each : (alts : List Alt) → alts_of (map (raised_alt r) alts) ≡ rename_types_alts (rename_alts (alts_of alts) (raised r.from r.by)) (raised r.types_from r.types_by)
-    each [] = refl
-    each (a ∷ more) = let e = sym (lifted (binders a.pattern) r.from r.by) in λ j. alt a.pattern (rename_types (rename a.body (e j)) (raised r.types_from r.types_by)) (each more j)
-
+-- what is put for the variables
 at_below : (c : ℕ) (a : TermTree) (x : ℕ) → x < c → put_at c a x ≡ var x
 unfolding put_at up up_by rename
 at_below zero a x h = absurd (omega arith)
@@ -123,32 +66,26 @@ at_above zero a (suc x) h = let e : x ≡ suc x - 1 = omega arith in ap var e
 at_above (suc c) a (suc zero) h = absurd (omega arith)
 at_above (suc c) a (suc (suc x)) h = let e : suc (suc x - 1) ≡ suc (suc x) - 1 = omega arith in ap (λ e. rename e suc) (at_above c a (suc x) (omega arith)) ∙ ap var e
 
-pub put_below : (c n : ℕ) (a : TermTree) (x : ℕ) → x < c → var x ≡ put_under c n a (var x)
+pub put_below : (a : TermTree) (c n x : ℕ) → x < c → var x ≡ put_under a c n (var x)
 unfolding sub
-put_below c n a x h = sym (at_below c (shift_types a 0 n) x h)
+put_below a c n x h = sym (at_below c (shift_types a 0 n) x h)
 
-pub put_here : (r : Raising) (c n : ℕ) (a : TermTree) (x : ℕ) → r ≡ record { from = 0; by = c; types_from = 0; types_by = n } → x ≡ c → raised_by r a ≡ put_under c n a (var x)
+pub put_here : (a : TermTree) (c n x : ℕ) → x ≡ c → raised_by c n 0 0 a ≡ put_under a c n (var x)
 unfolding sub
-put_here r c n a x p q =
-    ap (λ r. raised_by r a) p ∙ types_after_rename a (raised 0 c) (raised 0 n) ∙ sym (at_here c (shift_types a 0 n)) ∙ ap (put_at c (shift_types a 0 n)) (sym q)
+put_here a c n x q =
+    types_after_rename a (raised 0 c) (raised 0 n) ∙ sym (at_here c (shift_types a 0 n)) ∙ ap (put_at c (shift_types a 0 n)) (sym q)
 
-pub put_above : (c n : ℕ) (a : TermTree) (x : ℕ) → c < x → var (x - 1) ≡ put_under c n a (var x)
+pub put_above : (a : TermTree) (c n x : ℕ) → c < x → var (x - 1) ≡ put_under a c n (var x)
 unfolding sub
-put_above c n a x h = sym (at_above c (shift_types a 0 n) x h)
+put_above a c n x h = sym (at_above c (shift_types a 0 n) x h)
 
-put_applied : (c n : ℕ) (a e : TermTree) (args : List Arg) → applied (put_under c n a e) (map (put_in_arg c n a) args) ≡ put_under c n a (applied e args)
-unfolding sub
-put_applied c n a e [] = refl
-put_applied c n a e (OfTerm b ∷ args) = put_applied c n a (app e b) args
-put_applied c n a e (OfType t ∷ args) = put_applied c n a (ty_app e t) args
+pub raised_var : (by types_by at types x y : ℕ) → y ≡ raised at by x → var y ≡ raised_by by types_by at types (var x)
+unfolding rename rename_types
+raised_var by types_by at types x y h = ap var h
 
-pub put_spine : (c n : ℕ) (a e e' : TermTree) (args done : List Arg) (i : ℕ) → e' ≡ put_under c n a e → done ≡ map (put_in_arg c n a) (take i args) → length args ≤ i → applied e' done ≡ put_under c n a (applied e args)
-put_spine c n a e e' args done i h d all =
-    (λ j. applied (h j) ((d ∙ ap (map (put_in_arg c n a)) (take_all i args all)) j)) ∙ put_applied c n a e args
-
-pub put_lam : (c n : ℕ) (a : TermTree) (t : TypeTree) (e e' : TermTree) → e' ≡ put_under (c + 1) n a e → lam t e' ≡ put_under c n a (lam t e)
-unfolding sub up_by
-put_lam c n a t e e' h = ap (lam t) (h ∙ ap (sub e) (sym (put_deeper 1 c (shift_types a 0 n))))
+pub typed_var : (a : TypeTree) (types x : ℕ) → var x ≡ typed a types (var x)
+unfolding sub_types evaluated_in
+typed_var a types x = refl
 
 -- what is put under a type binder
 at_retyped : (c : ℕ) (b : TermTree) (x : ℕ) → rename_types (put_at c b x) suc ≡ put_at c (rename_types b suc) x
@@ -158,48 +95,126 @@ at_retyped zero b (suc x) = refl
 at_retyped (suc c) b zero = refl
 at_retyped (suc c) b (suc x) = types_after_rename (put_at c b x) suc suc ∙ ap (λ e. rename e suc) (at_retyped c b x)
 
-pub put_ty_lam : (c n : ℕ) (a : TermTree) (k : Kind) (e e' : TermTree) → e' ≡ put_under c (n + 1) a e → ty_lam k e' ≡ put_under c n a (ty_lam k e)
-unfolding sub
-put_ty_lam c n a k e e' h =
-    ap (ty_lam k) (h ∙ ap (λ b. put e c b) more ∙ ap (sub e) (same _ _ (λ x. sym (at_retyped c (shift_types a 0 n) x))))
+-- a loop over items that has come to their end
+pub all_done : {X Y : Type 0} (f : X → Y) (xs : List X) (done : List Y) (i : ℕ) → done ≡ map f (take i xs) → length xs ≤ i → done ≡ map f xs
+all_done f xs done i d all = d ∙ ap (map f) (take_all i xs all)
+
+-- a head without parts stays
+pub moved_leaf : (m : Move) (at types : ℕ) (h : Head) → IsLeaf h → tree_of h ≡ moved m at types (tree_of h)
+unfolding rename rename_types sub sub_types evaluated_in
+moved_leaf (Raise _ _) at types (Global d) h = refl
+moved_leaf (Raise _ _) at types (Made d) h = refl
+moved_leaf (Raise _ _) at types (Con c) h = refl
+moved_leaf (Raise _ _) at types (PrimOf p) h = refl
+moved_leaf (Raise _ _) at types (Lit s bs) h = refl
+moved_leaf (PutTerm _) at types (Global d) h = refl
+moved_leaf (PutTerm _) at types (Made d) h = refl
+moved_leaf (PutTerm _) at types (Con c) h = refl
+moved_leaf (PutTerm _) at types (PrimOf p) h = refl
+moved_leaf (PutTerm _) at types (Lit s bs) h = refl
+moved_leaf (PutType _) at types (Global d) h = refl
+moved_leaf (PutType _) at types (Made d) h = refl
+moved_leaf (PutType _) at types (Con c) h = refl
+moved_leaf (PutType _) at types (PrimOf p) h = refl
+moved_leaf (PutType _) at types (Lit s bs) h = refl
+moved_leaf m at types (Var _) h = absurd h
+moved_leaf m at types (Lam _ _) h = absurd h
+moved_leaf m at types (TyLam _ _) h = absurd h
+moved_leaf m at types (LetRec _ _) h = absurd h
+moved_leaf m at types (VecLit _ _) h = absurd h
+moved_leaf m at types (Case _ _) h = absurd h
+
+-- a head and its arguments are moved each for itself
+pub moved_applied : (m : Move) (at types : ℕ) (e : TermTree) (args : List Arg) → applied (moved m at types e) (map (moved_arg m at types) args) ≡ moved m at types (applied e args)
+unfolding rename rename_types sub sub_types evaluated_in
+moved_applied m at types e [] = refl
+moved_applied (Raise by tb) at types e (OfTerm a ∷ args) = moved_applied (Raise by tb) at types (app e a) args
+moved_applied (Raise by tb) at types e (OfType t ∷ args) = moved_applied (Raise by tb) at types (ty_app e t) args
+moved_applied (PutTerm b) at types e (OfTerm a ∷ args) = moved_applied (PutTerm b) at types (app e a) args
+moved_applied (PutTerm b) at types e (OfType t ∷ args) = moved_applied (PutTerm b) at types (ty_app e t) args
+moved_applied (PutType b) at types e (OfTerm a ∷ args) = moved_applied (PutType b) at types (app e a) args
+moved_applied (PutType b) at types e (OfType t ∷ args) = moved_applied (PutType b) at types (ty_app e t) args
+
+pub moved_lam : (m : Move) (at types : ℕ) (t : TypeTree) (e : TermTree) → lam (moved_type m types t) (moved m (at + 1) types e) ≡ moved m at types (lam t e)
+unfolding rename rename_types sub sub_types evaluated_in up_by
+moved_lam (Raise by tb) at types t e = ap (λ ρ. lam (moved_type (Raise by tb) types t) (shift_types (rename e ρ) types tb)) (sym (lifted 1 at by))
+moved_lam (PutTerm a) at types t e = ap (λ σ. lam t (sub e σ)) (sym (put_deeper 1 at (shift_types a.now 0 types)))
+moved_lam (PutType a) at types t e = refl
+
+pub moved_ty_lam : (m : Move) (at types : ℕ) (k : Kind) (e : TermTree) → ty_lam k (moved m at (types + 1) e) ≡ moved m at types (ty_lam k e)
+unfolding rename rename_types sub sub_types evaluated_in up_type_by
+moved_ty_lam (Raise by tb) at types k e = ap (λ ρ. ty_lam k (rename_types (shift e at by) ρ)) (sym (lifted 1 types tb))
+moved_ty_lam (PutTerm a) at types k e =
+    ap (λ b. ty_lam k (put e at b)) more ∙ ap (λ σ. ty_lam k (sub e σ)) (same _ _ (λ x. sym (at_retyped at (shift_types a.now 0 types) x)))
   where
-    one_more : (x : ℕ) → x + (n + 1) ≡ suc (x + n)
+    one_more : (x : ℕ) → x + (types + 1) ≡ suc (x + types)
     one_more x = omega arith
 
-    more : shift_types a 0 (n + 1) ≡ rename_types (shift_types a 0 n) suc
-    more = ap (rename_types a) (same _ _ one_more) ∙ sym (types_types a (raised 0 n) suc)
+    more : shift_types a.now 0 (types + 1) ≡ rename_types (shift_types a.now 0 types) suc
+    more = ap (rename_types a.now) (same _ _ one_more) ∙ sym (types_types a.now (raised 0 types) suc)
+moved_ty_lam (PutType a) at types k e = ap (λ σ. ty_lam k (evaluated_in (sub_types e σ))) (sym (type_put_deeper 1 types a.now))
 
-pub put_letrec : (c n inner : ℕ) (a : TermTree) (bs done : List Binding) (e e' : TermTree) (i : ℕ) → done ≡ map (put_in_binding inner n a) (take i bs) → length bs ≤ i → inner ≡ c + length bs → e' ≡ put_under inner n a e → letrec (group_of done) e' ≡ put_under c n a (letrec (group_of bs) e)
-unfolding sub
-put_letrec c n inner a bs done e e' i d all at body =
-    let b = shift_types a 0 n in
-    let whole : done ≡ map (put_in_binding inner n a) bs = d ∙ ap (map (put_in_binding inner n a)) (take_all i bs all) in
-    let deep : put_at inner b ≡ up_by (size_of (group_of bs)) (put_at c b) = ap (λ n. put_at n b) at ∙ sym (put_deeper (length bs) c b) ∙ ap (λ n. up_by n (put_at c b)) (sym (size_of_group bs)) in
-    let group : group_of done ≡ sub_group (group_of bs) (put_at inner b) = ap group_of whole ∙ each bs in
-    (λ j. letrec (group j) (body j)) ∙ ap (λ σ. letrec (sub_group (group_of bs) σ) (sub e σ)) deep
+size_of_group : (bs : List Binding) → size_of (group_of bs) ≡ length bs
+size_of_group [] = refl
+size_of_group (b ∷ bs) = ap suc (size_of_group bs)
+
+pub moved_letrec : (m : Move) (at types : ℕ) (bs : List Binding) (e : TermTree) → letrec (group_of (map (moved_binding m (at + length bs) types) bs)) (moved m (at + length bs) types e) ≡ moved m at types (letrec (group_of bs) e)
+unfolding rename rename_types sub sub_types evaluated_in
+moved_letrec (Raise by tb) at types bs e =
+    let deep : raised (at + length bs) by ≡ lift_by (size_of (group_of bs)) (raised at by) = sym (lifted (length bs) at by) ∙ ap (λ n. lift_by n (raised at by)) (sym (size_of_group bs)) in
+    ap (λ g. letrec g (raised_by by tb (at + length bs) types e)) (each (at + length bs) bs)
+    ∙ ap (λ ρ. letrec (rename_types_group (rename_group (group_of bs) ρ) (raised types tb)) (rename_types (rename e ρ) (raised types tb))) deep
   where
-    size_of_group : (bs : List Binding) → size_of (group_of bs) ≡ length bs
-    size_of_group [] = refl
-    size_of_group (b ∷ bs) = ap suc (size_of_group bs)
-
-    each : (bs : List Binding) → group_of (map (put_in_binding inner n a) bs) ≡ sub_group (group_of bs) (put_at inner (shift_types a 0 n))
-    each [] = refl
-    each (b ∷ bs) = ap (bind b.ty (put_under inner n a b.body)) (each bs)
-
-pub put_vec : (c n : ℕ) (a : TermTree) (t : TypeTree) (es done : List TermTree) (i : ℕ) → done ≡ map (put_under c n a) (take i es) → length es ≤ i → vec_lit t (terms_of done) ≡ put_under c n a (vec_lit t (terms_of es))
-unfolding sub
-put_vec c n a t es done i d all =
-    ap (λ es. vec_lit t (terms_of es)) (d ∙ ap (map (put_under c n a)) (take_all i es all)) ∙ ap (vec_lit t) (each es)
+    each : (n : ℕ) (bs : List Binding) → group_of (map (moved_binding (Raise by tb) n types) bs) ≡ rename_types_group (rename_group (group_of bs) (raised n by)) (raised types tb)
+    each n [] = refl
+    each n (b ∷ bs) = ap (bind (moved_type (Raise by tb) types b.ty) (raised_by by tb n types b.body)) (each n bs)
+moved_letrec (PutTerm a) at types bs e =
+    let b = shift_types a.now 0 types in
+    let deep : put_at (at + length bs) b ≡ up_by (size_of (group_of bs)) (put_at at b) = sym (put_deeper (length bs) at b) ∙ ap (λ n. up_by n (put_at at b)) (sym (size_of_group bs)) in
+    ap (λ g. letrec g (put_under a.now (at + length bs) types e)) (each (at + length bs) bs)
+    ∙ ap (λ σ. letrec (sub_group (group_of bs) σ) (sub e σ)) deep
   where
-    each : (es : List TermTree) → terms_of (map (put_under c n a) es) ≡ sub_all (terms_of es) (put_at c (shift_types a 0 n))
-    each [] = refl
-    each (e ∷ es) = ap (term_and (put_under c n a e)) (each es)
-
-pub put_case : (c n : ℕ) (a : TermTree) (alts done : List Alt) (s s' : TermTree) (i : ℕ) → done ≡ map (put_in_alt c n a) (take i alts) → length alts ≤ i → s' ≡ put_under c n a s → case_of s' (alts_of done) ≡ put_under c n a (case_of s (alts_of alts))
-unfolding sub
-put_case c n a alts done s s' i d all on =
-    λ j. case_of (on j) ((ap alts_of (d ∙ ap (map (put_in_alt c n a)) (take_all i alts all)) ∙ each alts) j)
+    each : (n : ℕ) (bs : List Binding) → group_of (map (moved_binding (PutTerm a) n types) bs) ≡ sub_group (group_of bs) (put_at n (shift_types a.now 0 types))
+    each n [] = refl
+    each n (b ∷ bs) = ap (bind b.ty (put_under a.now n types b.body)) (each n bs)
+moved_letrec (PutType a) at types bs e = ap (λ g. letrec g (typed a.now types e)) (each (at + length bs) bs)
   where
-    each : (alts : List Alt) → alts_of (map (put_in_alt c n a) alts) ≡ sub_alts (alts_of alts) (put_at c (shift_types a 0 n))
+    each : (n : ℕ) (bs : List Binding) → group_of (map (moved_binding (PutType a) n types) bs) ≡ evaluated_in_group (sub_types_group (group_of bs) (type_put_at types a.now))
+    each n [] = refl
+    each n (b ∷ bs) = ap (bind (moved_type (PutType a) types b.ty) (typed a.now types b.body)) (each n bs)
+
+pub moved_vec : (m : Move) (at types : ℕ) (t : TypeTree) (es : List TermTree) → vec_lit (moved_type m types t) (terms_of (map (moved m at types) es)) ≡ moved m at types (vec_lit t (terms_of es))
+unfolding rename rename_types sub sub_types evaluated_in
+moved_vec (Raise by tb) at types t es = ap (vec_lit (moved_type (Raise by tb) types t)) (each es)
+  where
+    each : (es : List TermTree) → terms_of (map (raised_by by tb at types) es) ≡ rename_types_all (rename_all (terms_of es) (raised at by)) (raised types tb)
     each [] = refl
-    each (q ∷ more) = let e = sym (put_deeper (binders q.pattern) c (shift_types a 0 n)) in λ j. alt q.pattern (sub q.body (e j)) (each more j)
+    each (e ∷ es) = ap (term_and (raised_by by tb at types e)) (each es)
+moved_vec (PutTerm a) at types t es = ap (vec_lit t) (each es)
+  where
+    each : (es : List TermTree) → terms_of (map (put_under a.now at types) es) ≡ sub_all (terms_of es) (put_at at (shift_types a.now 0 types))
+    each [] = refl
+    each (e ∷ es) = ap (term_and (put_under a.now at types e)) (each es)
+moved_vec (PutType a) at types t es = ap (vec_lit (moved_type (PutType a) types t)) (each es)
+  where
+    each : (es : List TermTree) → terms_of (map (typed a.now types) es) ≡ evaluated_in_all (sub_types_all (terms_of es) (type_put_at types a.now))
+    each [] = refl
+    each (e ∷ es) = ap (term_and (typed a.now types e)) (each es)
+
+pub moved_case : (m : Move) (at types : ℕ) (s : TermTree) (alts : List Alt) → case_of (moved m at types s) (alts_of (map (moved_alt m at types) alts)) ≡ moved m at types (case_of s (alts_of alts))
+unfolding rename rename_types sub sub_types evaluated_in
+moved_case (Raise by tb) at types s alts = ap (case_of (raised_by by tb at types s)) (each alts)
+  where
+    each : (alts : List Alt) → alts_of (map (moved_alt (Raise by tb) at types) alts) ≡ rename_types_alts (rename_alts (alts_of alts) (raised at by)) (raised types tb)
+    each [] = refl
+    each (q ∷ more) = let e = sym (lifted (binders q.pattern) at by) in λ j. alt q.pattern (rename_types (rename q.body (e j)) (raised types tb)) (each more j)
+moved_case (PutTerm a) at types s alts = ap (case_of (put_under a.now at types s)) (each alts)
+  where
+    each : (alts : List Alt) → alts_of (map (moved_alt (PutTerm a) at types) alts) ≡ sub_alts (alts_of alts) (put_at at (shift_types a.now 0 types))
+    each [] = refl
+    each (q ∷ more) = let e = sym (put_deeper (binders q.pattern) at (shift_types a.now 0 types)) in λ j. alt q.pattern (sub q.body (e j)) (each more j)
+moved_case (PutType a) at types s alts = ap (case_of (typed a.now types s)) (each alts)
+  where
+    each : (alts : List Alt) → alts_of (map (moved_alt (PutType a) at types) alts) ≡ evaluated_in_alts (sub_types_alts (alts_of alts) (type_put_at types a.now))
+    each [] = refl
+    each (q ∷ more) = ap (alt q.pattern (typed a.now types q.body)) (each more)

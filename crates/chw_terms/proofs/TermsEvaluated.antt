@@ -1,10 +1,10 @@
 -- Laws of evaluating the closed naturals of terms.
 use Rattle.std.proofs.Common.{◌≡◌, ℕ, suc, zero, refl, sym, ap, ◌∙◌}
-use Rattle.chw_types.specs.TypeTree.{TypeTree, ty_var}
-use Rattle.chw_types.specs.TypeMoves.{Renaming, lift, lift_by, Substitution as TypeSubstitution, up as up_type, one as one_type, put_at as type_put_at, up_by as up_type_by}
+use Rattle.chw_types.specs.TypeTree.{ty_var}
+use Rattle.chw_types.specs.TypeMoves.{Renaming, lift, lift_by, Substitution as TypeSubstitution, up as up_type}
 use Rattle.chw_types.proofs.TypeLaws.{same}
 use Rattle.chw_terms.specs.TermTree.{TermTree, var, global, made, lam, app, ty_lam, ty_app, letrec, con, prim, lit, vec_lit, case_of, Terms, no_terms, term_and, Group, no_bindings, bind, Alts, no_alts, alt, binders, size_of}
-use Rattle.chw_terms.specs.TypesMoved.{rename_types, rename_types_all, rename_types_group, rename_types_alts, sub_types, sub_types_all, sub_types_group, sub_types_alts, put_types}
+use Rattle.chw_terms.specs.TypesMoved.{rename_types, rename_types_all, rename_types_group, rename_types_alts, sub_types, sub_types_all, sub_types_group, sub_types_alts}
 use Rattle.chw_terms.specs.TermMoves.{rename, rename_all, rename_group, rename_alts, Substitution, up, up_by, under_type, sub, sub_all, sub_group, sub_alts, put_at, put}
 use Rattle.chw_terms.specs.Evaluated.{evaluated, evaluated_in, evaluated_in_all, evaluated_in_group, evaluated_in_alts}
 use Rattle.chw_terms.proofs.TypesPut.{put_types_after_rename, put_types_after_sub, types_sub_ids}
@@ -200,19 +200,6 @@ mutual
 -- types and terms may both be evaluated before they are put together
 pub evaluated_both : (e : TermTree) (τ : TypeSubstitution) → evaluated_in (sub_types (evaluated_in e) (λ x. evaluated (τ x))) ≡ evaluated_in (sub_types e τ)
 evaluated_both e τ = typed_evaluated (evaluated_in e) τ ∙ evaluated_in_typed e τ
-
-pub one_evaluated : (c : ℕ) (a : TypeTree) → (λ x. evaluated (type_put_at c a x)) ≡ type_put_at c (evaluated a)
-unfolding type_put_at up_type_by evaluated
-one_evaluated zero a = same _ _ here
-  where
-    here : (x : ℕ) → evaluated (one_type a x) ≡ one_type (evaluated a) x
-    here zero = refl
-    here (suc x) = refl
-one_evaluated (suc c) a = evaluated_up (type_put_at c a) ∙ ap up_type (one_evaluated c a)
-
--- the type may be evaluated before it is put
-pub put_types_evaluated : (e : TermTree) (c : ℕ) (a : TypeTree) → evaluated_in (put_types e c (evaluated a)) ≡ evaluated_in (put_types e c a)
-put_types_evaluated e c a = ap (λ τ. evaluated_in (sub_types e τ)) (sym (one_evaluated c a)) ∙ typed_evaluated e (type_put_at c a)
 
 pub put_at_mapped : (F : TermTree → TermTree) → ((e : TermTree) → F (rename e suc) ≡ rename (F e) suc) → ((x : ℕ) → F (var x) ≡ var x) → (c : ℕ) (a : TermTree) (x : ℕ) → F (put_at c a x) ≡ put_at c (F a) x
 unfolding put_at up_by up

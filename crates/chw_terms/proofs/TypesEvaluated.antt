@@ -1,6 +1,8 @@
 -- Laws of evaluating the closed naturals of types.
-use Rattle.std.proofs.Common.{◌≡◌, ℕ, suc, zero, ◌+◌, ◌*◌, Option, Some, None, refl, sym, ap, ◌∙◌}
+use Rattle.std.proofs.Common.{◌≡◌, ℕ, suc, zero, ◌+◌, ◌*◌, ◌≤◌, take, List, [], ◌∷◌, map, length, Option, Some, None, refl, sym, ap, ◌∙◌}
 use Rattle.chw_types.specs.TypeTree.{TypeTree, ty_var, nat_lit, nat_sum, nat_product, domain, scalar, vector, data_of, fun, signal, for_all, TypeTrees, no_types, type_and}
+use Rattle.std.proofs.lemmas.List.{take_all}
+use Rattle.chw_types.specs.TypeView.{trees_of}
 use Rattle.chw_types.specs.TypeMoves.{Renaming, lift, rename, rename_all, Substitution, up, sub, sub_all}
 use Rattle.chw_types.proofs.TypeLaws.{same, sub_ids}
 use Rattle.chw_terms.specs.Evaluated.{numeral, numeral_or, added, multiplied_by, evaluated, evaluated_all}
@@ -138,3 +140,12 @@ mutual
   pub put_evaluated_all : (ts : TypeTrees) (τ : Substitution) → evaluated_all (sub_all ts (λ x. evaluated (τ x))) ≡ evaluated_all (sub_all ts τ)
   put_evaluated_all no_types τ = refl
   put_evaluated_all (type_and t ts) τ = λ i. type_and (put_evaluated t τ i) (put_evaluated_all ts τ i)
+
+-- the data type of arguments that were evaluated one after another
+pub evaluated_data : (ts done : List TypeTree) (d i : ℕ) → done ≡ map evaluated (take i ts) → length ts ≤ i → data_of d (trees_of done) ≡ evaluated (data_of d (trees_of ts))
+unfolding evaluated
+evaluated_data ts done d i e all = ap (λ ts. data_of d (trees_of ts)) (e ∙ ap (map evaluated) (take_all i ts all)) ∙ ap (data_of d) (each ts)
+  where
+    each : (ts : List TypeTree) → trees_of (map evaluated ts) ≡ evaluated_all (trees_of ts)
+    each [] = refl
+    each (t ∷ ts) = ap (type_and (evaluated t)) (each ts)

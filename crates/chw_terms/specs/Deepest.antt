@@ -1,10 +1,9 @@
 -- The depths of the arguments of a head, and of the deepest of some items.
-use Rattle.std.specs.Prelude.{ℕ, suc, max, List, [], ◌∷◌}
+use Rattle.std.specs.Prelude.{ℕ, max, List, [], ◌∷◌}
 use Rattle.chw_terms.specs.declared.term.Arg.{Arg}
 use Rattle.chw_terms.specs.declared.term.Arg.TheVariants.{OfTerm, OfType}
 use Rattle.chw_terms.specs.declared.term.Binding.{Binding}
 use Rattle.chw_terms.specs.declared.term.Alt.{Alt}
-use Rattle.chw_terms.specs.TermTree.{TermTree}
 use Rattle.chw_terms.specs.Depth.{depth, type_depth}
 
 abbrev pub arg_depth : Arg → ℕ

@@ -24,6 +24,15 @@ added a b = numeral_or (λ m n. m + n) (numeral a) (numeral b) (nat_sum a b)
 abbrev pub multiplied_by : TypeTree → TypeTree → TypeTree
 multiplied_by a b = numeral_or (λ m n. m * n) (numeral a) (numeral b) (nat_product a b)
 
+-- the type of the same form with these two parts, a numeral if it is a natural and both parts are numerals; a signal for a type
+-- without two parts
+abbrev pub pair_evaluated : TypeTree → TypeTree → TypeTree → TypeTree
+pair_evaluated (nat_sum c d) a b = added a b
+pair_evaluated (nat_product c d) a b = multiplied_by a b
+pair_evaluated (vector c d) a b = vector a b
+pair_evaluated (fun c d) a b = fun a b
+pair_evaluated _ a b = signal a b
+
 unfoldable mutual
   -- each natural without variables is its numeral
   pub evaluated : TypeTree → TypeTree

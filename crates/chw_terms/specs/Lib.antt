@@ -2,11 +2,11 @@ pub mod Constructors
 pub mod Deepest
 pub mod Depth
 pub mod Evaluated
+pub mod Moved
 pub mod Names
 pub mod Occurs
 pub mod PartsFall
 pub mod PrimCode
-pub mod Raised
 pub mod References
 pub mod Sought
 pub mod TermCode
@@ -19,5 +19,4 @@ pub mod TermView
 pub mod Tidy
 pub mod TypesMoved
 pub mod TypesPromises
-pub mod TypesPutIn
 pub mod Unrolled

@@ -1,5 +1,5 @@
 -- How the logic stores a term: as a tree of numbers, which gives it back.
-use Rattle.std.specs.Prelude.{◌≡◌, ℕ, suc, zero, Bool, List, [], refl}
+use Rattle.std.specs.Prelude.{◌≡◌, ℕ, suc, zero, Bool, List, refl}
 use Rattle.std.proofs.Common.{sym, ap, ◌∙◌}
 use Rattle.std.specs.Coded.{Coded}
 use base.Stored.{Gv, gnil, gnum, gcons}

@@ -10,6 +10,7 @@ use Rattle.chw_terms.specs.declared.program.Program.{Program}
 use Rattle.chw_terms.specs.References.{IsField, DataRefers, DefRefers}
 use Rattle.graph_order.specs.References.{HasNoCycle}
 use Rattle.chw_base.specs.Names.{IsUpper, IsLower}
+use Rattle.chw_base.specs.Ordered.{AreOrdered}
 use Rattle.chw_terms.specs.Names.{AreNames}
 
 -- a field of the data type is a circuit, with its parameters in scope
@@ -31,5 +32,7 @@ pub record IsTidy (p : Program) : Type 0 where
   pub defs_acyclic : HasNoCycle (DefRefers p.defs)
   pub top_held : p.top.«def».number < length p.defs
   pub domain_names : AreNames IsUpper p.domains
+  -- the domains that have a reset are domains, in order, each once
+  pub resets : AreOrdered (length p.domains) p.resets
   pub input_names : AreNames IsLower p.top.inputs
   pub output_names : AreNames IsLower p.top.outputs

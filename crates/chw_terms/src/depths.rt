@@ -39,15 +39,15 @@ fn type_depth(t: &Ty) -> u32
     ensures { result ≡ ended (type_depth t.now) }
 {
     match &t.node {
-        TyNode::Var(_) => 1,
-        TyNode::NatLit(_) => 1,
-        TyNode::Sum(_, _) => 1,
-        TyNode::Times(_, _) => 1,
-        TyNode::DomOf(_) => 1,
-        TyNode::Unsigned(w) => one_more(type_depth(w)),
-        TyNode::Signed(w) => one_more(type_depth(w)),
-        TyNode::BitVector(w) => one_more(type_depth(w)),
-        TyNode::Vec(n, of) => one_more(deeper(type_depth(n), type_depth(of))),
+        TyNode::Var(_) | TyNode::NatLit(_) | TyNode::DomOf(_) => 1,
+        TyNode::Sum(_, _) | TyNode::Times(_, _) => 1,
+        TyNode::Unsigned(part)
+        | TyNode::Signed(part)
+        | TyNode::BitVector(part)
+        | TyNode::Forall(_, part) => one_more(type_depth(part)),
+        TyNode::Vec(a, b) | TyNode::Fun(a, b) | TyNode::Signal(a, b) => {
+            one_more(deeper(type_depth(a), type_depth(b)))
+        }
         TyNode::DataOf(_, args) => {
             let mut deepest = 0;
             for arg in args {
@@ -55,9 +55,6 @@ fn type_depth(t: &Ty) -> u32
             }
             one_more(deepest)
         }
-        TyNode::Fun(from, to) => one_more(deeper(type_depth(from), type_depth(to))),
-        TyNode::Signal(dom, of) => one_more(deeper(type_depth(dom), type_depth(of))),
-        TyNode::Forall(_, of) => one_more(type_depth(of)),
     }
 }
 
@@ -93,9 +90,8 @@ fn parts_of_head(head: &Head) -> u32
     ensures { result ≡ ended (parts_depth (tree_of head.now)) }
 {
     match head {
-        Head::Var(_) => 0,
-        Head::Global(_) => 0,
-        Head::Made(_) => 0,
+        Head::Var(_) | Head::Global(_) | Head::Made(_) => 0,
+        Head::Con(_) | Head::PrimOf(_) | Head::Lit(_, _) => 0,
         Head::Lam(ty, body) => deeper(type_depth(ty), one_more(parts(body))),
         Head::TyLam(_, body) => one_more(parts(body)),
         Head::LetRec(bindings, body) => {
@@ -106,9 +102,6 @@ fn parts_of_head(head: &Head) -> u32
             }
             deeper(deepest, one_more(parts(body)))
         }
-        Head::Con(_) => 0,
-        Head::PrimOf(_) => 0,
-        Head::Lit(_, _) => 0,
         Head::VecLit(ty, elements) => {
             let mut deepest = 0;
             for e in elements {

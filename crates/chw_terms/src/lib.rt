@@ -5,6 +5,7 @@
 
 pub mod depths;
 pub mod laws;
+mod moves;
 pub mod numerals;
 pub mod occurrence;
 pub mod program;
@@ -14,6 +15,7 @@ pub mod scene;
 pub mod shifting;
 pub mod term;
 pub mod types_put;
+mod walk;
 
 pub use chw_types::Scalar;
 pub use depths::depth;

@@ -1,11 +1,11 @@
-//! Closed naturals as numerals, in a type and as a type is put for a type variable.
+//! Closed naturals as numerals.
 ghost use Rattle.std.specs.Prelude.{◌≡◌, IfOk};
-ghost use Rattle.chw_types.specs.TypeMoves.{put as put_type_tree};
-ghost use Rattle.chw_terms.specs.Evaluated.{numeral, added, multiplied_by, evaluated};
+ghost use Rattle.chw_types.specs.TypeTree.{scalar};
+ghost use Rattle.chw_types.specs.Forms.{sort_of};
+ghost use Rattle.chw_terms.specs.Evaluated.{numeral, added, multiplied_by, pair_evaluated, evaluated};
 
-use crate::shifting::deeper;
-use chw_base::{NoMemory, TyIx};
-use chw_types::{Scalar, Ty, TyNode, put_type};
+use chw_base::NoMemory;
+use chw_types::{Scalar, Ty, TyNode};
 use std::alloc::Global;
 
 /// The number that a numeral means.
@@ -38,6 +38,31 @@ fn multiplied(alloc: Global, a: Ty, b: Ty) -> Result<Ty, NoMemory>
     }
 }
 
+// The scalar of the sort of another, with this width.
+fn scalar_like(alloc: Global, t: &Ty, width: Ty) -> Result<Ty, NoMemory>
+    ensures { IfOk result (λ r. r ≡ scalar (sort_of t.now) width) }
+{
+    let sort = match &t.node {
+        TyNode::Unsigned(_) => Scalar::U,
+        TyNode::Signed(_) => Scalar::S,
+        _ => Scalar::B,
+    };
+    Ok(Ty::scalar(alloc, sort, width)?)
+}
+
+// The type of the same form with these two parts, a numeral if it is a natural and both parts are numerals.
+fn pair_evaluated(alloc: Global, t: &Ty, a: Ty, b: Ty) -> Result<Ty, NoMemory>
+    ensures { IfOk result (λ r. r ≡ pair_evaluated t.now a b) }
+{
+    match &t.node {
+        TyNode::Sum(_, _) => Ok(added(alloc, a, b)?),
+        TyNode::Times(_, _) => Ok(multiplied(alloc, a, b)?),
+        TyNode::Vec(_, _) => Ok(Ty::vec(alloc, a, b)?),
+        TyNode::Fun(_, _) => Ok(Ty::fun(alloc, a, b)?),
+        _ => Ok(Ty::signal(alloc, a, b)?),
+    }
+}
+
 /// The type with each closed natural as its numeral, which ends at 4,294,967,295.
 #[tactic(auto, unfolding(crate::specs::Evaluated::evaluated))]
 pub fn evaluate(alloc: Global, t: &Ty) -> Result<Ty, NoMemory>
@@ -46,13 +71,20 @@ pub fn evaluate(alloc: Global, t: &Ty) -> Result<Ty, NoMemory>
     match &t.node {
         TyNode::Var(x) => Ok(Ty::var(*x)),
         TyNode::NatLit(n) => Ok(Ty::nat(*n)),
-        TyNode::Sum(a, b) => added(alloc, evaluate(alloc, a)?, evaluate(alloc, b)?),
-        TyNode::Times(a, b) => multiplied(alloc, evaluate(alloc, a)?, evaluate(alloc, b)?),
         TyNode::DomOf(d) => Ok(Ty::dom_of(*d)),
-        TyNode::Unsigned(w) => Ty::scalar(alloc, Scalar::U, evaluate(alloc, w)?),
-        TyNode::Signed(w) => Ty::scalar(alloc, Scalar::S, evaluate(alloc, w)?),
-        TyNode::BitVector(w) => Ty::scalar(alloc, Scalar::B, evaluate(alloc, w)?),
-        TyNode::Vec(n, t) => Ty::vec(alloc, evaluate(alloc, n)?, evaluate(alloc, t)?),
+        TyNode::Unsigned(w) | TyNode::Signed(w) | TyNode::BitVector(w) => {
+            let w = evaluate(alloc, w)?;
+            Ok(scalar_like(alloc, t, w)?)
+        }
+        TyNode::Sum(a, b)
+        | TyNode::Times(a, b)
+        | TyNode::Vec(a, b)
+        | TyNode::Fun(a, b)
+        | TyNode::Signal(a, b) => {
+            let a = evaluate(alloc, a)?;
+            let b = evaluate(alloc, b)?;
+            Ok(pair_evaluated(alloc, t, a, b)?)
+        }
         TyNode::DataOf(d, args) => {
             let mut done = Vec::new(alloc);
             for arg in args {
@@ -60,64 +92,6 @@ pub fn evaluate(alloc: Global, t: &Ty) -> Result<Ty, NoMemory>
             }
             Ok(Ty::data_of(*d, done))
         }
-        TyNode::Fun(a, b) => Ty::fun(alloc, evaluate(alloc, a)?, evaluate(alloc, b)?),
-        TyNode::Signal(d, t) => Ty::signal(alloc, evaluate(alloc, d)?, evaluate(alloc, t)?),
-        TyNode::Forall(k, t) => Ty::forall(alloc, *k, evaluate(alloc, t)?),
-    }
-}
-
-// The type with `arg` put for a variable, and with each closed natural as its numeral. Those of `arg` are numerals already.
-#[tactic(auto, unfolding(crate::specs::Evaluated::evaluated, chw_types::specs::TypeMoves::sub))]
-pub(crate) fn put_evaluated(alloc: Global, into: &Ty, at: u32, arg: &Ty) -> Result<Ty, NoMemory>
-    requires { evaluated arg.now ≡ arg.now }
-    ensures { IfOk result (λ t. t ≡ evaluated (put_type_tree into.now at arg.now)) }
-{
-    match &into.node {
-        TyNode::Var(_) => {
-            let at = TyIx { number: at };
-            Ok(put_type(alloc, into, at, arg)?)
-        }
-        TyNode::NatLit(n) => Ok(Ty::nat(*n)),
-        TyNode::Sum(a, b) => {
-            let a = put_evaluated(alloc, a, at, arg)?;
-            let b = put_evaluated(alloc, b, at, arg)?;
-            added(alloc, a, b)
-        }
-        TyNode::Times(a, b) => {
-            let a = put_evaluated(alloc, a, at, arg)?;
-            let b = put_evaluated(alloc, b, at, arg)?;
-            multiplied(alloc, a, b)
-        }
-        TyNode::DomOf(d) => Ok(Ty::dom_of(*d)),
-        TyNode::Unsigned(w) => Ty::scalar(alloc, Scalar::U, put_evaluated(alloc, w, at, arg)?),
-        TyNode::Signed(w) => Ty::scalar(alloc, Scalar::S, put_evaluated(alloc, w, at, arg)?),
-        TyNode::BitVector(w) => Ty::scalar(alloc, Scalar::B, put_evaluated(alloc, w, at, arg)?),
-        TyNode::Vec(n, t) => {
-            let n = put_evaluated(alloc, n, at, arg)?;
-            let t = put_evaluated(alloc, t, at, arg)?;
-            Ty::vec(alloc, n, t)
-        }
-        TyNode::DataOf(d, args) => {
-            let mut done = Vec::new(alloc);
-            for t in args {
-                done.push(put_evaluated(alloc, t, at, arg)?)?;
-            }
-            Ok(Ty::data_of(*d, done))
-        }
-        TyNode::Fun(a, b) => {
-            let a = put_evaluated(alloc, a, at, arg)?;
-            let b = put_evaluated(alloc, b, at, arg)?;
-            Ty::fun(alloc, a, b)
-        }
-        TyNode::Signal(d, t) => {
-            let d = put_evaluated(alloc, d, at, arg)?;
-            let t = put_evaluated(alloc, t, at, arg)?;
-            Ty::signal(alloc, d, t)
-        }
-        TyNode::Forall(k, t) => {
-            let inner = deeper(at, 1)?;
-            let t = put_evaluated(alloc, t, inner, arg)?;
-            Ok(Ty::forall(alloc, *k, t)?)
-        }
+        TyNode::Forall(k, t) => Ok(Ty::forall(alloc, *k, evaluate(alloc, t)?)?),
     }
 }

@@ -61,8 +61,7 @@ fn occurs_in_head(head: &Head, v: u64) -> bool
 {
     match head {
         Head::Var(x) => is_at(*x, v),
-        Head::Global(_) => false,
-        Head::Made(_) => false,
+        Head::Global(_) | Head::Made(_) | Head::Con(_) | Head::PrimOf(_) | Head::Lit(_, _) => false,
         Head::Lam(_, body) => occurs_at(body, deeper(v, 1)),
         Head::TyLam(_, body) => occurs_at(body, v),
         Head::LetRec(bindings, body) => {
@@ -77,9 +76,6 @@ fn occurs_in_head(head: &Head, v: u64) -> bool
             }
             false
         }
-        Head::Con(_) => false,
-        Head::PrimOf(_) => false,
-        Head::Lit(_, _) => false,
         Head::VecLit(_, elements) => {
             for e in elements {
                 if occurs_at(e, v) {

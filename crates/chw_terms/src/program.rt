@@ -1,6 +1,6 @@
 //! Whole programs.
 use crate::term::Term;
-use chw_base::{DefId, Name, Seq};
+use chw_base::{DefId, DomId, Name, Seq};
 use chw_types::{Data, Ty};
 
 /// A definition: its name, its declared type, and its body, in which no variable is in scope.
@@ -23,6 +23,8 @@ pub struct Top {
 #[derive(Drop)]
 pub struct Program {
     pub domains: Seq<Name>,
+    /// The domains that have a reset, in the order of `domains`, each once.
+    pub resets: Seq<DomId>,
     /// The built-in data types stand first.
     pub datas: Seq<Data>,
     pub defs: Seq<Def>,

@@ -1,5 +1,5 @@
 -- Each form of a declaration, written part by part, and the end of a line.
-use Rattle.std.specs.Prelude.{◌≡◌, ℕ, suc, zero, ◌+◌, ◌<◌, ◌≤◌, false, List, [], ◌∷◌, ◌++◌, length, codes, refl}
+use Rattle.std.specs.Prelude.{◌≡◌, ℕ, suc, zero, ◌+◌, ◌<◌, ◌≤◌, Bool, true, false, List, [], ◌∷◌, ◌++◌, length, codes, refl}
 use Rattle.std.proofs.Common.{sym, ap, ◌∙◌, arith, drop, get_or}
 use Rattle.std.specs.List.{flat_map}
 use Rattle.std.proofs.lemmas.List.{append_assoc, drop_all}
@@ -9,13 +9,13 @@ use Rattle.chw_grammar.specs.declared.terminal.Terminal.TheVariants as the
 use Rattle.chw_grammar.specs.declared.word.Word.{Word}
 use Rattle.chw_grammar.specs.declared.program.Constructor.{Constructor}
 use Rattle.chw_grammar.specs.declared.program.Parameter.{Parameter}
-use Rattle.chw_grammar.specs.declared.program.Declaration.TheVariants.{Data, Def}
+use Rattle.chw_grammar.specs.declared.program.Declaration.TheVariants.{Domain, Data, Def}
 use Rattle.chw_grammar.specs.declared.program.Top.{Top}
 use Rattle.chw_grammar.specs.Lexemes.{Lexeme}
 use Rattle.chw_grammar.specs.TypeTree.{Ty}
 use Rattle.chw_grammar.specs.TermTree.{Tm}
-use Rattle.chw_grammar.specs.Text.{sign, lower, upper, type_lexemes, term_lexemes, parameter_lexemes, constructor_lexemes, constructors_lexemes, port_names_lexemes, ports_lexemes, top_lexemes, line, declaration_text}
-use Rattle.chw_text.specs.Spaced.{spaced, Puts, Leaves, before_item, constructors_from, port_names_from}
+use Rattle.chw_grammar.specs.Text.{sign, lower, upper, type_lexemes, term_lexemes, parameter_lexemes, constructor_lexemes, constructors_lexemes, port_names_lexemes, ports_lexemes, declaration_lexemes, top_lexemes, line, declaration_text}
+use Rattle.chw_text.specs.Spaced.{spaced, Puts, Leaves, reset_part, before_item, constructors_from, port_names_from}
 use Rattle.chw_text.proofs.Spaces.{puts, puts_as, puts_word, puts_all, puts_step}
 use Rattle.chw_text.proofs.Parts.{from_index}
 use Rattle.chw_text.proofs.TermForms.{assoc4}
@@ -79,6 +79,15 @@ pub ports_put : {o o1 o2 o3 : List ℕ} (i : ℕ) (ws : List Word) → Puts o (s
     → Puts o2 (sign the.Close ∷ []) o3 → Puts o (ports_lexemes ws) o3
 ports_put i ws first left ended last =
     puts (puts first (puts_all left (ap (λ (zs : List Word). port_names_from i zs) (drop_all i ws ended) ∙ names_end i))) last
+
+domain_tokens : (w : Word) (has_reset : Bool) → ((sign the.Domain ∷ upper w ∷ []) ++ reset_part has_reset) ++ sign the.Semicolon ∷ [] ≡ declaration_lexemes (Domain w has_reset)
+domain_tokens w true = refl
+domain_tokens w false = refl
+
+pub domain_puts : {o o1 o2 o3 n : List ℕ} {w : Word} (has_reset : Bool) → Puts o (sign the.Domain ∷ []) o1 → Puts o1 (lower w ∷ []) o2
+    → Puts o2 (reset_part has_reset) o3 → n ≡ o3 ++ codes ";\n" → n ≡ o ++ declaration_text (Domain w has_reset)
+domain_puts {w = w} has_reset first name reset last =
+    puts_line (declaration_lexemes (Domain w has_reset)) (domain_tokens w has_reset) (puts (puts first (puts_word sort.Upper name)) reset) last
 
 pub data_puts : {o o1 o2 o3 o4 o5 n : List ℕ} {w : Word} (ps qs : List Parameter) (xs ys : List Constructor) → qs ≡ ps → ys ≡ xs → Puts o (sign the.Data ∷ []) o1 → Puts o1 (lower w ∷ []) o2
     → Puts o2 (flat_map parameter_lexemes qs) o3 → Puts o3 (sign the.Equals ∷ []) o4 → Puts o4 (constructors_lexemes ys) o5 → n ≡ o5 ++ codes ";\n" → n ≡ o ++ declaration_text (Data w ps xs)

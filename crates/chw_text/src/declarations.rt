@@ -5,7 +5,7 @@ ghost use Rattle.chw_grammar.specs.Text.{parameter_lexemes, fields_lexemes, cons
 ghost use Rattle.chw_text.specs.Spaced.{Puts};
 
 use crate::heads::put_typed_name;
-use crate::pieces::{put_before, put_end, put_kind, put_sign, put_word};
+use crate::pieces::{put_before, put_end, put_kind, put_reset, put_sign, put_word};
 use crate::terms::put_term;
 use crate::types::put_type;
 use chw_base::NoMemory;
@@ -16,9 +16,10 @@ pub fn put_declaration(out: &mut Vec<u8>, declaration: &Declaration) -> Result<(
     ensures { OnOk result (out.new.items ≡ out.old.items ++ declaration_text declaration.now) }
 {
     match declaration {
-        Declaration::Domain(name) => {
+        Declaration::Domain(name, has_reset) => {
             put_sign(out, Terminal::Domain)?;
             put_word(out, name)?;
+            put_reset(out, *has_reset)?;
             put_end(out)?;
             Ok(())
         }

@@ -65,7 +65,7 @@ pub fn put_vec(out: &mut Vec<u8>, ty: &TypeTree) -> Result<(), NoMemory>
 }
 
 /// Writes `pattern ->`
-pub fn put_alternative(out: &mut Vec<u8>, pattern: &Pattern) -> Result<(), NoMemory>
+pub fn put_alternative_head(out: &mut Vec<u8>, pattern: &Pattern) -> Result<(), NoMemory>
     ensures { OnOk result (Puts out.old.items (pattern_lexemes pattern.now ++ sign the.Arrow ∷ []) out.new.items) }
 {
     put_pattern(out, pattern)?;

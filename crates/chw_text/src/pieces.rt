@@ -2,7 +2,7 @@
 ghost use Rattle.std.specs.Prelude.{◌≡◌, ◌∷◌, [], ◌++◌, codes, OnOk};
 ghost use Rattle.chw_grammar.specs.declared.terminal.Terminal.TheVariants as the;
 ghost use Rattle.chw_grammar.specs.Text.{sign_bytes, sign, lower, kind};
-ghost use Rattle.chw_text.specs.Spaced.{Puts, opening, closing, before_item};
+ghost use Rattle.chw_text.specs.Spaced.{Puts, opening, closing, before_item, reset_part};
 
 use chw_base::NoMemory;
 use chw_grammar::{KindTree, Terminal, Word};
@@ -102,6 +102,17 @@ pub fn put_close(out: &mut Vec<u8>, closed: bool) -> Result<(), NoMemory>
 {
     if closed {
         put_sign(out, Terminal::Close)
+    } else {
+        Ok(())
+    }
+}
+
+/// Writes `reset`, where a domain has a reset.
+pub fn put_reset(out: &mut Vec<u8>, has_reset: bool) -> Result<(), NoMemory>
+    ensures { OnOk result (Puts out.old.items (reset_part has_reset) out.new.items) }
+{
+    if has_reset {
+        put_bytes(out, b"reset")
     } else {
         Ok(())
     }

@@ -15,6 +15,7 @@ abbrev pub alone : TypeTree → TermTree → List (List ℕ) → List (List ℕ)
 alone t e inputs outputs =
     record {
       domains = codes "A" ∷ [];
+      resets = [];
       datas = built_in;
       defs = record { name = codes "f"; ty = t; body = e } ∷ [];
       top = record { «def» = record { number = 0 }; inputs = inputs; outputs = outputs };

@@ -13,6 +13,3 @@ pub mod reading;
 
 pub use command::{Command, WordsFault};
 pub use reading::read_words;
-
-#[cfg(test)]
-mod tests;

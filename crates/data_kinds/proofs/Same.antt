@@ -56,8 +56,8 @@ module _ (domains : ℕ) (ds es : List Data) (same : SameButKinds ds es) where
     pub one_way : HasNoCycle (DataRefers ds) → ds ≡ es
     one_way none = same_list ds es (λ d. settled d (nowhere (length ds) (DataRefers ds) (Differ ds es) none within handed_on d))
 
-pub one_program : (p q : Program) → p.domains ≡ q.domains → SameButKinds p.datas q.datas → p.defs ≡ q.defs → p.top ≡ q.top → IsTidy p → IsTidy q → p ≡ q
-one_program p q domains same defs top tidy tidy' =
+pub one_program : (p q : Program) → p.domains ≡ q.domains → p.resets ≡ q.resets → SameButKinds p.datas q.datas → p.defs ≡ q.defs → p.top ≡ q.top → IsTidy p → IsTidy q → p ≡ q
+one_program p q domains resets same defs top tidy tidy' =
     let kinds : HaveTheirKinds q.datas (length p.domains) = subst (HaveTheirKinds q.datas) (ap length (sym domains)) tidy'.kinds in
     let datas : p.datas ≡ q.datas = one_way (length p.domains) p.datas q.datas same tidy.kinds kinds tidy.data_acyclic in
-    λ i. record { domains = domains i; datas = datas i; defs = defs i; top = top i }
+    λ i. record { domains = domains i; resets = resets i; datas = datas i; defs = defs i; top = top i }

@@ -16,5 +16,5 @@ OneWay =
 -- tidy programs are the same where they are so but for the kinds of their data types
 abbrev pub OneProgram : Type 0
 OneProgram =
-    (p q : Program) → p.domains ≡ q.domains → SameButKinds p.datas q.datas → p.defs ≡ q.defs → p.top ≡ q.top → IsTidy p → IsTidy q
-    → p ≡ q
+    (p q : Program) → p.domains ≡ q.domains → p.resets ≡ q.resets → SameButKinds p.datas q.datas → p.defs ≡ q.defs
+    → p.top ≡ q.top → IsTidy p → IsTidy q → p ≡ q

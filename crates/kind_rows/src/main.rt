@@ -2,10 +2,10 @@
 #![tactic(auto)]
 
 use chw_base::{Name, Or};
-use chw_terms::Def;
+use chw_terms::{Def, Term};
 use chw_types::{Data, Ty};
 use data_kinds::{definition_cycle, find_kinds};
-use row_notation::{Item, Items, kind_name, put_number, read};
+use row_notation::{kind_name, put_number, read};
 use row_tables::{Unread, print_rows, put};
 use std::alloc::Global;
 use std::io;
@@ -16,18 +16,18 @@ fn main(rt: HostRuntime) -> io::Result<()> {
 
 // Writes what a call gives.
 fn answer(alloc: Global, call: &str, text: &str, out: &mut Vec<u8>) -> Result<(), Or<Unread>> {
-    let items = read(alloc, text)?;
+    let parts = read(alloc, text)?;
     match call {
-        "kinds" => put_kinds(alloc, items, out),
+        "kinds" => put_kinds(alloc, parts.datas, out),
         "data_cycle" => {
-            let mut datas = datas(alloc, items)?;
+            let mut datas = parts.datas;
             if datas.len() > 100 {
                 return Err(Or::Fault(Unread));
             }
             put_cycle(&find_kinds(alloc, &mut datas, &[])?, out)
         }
         "definition_cycle" => {
-            let defs = definitions(alloc, items)?;
+            let defs = definitions(alloc, parts.terms)?;
             if defs.len() > 100 {
                 return Err(Or::Fault(Unread));
             }
@@ -38,9 +38,8 @@ fn answer(alloc: Global, call: &str, text: &str, out: &mut Vec<u8>) -> Result<()
 }
 
 // Writes the kinds of data types, where one domain is declared.
-fn put_kinds(alloc: Global, items: Items, out: &mut Vec<u8>) -> Result<(), Or<Unread>> {
+fn put_kinds(alloc: Global, mut datas: Vec<Data>, out: &mut Vec<u8>) -> Result<(), Or<Unread>> {
     let domains = [Name::from(Vec::from_slice(alloc, b"Sys")?)];
-    let mut datas = datas(alloc, items)?;
     if datas.len() > 100 || find_kinds(alloc, &mut datas, &domains)?.is_some() {
         return Err(Or::Fault(Unread));
     }
@@ -62,22 +61,10 @@ fn put_cycle(cycle: &Option<Vec<u32>>, out: &mut Vec<u8>) -> Result<(), Or<Unrea
     Ok(())
 }
 
-// The data types of a row.
-fn datas(alloc: Global, items: Items) -> Result<Vec<Data>, Or<Unread>> {
-    let mut datas = Vec::new(alloc);
-    for item in items.rest {
-        match item {
-            Item::Data(data) => datas.push(data)?,
-            _ => return Err(Or::Fault(Unread)),
-        }
-    }
-    Ok(datas)
-}
-
 // Definitions with these bodies.
-fn definitions(alloc: Global, items: Items) -> Result<Vec<Def>, Or<Unread>> {
+fn definitions(alloc: Global, bodies: Vec<Term>) -> Result<Vec<Def>, Or<Unread>> {
     let mut defs = Vec::new(alloc);
-    for body in items.terms(alloc)? {
+    for body in bodies {
         defs.push(Def {
             name: Name::from(Vec::from_slice(alloc, b"f")?),
             ty: Ty::nat(0),

@@ -8,7 +8,7 @@ use Rattle.parser_parts.proofs.RaisedPrograms.{raised_no_declarations, raised_do
 
 pub heights_raised : (x : Action) → Raised x
 heights_raised act.NoDeclarations = raised_no_declarations
-heights_raised act.Domain = raised_domain
+heights_raised (act.Domain has_reset) = raised_domain has_reset
 heights_raised act.Definition = raised_definition
 heights_raised act.DataType = raised_data_type
 heights_raised act.NoParameters = raised_no_parameters

@@ -1,5 +1,5 @@
 -- Heights go the way of parts: the actions of declarations and whole descriptions.
-use Rattle.std.specs.Prelude.{[], ◌∷◌}
+use Rattle.std.specs.Prelude.{Bool, [], ◌∷◌}
 use Rattle.std.proofs.Common.{arith}
 use Rattle.parser_parts.specs.declared.action.Action.TheVariants as act
 use Rattle.parser_parts.specs.declared.value.Value.TheVariants.{Constructors, Declarations, OneKind, OneTerm, OneType, OneWord, Parameters, Types, Words}
@@ -9,9 +9,9 @@ use Rattle.parser_parts.proofs.Pushed.{Raised, of_made, pushed}
 pub raised_no_declarations : Raised act.NoDeclarations
 raised_no_declarations vs us h = of_made h (pushed (omega arith) (omega arith))
 
-pub raised_domain : Raised act.Domain
-raised_domain (OneWord w ∷ Declarations ds ∷ vs) us h = of_made h (pushed (omega arith) (omega arith))
-raised_domain _ us h = cc
+pub raised_domain : (has_reset : Bool) → Raised (act.Domain has_reset)
+raised_domain has_reset (OneWord w ∷ Declarations ds ∷ vs) us h = of_made h (pushed (omega arith) (omega arith))
+raised_domain has_reset _ us h = cc
 
 pub raised_definition : Raised act.Definition
 raised_definition (OneTerm e ∷ OneType t ∷ OneWord w ∷ Declarations ds ∷ vs) us h = of_made h (pushed (omega arith) (omega arith))

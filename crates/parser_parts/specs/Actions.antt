@@ -116,9 +116,9 @@ as_tree _ = None
 
 abbrev pub made : Action → List Value → Option (List Value)
 made act.NoDeclarations vs = Some (Declarations [] ∷ vs)
-made act.Domain vs =
+made (act.Domain has_reset) vs =
     first_two as_word as_declarations vs >>= λ p.
-    Some (Declarations (declaration.Domain p.0 ∷ p.1) ∷ p.2)
+    Some (Declarations (declaration.Domain p.0 has_reset ∷ p.1) ∷ p.2)
 made act.Definition vs =
     first_four as_term as_type as_word as_declarations vs >>= λ p.
     Some (Declarations (declaration.Def p.2 p.1 p.0 ∷ p.3) ∷ p.4)

@@ -97,7 +97,7 @@ raised shape.Application ms = single (applied (newest ms).count (peak 2 ms)) ∷
 
 abbrev pub shape_of : Action → Shape
 shape_of act.NoDeclarations = shape.NoItems
-shape_of act.Domain = shape.NodeItem 1
+shape_of (act.Domain has_reset) = shape.NodeItem 1
 shape_of act.Definition = shape.NodeItem 3
 shape_of act.DataType = shape.NodeItem 3
 shape_of act.NoParameters = shape.NoItems

@@ -1,10 +1,11 @@
 //! What the parser does with the parts that it has read.
 
 /// What becomes of the newest parts.
-#[derive(Clone, Copy, Debug)]
+#[derive(Clone, Copy)]
 pub enum Action {
     NoDeclarations,
-    Domain,
+    /// The flag says whether the domain has a reset.
+    Domain(bool),
     Definition,
     DataType,
     NoParameters,

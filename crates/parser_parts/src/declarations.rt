@@ -13,22 +13,17 @@ use chw_grammar::{
 };
 use std::alloc::Global;
 
-pub fn do_no_declarations(alloc: Global, values: &mut Stack<Value>) -> Result<(), NoMemory>
-    ensures { IfOk result (λ _. (vs : List Value) → made Action.NoDeclarations values.old ≡ Some vs → values.new ≡ vs) }
-{
-    values.push(Value::Declarations(Stack::new(alloc)))
-}
-
-pub fn do_domain(_alloc: Global, values: &mut Stack<Value>) -> Result<(), NoMemory>
-    ensures { IfOk result (λ _. (vs : List Value) → made Action.Domain values.old ≡ Some vs → values.new ≡ vs) }
+pub fn do_domain(has_reset: bool, values: &mut Stack<Value>) -> Result<(), NoMemory>
+    ensures { IfOk result (λ _. (vs : List Value) → made (Action.Domain has_reset) values.old ≡ Some vs → values.new ≡ vs) }
 {
     let Some((name, declarations)) = pop_two::<Word, Stack<Declaration>>(values) else {
         return Ok(());
     };
-    values.push(Value::Declarations(declarations.with(Declaration::Domain(name))?))
+    let domain = Declaration::Domain(name, has_reset);
+    values.push(Value::Declarations(declarations.with(domain)?))
 }
 
-pub fn do_definition(_alloc: Global, values: &mut Stack<Value>) -> Result<(), NoMemory>
+pub fn do_definition(values: &mut Stack<Value>) -> Result<(), NoMemory>
     ensures { IfOk result (λ _. (vs : List Value) → made Action.Definition values.old ≡ Some vs → values.new ≡ vs) }
 {
     let Some((term, ty, name, declarations)) = pop_four::<
@@ -42,7 +37,7 @@ pub fn do_definition(_alloc: Global, values: &mut Stack<Value>) -> Result<(), No
     values.push(Value::Declarations(declarations.with(Declaration::Def(name, ty, term))?))
 }
 
-pub fn do_data_type(_alloc: Global, values: &mut Stack<Value>) -> Result<(), NoMemory>
+pub fn do_data_type(values: &mut Stack<Value>) -> Result<(), NoMemory>
     ensures { IfOk result (λ _. (vs : List Value) → made Action.DataType values.old ≡ Some vs → values.new ≡ vs) }
 {
     let Some((items, parameters, name, declarations)) = pop_four::<
@@ -62,13 +57,7 @@ pub fn do_data_type(_alloc: Global, values: &mut Stack<Value>) -> Result<(), NoM
     ))?))
 }
 
-pub fn do_no_parameters(alloc: Global, values: &mut Stack<Value>) -> Result<(), NoMemory>
-    ensures { IfOk result (λ _. (vs : List Value) → made Action.NoParameters values.old ≡ Some vs → values.new ≡ vs) }
-{
-    values.push(Value::Parameters(Stack::new(alloc)))
-}
-
-pub fn do_parameter(_alloc: Global, values: &mut Stack<Value>) -> Result<(), NoMemory>
+pub fn do_parameter(values: &mut Stack<Value>) -> Result<(), NoMemory>
     ensures { IfOk result (λ _. (vs : List Value) → made Action.Parameter values.old ≡ Some vs → values.new ≡ vs) }
 {
     let Some((kind, name, parameters)) = pop_three::<KindTree, Word, Stack<Parameter>>(values)
@@ -78,13 +67,7 @@ pub fn do_parameter(_alloc: Global, values: &mut Stack<Value>) -> Result<(), NoM
     values.push(Value::Parameters(parameters.with(Parameter { name, kind })?))
 }
 
-pub fn do_no_constructors(alloc: Global, values: &mut Stack<Value>) -> Result<(), NoMemory>
-    ensures { IfOk result (λ _. (vs : List Value) → made Action.NoConstructors values.old ≡ Some vs → values.new ≡ vs) }
-{
-    values.push(Value::Constructors(Stack::new(alloc)))
-}
-
-pub fn do_constructor(_alloc: Global, values: &mut Stack<Value>) -> Result<(), NoMemory>
+pub fn do_constructor(values: &mut Stack<Value>) -> Result<(), NoMemory>
     ensures { IfOk result (λ _. (vs : List Value) → made Action.Constructor values.old ≡ Some vs → values.new ≡ vs) }
 {
     let Some((types, name, items)) = pop_three::<Stack<TypeTree>, Word, Stack<Constructor>>(values)
@@ -95,13 +78,7 @@ pub fn do_constructor(_alloc: Global, values: &mut Stack<Value>) -> Result<(), N
     values.push(Value::Constructors(items.with(Constructor { name, fields })?))
 }
 
-pub fn do_no_words(alloc: Global, values: &mut Stack<Value>) -> Result<(), NoMemory>
-    ensures { IfOk result (λ _. (vs : List Value) → made Action.NoWords values.old ≡ Some vs → values.new ≡ vs) }
-{
-    values.push(Value::Words(Stack::new(alloc)))
-}
-
-pub fn do_word(_alloc: Global, values: &mut Stack<Value>) -> Result<(), NoMemory>
+pub fn do_word(values: &mut Stack<Value>) -> Result<(), NoMemory>
     ensures { IfOk result (λ _. (vs : List Value) → made Action.Word values.old ≡ Some vs → values.new ≡ vs) }
 {
     let Some((name, names)) = pop_two::<Word, Stack<Word>>(values) else {
@@ -110,7 +87,7 @@ pub fn do_word(_alloc: Global, values: &mut Stack<Value>) -> Result<(), NoMemory
     values.push(Value::Words(names.with(name)?))
 }
 
-pub fn do_tree(_alloc: Global, values: &mut Stack<Value>) -> Result<(), NoMemory>
+pub fn do_tree(values: &mut Stack<Value>) -> Result<(), NoMemory>
     ensures { IfOk result (λ _. (vs : List Value) → made Action.Tree values.old ≡ Some vs → values.new ≡ vs) }
 {
     let Some((outputs, inputs, name, declarations)) = pop_four::<

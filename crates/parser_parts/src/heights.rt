@@ -7,14 +7,14 @@ use crate::stack::Stack;
 use chw_base::NoMemory;
 
 /// The height of a part, and how many items it has if it is a list.
-#[derive(Clone, Copy, Debug, PartialEq, Eq)]
+#[derive(Clone, Copy)]
 pub struct Measure {
     pub height: u32,
     pub count: u32,
 }
 
 /// What becomes of the heights of the newest parts.
-#[derive(Clone, Copy, Debug)]
+#[derive(Clone, Copy)]
 pub enum Shape {
     /// A list without items.
     NoItems,
@@ -162,7 +162,7 @@ pub fn shape_of(action: Action) -> Shape
         | Action::MoreTerm => Shape::Item(1),
         Action::Parameter | Action::Constructor | Action::Alternative => Shape::Item(2),
         Action::Binding => Shape::Item(3),
-        Action::Domain => Shape::NodeItem(1),
+        Action::Domain(_) => Shape::NodeItem(1),
         Action::Definition | Action::DataType => Shape::NodeItem(3),
         Action::DefaultPattern => Shape::Node(0),
         Action::Variable

@@ -29,13 +29,7 @@ pub fn do_type_lambda(alloc: Global, values: &mut Stack<Value>) -> Result<(), No
     values.push(Value::OneTerm(TermTree::type_lambda(alloc, name, kind, term)?))
 }
 
-pub fn do_no_bindings(alloc: Global, values: &mut Stack<Value>) -> Result<(), NoMemory>
-    ensures { IfOk result (λ _. (vs : List Value) → made Action.NoBindings values.old ≡ Some vs → values.new ≡ vs) }
-{
-    values.push(Value::Bindings(Stack::new(alloc)))
-}
-
-pub fn do_binding(_alloc: Global, values: &mut Stack<Value>) -> Result<(), NoMemory>
+pub fn do_binding(values: &mut Stack<Value>) -> Result<(), NoMemory>
     ensures { IfOk result (λ _. (vs : List Value) → made Action.Binding values.old ≡ Some vs → values.new ≡ vs) }
 {
     let Some((term, ty, name, bindings)) = pop_four::<TermTree, TypeTree, Word, Stack<Binding>>(
@@ -55,13 +49,7 @@ pub fn do_let_rec(alloc: Global, values: &mut Stack<Value>) -> Result<(), NoMemo
     values.push(Value::OneTerm(TermTree::letrec(alloc, bindings.into_vec(), term)?))
 }
 
-pub fn do_no_alternatives(alloc: Global, values: &mut Stack<Value>) -> Result<(), NoMemory>
-    ensures { IfOk result (λ _. (vs : List Value) → made Action.NoAlternatives values.old ≡ Some vs → values.new ≡ vs) }
-{
-    values.push(Value::Alternatives(Stack::new(alloc)))
-}
-
-pub fn do_alternative(_alloc: Global, values: &mut Stack<Value>) -> Result<(), NoMemory>
+pub fn do_alternative(values: &mut Stack<Value>) -> Result<(), NoMemory>
     ensures { IfOk result (λ _. (vs : List Value) → made Action.Alternative values.old ≡ Some vs → values.new ≡ vs) }
 {
     let Some((term, pattern, alternatives)) = pop_three::<TermTree, Pattern, Stack<Alternative>>(
@@ -72,7 +60,7 @@ pub fn do_alternative(_alloc: Global, values: &mut Stack<Value>) -> Result<(), N
     values.push(Value::Alternatives(alternatives.with(Alternative { pattern, term })?))
 }
 
-pub fn do_constructor_pattern(_alloc: Global, values: &mut Stack<Value>) -> Result<(), NoMemory>
+pub fn do_constructor_pattern(values: &mut Stack<Value>) -> Result<(), NoMemory>
     ensures { IfOk result (λ _. (vs : List Value) → made Action.ConstructorPattern values.old ≡ Some vs → values.new ≡ vs) }
 {
     let Some((names, name)) = pop_two::<Stack<Word>, Word>(values) else {
@@ -81,19 +69,13 @@ pub fn do_constructor_pattern(_alloc: Global, values: &mut Stack<Value>) -> Resu
     values.push(Value::OnePattern(Pattern::Constructor(name, Seq::from(names.into_vec()))))
 }
 
-pub fn do_literal_pattern(_alloc: Global, values: &mut Stack<Value>) -> Result<(), NoMemory>
+pub fn do_literal_pattern(values: &mut Stack<Value>) -> Result<(), NoMemory>
     ensures { IfOk result (λ _. (vs : List Value) → made Action.LiteralPattern values.old ≡ Some vs → values.new ≡ vs) }
 {
     let Some(name) = pop::<Word>(values) else {
         return Ok(());
     };
     values.push(Value::OnePattern(Pattern::Literal(name)))
-}
-
-pub fn do_default_pattern(_alloc: Global, values: &mut Stack<Value>) -> Result<(), NoMemory>
-    ensures { IfOk result (λ _. (vs : List Value) → made Action.DefaultPattern values.old ≡ Some vs → values.new ≡ vs) }
-{
-    values.push(Value::OnePattern(Pattern::Default))
 }
 
 pub fn do_case(alloc: Global, values: &mut Stack<Value>) -> Result<(), NoMemory>
@@ -105,13 +87,7 @@ pub fn do_case(alloc: Global, values: &mut Stack<Value>) -> Result<(), NoMemory>
     values.push(Value::OneTerm(TermTree::case(alloc, term, alternatives.into_vec())?))
 }
 
-pub fn do_no_arguments(alloc: Global, values: &mut Stack<Value>) -> Result<(), NoMemory>
-    ensures { IfOk result (λ _. (vs : List Value) → made Action.NoArguments values.old ≡ Some vs → values.new ≡ vs) }
-{
-    values.push(Value::Arguments(Stack::new(alloc)))
-}
-
-pub fn do_term_argument(_alloc: Global, values: &mut Stack<Value>) -> Result<(), NoMemory>
+pub fn do_term_argument(values: &mut Stack<Value>) -> Result<(), NoMemory>
     ensures { IfOk result (λ _. (vs : List Value) → made Action.TermArgument values.old ≡ Some vs → values.new ≡ vs) }
 {
     let Some((term, items)) = pop_two::<TermTree, Stack<Argument>>(values) else {
@@ -120,7 +96,7 @@ pub fn do_term_argument(_alloc: Global, values: &mut Stack<Value>) -> Result<(),
     values.push(Value::Arguments(items.with(Argument::OfTerm(term))?))
 }
 
-pub fn do_type_argument(_alloc: Global, values: &mut Stack<Value>) -> Result<(), NoMemory>
+pub fn do_type_argument(values: &mut Stack<Value>) -> Result<(), NoMemory>
     ensures { IfOk result (λ _. (vs : List Value) → made Action.TypeArgument values.old ≡ Some vs → values.new ≡ vs) }
 {
     let Some((ty, items)) = pop_two::<TypeTree, Stack<Argument>>(values) else {
@@ -138,7 +114,7 @@ pub fn do_apply(alloc: Global, values: &mut Stack<Value>) -> Result<(), NoMemory
     values.push(Value::OneTerm(TermTree::apply(alloc, term, items.into_vec())?))
 }
 
-pub fn do_name_term(_alloc: Global, values: &mut Stack<Value>) -> Result<(), NoMemory>
+pub fn do_name_term(values: &mut Stack<Value>) -> Result<(), NoMemory>
     ensures { IfOk result (λ _. (vs : List Value) → made Action.NameTerm values.old ≡ Some vs → values.new ≡ vs) }
 {
     let Some(name) = pop::<Word>(values) else {
@@ -147,7 +123,7 @@ pub fn do_name_term(_alloc: Global, values: &mut Stack<Value>) -> Result<(), NoM
     values.push(Value::OneTerm(TermTree::name(name)))
 }
 
-pub fn do_constructor_term(_alloc: Global, values: &mut Stack<Value>) -> Result<(), NoMemory>
+pub fn do_constructor_term(values: &mut Stack<Value>) -> Result<(), NoMemory>
     ensures { IfOk result (λ _. (vs : List Value) → made Action.ConstructorTerm values.old ≡ Some vs → values.new ≡ vs) }
 {
     let Some(name) = pop::<Word>(values) else {
@@ -156,7 +132,7 @@ pub fn do_constructor_term(_alloc: Global, values: &mut Stack<Value>) -> Result<
     values.push(Value::OneTerm(TermTree::constructor(name)))
 }
 
-pub fn do_literal_term(_alloc: Global, values: &mut Stack<Value>) -> Result<(), NoMemory>
+pub fn do_literal_term(values: &mut Stack<Value>) -> Result<(), NoMemory>
     ensures { IfOk result (λ _. (vs : List Value) → made Action.LiteralTerm values.old ≡ Some vs → values.new ≡ vs) }
 {
     let Some(name) = pop::<Word>(values) else {
@@ -165,13 +141,7 @@ pub fn do_literal_term(_alloc: Global, values: &mut Stack<Value>) -> Result<(), 
     values.push(Value::OneTerm(TermTree::literal(name)))
 }
 
-pub fn do_no_terms(alloc: Global, values: &mut Stack<Value>) -> Result<(), NoMemory>
-    ensures { IfOk result (λ _. (vs : List Value) → made Action.NoTerms values.old ≡ Some vs → values.new ≡ vs) }
-{
-    values.push(Value::Terms(Stack::new(alloc)))
-}
-
-pub fn do_more_term(_alloc: Global, values: &mut Stack<Value>) -> Result<(), NoMemory>
+pub fn do_more_term(values: &mut Stack<Value>) -> Result<(), NoMemory>
     ensures { IfOk result (λ _. (vs : List Value) → made Action.MoreTerm values.old ≡ Some vs → values.new ≡ vs) }
 {
     let Some((term, terms)) = pop_two::<TermTree, Stack<TermTree>>(values) else {
@@ -180,7 +150,7 @@ pub fn do_more_term(_alloc: Global, values: &mut Stack<Value>) -> Result<(), NoM
     values.push(Value::Terms(terms.with(term)?))
 }
 
-pub fn do_vec_lit(_alloc: Global, values: &mut Stack<Value>) -> Result<(), NoMemory>
+pub fn do_vec_lit(values: &mut Stack<Value>) -> Result<(), NoMemory>
     ensures { IfOk result (λ _. (vs : List Value) → made Action.VecLit values.old ≡ Some vs → values.new ≡ vs) }
 {
     let Some((terms, ty)) = pop_two::<Stack<TermTree>, TypeTree>(values) else {

@@ -11,12 +11,6 @@ use chw_base::NoMemory;
 use chw_grammar::{KindTree, TypeTree, Word};
 use std::alloc::Global;
 
-pub fn do_no_types(alloc: Global, values: &mut Stack<Value>) -> Result<(), NoMemory>
-    ensures { IfOk result (λ _. (vs : List Value) → made Action.NoTypes values.old ≡ Some vs → values.new ≡ vs) }
-{
-    values.push(Value::Types(Stack::new(alloc)))
-}
-
 pub fn do_first_type(alloc: Global, values: &mut Stack<Value>) -> Result<(), NoMemory>
     ensures { IfOk result (λ _. (vs : List Value) → made Action.FirstType values.old ≡ Some vs → values.new ≡ vs) }
 {
@@ -26,7 +20,7 @@ pub fn do_first_type(alloc: Global, values: &mut Stack<Value>) -> Result<(), NoM
     values.push(Value::Types(Stack::new(alloc).with(ty)?))
 }
 
-pub fn do_more_type(_alloc: Global, values: &mut Stack<Value>) -> Result<(), NoMemory>
+pub fn do_more_type(values: &mut Stack<Value>) -> Result<(), NoMemory>
     ensures { IfOk result (λ _. (vs : List Value) → made Action.MoreType values.old ≡ Some vs → values.new ≡ vs) }
 {
     let Some((ty, types)) = pop_two::<TypeTree, Stack<TypeTree>>(values) else {
@@ -53,7 +47,7 @@ pub fn do_arrow(alloc: Global, values: &mut Stack<Value>) -> Result<(), NoMemory
     values.push(Value::OneType(TypeTree::arrow(alloc, ty, to)?))
 }
 
-pub fn do_sum(_alloc: Global, values: &mut Stack<Value>) -> Result<(), NoMemory>
+pub fn do_sum(values: &mut Stack<Value>) -> Result<(), NoMemory>
     ensures { IfOk result (λ _. (vs : List Value) → made Action.Sum values.old ≡ Some vs → values.new ≡ vs) }
 {
     let Some(types) = pop::<Stack<TypeTree>>(values) else {
@@ -62,7 +56,7 @@ pub fn do_sum(_alloc: Global, values: &mut Stack<Value>) -> Result<(), NoMemory>
     values.push(Value::OneType(TypeTree::sum(types.into_vec())))
 }
 
-pub fn do_product(_alloc: Global, values: &mut Stack<Value>) -> Result<(), NoMemory>
+pub fn do_product(values: &mut Stack<Value>) -> Result<(), NoMemory>
     ensures { IfOk result (λ _. (vs : List Value) → made Action.Product values.old ≡ Some vs → values.new ≡ vs) }
 {
     let Some(types) = pop::<Stack<TypeTree>>(values) else {
@@ -71,7 +65,7 @@ pub fn do_product(_alloc: Global, values: &mut Stack<Value>) -> Result<(), NoMem
     values.push(Value::OneType(TypeTree::product(types.into_vec())))
 }
 
-pub fn do_named(_alloc: Global, values: &mut Stack<Value>) -> Result<(), NoMemory>
+pub fn do_named(values: &mut Stack<Value>) -> Result<(), NoMemory>
     ensures { IfOk result (λ _. (vs : List Value) → made Action.Named values.old ≡ Some vs → values.new ≡ vs) }
 {
     let Some((types, name)) = pop_two::<Stack<TypeTree>, Word>(values) else {
@@ -80,7 +74,7 @@ pub fn do_named(_alloc: Global, values: &mut Stack<Value>) -> Result<(), NoMemor
     values.push(Value::OneType(TypeTree::named(name, types.into_vec())))
 }
 
-pub fn do_variable(_alloc: Global, values: &mut Stack<Value>) -> Result<(), NoMemory>
+pub fn do_variable(values: &mut Stack<Value>) -> Result<(), NoMemory>
     ensures { IfOk result (λ _. (vs : List Value) → made Action.Variable values.old ≡ Some vs → values.new ≡ vs) }
 {
     let Some(name) = pop::<Word>(values) else {
@@ -89,7 +83,7 @@ pub fn do_variable(_alloc: Global, values: &mut Stack<Value>) -> Result<(), NoMe
     values.push(Value::OneType(TypeTree::variable(name)))
 }
 
-pub fn do_numeral(_alloc: Global, values: &mut Stack<Value>) -> Result<(), NoMemory>
+pub fn do_numeral(values: &mut Stack<Value>) -> Result<(), NoMemory>
     ensures { IfOk result (λ _. (vs : List Value) → made Action.Numeral values.old ≡ Some vs → values.new ≡ vs) }
 {
     let Some(name) = pop::<Word>(values) else {

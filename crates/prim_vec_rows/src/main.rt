@@ -17,7 +17,9 @@ fn main(rt: HostRuntime) -> io::Result<()> {
 
 // Writes what a call gives.
 fn answer(alloc: Global, call: &str, text: &str, out: &mut Vec<u8>) -> Result<(), Or<Unread>> {
-    let use_of = Use::of(alloc, read(alloc, text)?.term()?)?;
+    let mut parts = read(alloc, text)?;
+    let term = parts.terms.pop().ok_or(Or::Fault(Unread))?;
+    let use_of = Use::of(alloc, term)?;
     let can = can_unroll(alloc, use_of.primitive, &use_of.types, &use_of.args)?;
     match call {
         "can_unroll" => Ok(put(out, if can { "true" } else { "false" })?),

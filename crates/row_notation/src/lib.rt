@@ -16,12 +16,11 @@
 //! | `(T Val Cir (A t0) (B))` | a data type with its name, its parameters' kinds and its constructors |
 #![tactic(auto)]
 
-pub mod building;
-pub mod items;
+pub mod parts;
 pub mod reading;
 pub mod showing;
-pub mod words;
+mod words;
 
-pub use items::{Item, Items};
+pub use parts::Parts;
 pub use reading::read;
 pub use showing::{kind_name, put_data, put_names, put_number, put_term, put_type};

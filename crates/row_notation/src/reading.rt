@@ -1,72 +1,66 @@
-//! The items of a text.
-use crate::building::group_of;
-use crate::items::{Item, Items};
-use crate::words::item_of;
+//! What a text says.
+use crate::parts::Parts;
 use chw_base::Or;
 use row_tables::Unread;
 use std::alloc::Global;
 use std::mem;
 
-/// The items of a text. Words end at spaces and parentheses, and `@` says nothing.
-pub fn read(alloc: Global, text: &str) -> Result<Items, Or<Unread>> {
+/// The parts of a text. Words end at spaces and parentheses, and `@` says nothing.
+///
+/// A text for which memory is wanting is unread too.
+pub fn read<'a>(alloc: Global, text: &'a str) -> Result<Parts<'a>, Or<Unread>> {
+    read_words(alloc, text).ok_or(Or::Fault(Unread))
+}
+
+fn read_words<'a>(alloc: Global, text: &'a str) -> Option<Parts<'a>> {
     let mut reader = Reader {
         alloc,
-        word: String::new(alloc),
-        group: Vec::new(alloc),
+        parts: Parts::new(alloc, "row"),
         outer: Vec::new(alloc),
     };
-    for sign in text.chars() {
-        reader.read_sign(sign)?;
+    for piece in text.split(' ') {
+        reader.read_piece(piece)?;
     }
-    reader.end_word()?;
-    if !reader.outer.is_empty() {
-        return Err(Or::Fault(Unread));
+    if reader.outer.is_empty() {
+        Some(reader.parts)
+    } else {
+        None
     }
-    Ok(Items::new(reader.group))
 }
 
 #[derive(Drop)]
-struct Reader {
+struct Reader<'a> {
     alloc: Global,
-    /// The signs of the word that has not ended yet.
-    word: String,
-    /// The items of the group that has not ended yet.
-    group: Vec<Item>,
+    /// The parts of the group that has not ended yet.
+    parts: Parts<'a>,
     /// Those of the groups around it, the outermost first.
-    outer: Vec<Vec<Item>>,
+    outer: Vec<Parts<'a>>,
 }
 
-impl Reader {
-    fn read_sign(&mut self, sign: char) -> Result<(), Or<Unread>> {
-        match sign {
-            '@' => Ok(()),
-            ' ' => self.end_word(),
-            '(' => {
-                self.end_word()?;
-                let around = mem::replace(&mut self.group, Vec::new(self.alloc));
-                self.outer.push(around)?;
-                Ok(())
+impl<'a> Reader<'a> {
+    // A word with the parentheses around it.
+    fn read_piece(&mut self, piece: &'a str) -> Option<()> {
+        for sign in piece.chars() {
+            if sign == '(' {
+                let around = mem::replace(&mut self.parts, Parts::new(self.alloc, ""));
+                self.outer.push(around).ok()?;
             }
-            ')' => {
-                self.end_word()?;
-                let Some(around) = self.outer.pop() else {
-                    return Err(Or::Fault(Unread));
-                };
-                let ended = mem::replace(&mut self.group, around);
-                let item = group_of(self.alloc, ended)?;
-                self.group.push(item)?;
-                Ok(())
-            }
-            _ => Ok(self.word.push(sign)?),
         }
+        let word = piece.trim_matches(|sign: char| matches!(sign, '(' | ')' | '@'));
+        if !word.is_empty() {
+            self.parts.add_word(self.alloc, word)?;
+        }
+        for sign in piece.chars() {
+            if sign == ')' {
+                self.end_group()?;
+            }
+        }
+        Some(())
     }
 
-    fn end_word(&mut self) -> Result<(), Or<Unread>> {
-        if !self.word.is_empty() {
-            let item = item_of(self.alloc, self.word.as_str())?;
-            self.group.push(item)?;
-            self.word.clear();
-        }
-        Ok(())
+    fn end_group(&mut self) -> Option<()> {
+        let around = self.outer.pop()?;
+        let mut ended = mem::replace(&mut self.parts, around);
+        self.parts.add_group(self.alloc, &mut ended)
     }
 }

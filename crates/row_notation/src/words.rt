@@ -1,67 +1,13 @@
 //! What single words say.
-use crate::items::{Item, TermForm, TypeForm};
-use chw_base::{ConId, DefId, DomId, MadeId, Name, NoMemory, Or, TyIx, VarIx};
+use chw_base::{ConId, DefId, DomId, MadeId, TyIx, VarIx};
 use chw_bits::Bits;
 use chw_prims::named;
-use chw_terms::{Pattern, Term};
+use chw_terms::{Arg, Head, Pattern, Term};
 use chw_types::{Kind, Scalar, Ty};
-use row_tables::Unread;
 use std::alloc::Global;
 
-/// What a word says.
-pub(crate) fn item_of(alloc: Global, word: &str) -> Result<Item, Or<Unread>> {
-    if let Some(form) = type_form(word) {
-        return Ok(Item::TypeForm(form));
-    }
-    if let Some(form) = term_form(word) {
-        return Ok(Item::TermForm(form));
-    }
-    if let Some(kind) = kind(word) {
-        return Ok(Item::Kind(kind));
-    }
-    if let Some(item) = numbered(alloc, word) {
-        return Ok(item);
-    }
-    if let Some(primitive) = named(word.as_bytes()) {
-        return Ok(Item::Term(Term::prim_of(alloc, primitive)));
-    }
-    if let Some((sort, bits)) = literal(alloc, word)? {
-        return Ok(Item::Term(Term::lit(alloc, sort, bits)));
-    }
-    if word.starts_with(|sign: char| sign.is_ascii_uppercase()) {
-        return Ok(Item::Name(Name::from(Vec::from_slice(alloc, word.as_bytes())?)));
-    }
-    Err(Or::Fault(Unread))
-}
-
-fn type_form(word: &str) -> Option<TypeForm> {
-    match word {
-        "+" => Some(TypeForm::Sum),
-        "*" => Some(TypeForm::Times),
-        ">" => Some(TypeForm::Fun),
-        "U" => Some(TypeForm::Unsigned),
-        "S" => Some(TypeForm::Signed),
-        "B" => Some(TypeForm::BitVector),
-        "V" => Some(TypeForm::Vec),
-        "G" => Some(TypeForm::Signal),
-        "data" => Some(TypeForm::DataOf),
-        "all" => Some(TypeForm::Forall),
-        _ => None,
-    }
-}
-
-fn term_form(word: &str) -> Option<TermForm> {
-    match word {
-        "lam" => Some(TermForm::Lam),
-        "ty" => Some(TermForm::TyLam),
-        "rec" => Some(TermForm::LetRec),
-        "vec" => Some(TermForm::VecLit),
-        "case" => Some(TermForm::Case),
-        _ => None,
-    }
-}
-
-fn kind(word: &str) -> Option<Kind> {
+/// The kind of this name.
+pub(crate) fn kind(word: &str) -> Option<Kind> {
     match word {
         "Nat" => Some(Kind::Nat),
         "Dom" => Some(Kind::Dom),
@@ -71,53 +17,62 @@ fn kind(word: &str) -> Option<Kind> {
     }
 }
 
-// A numeral, a letter with a number, or a constructor's pattern.
-fn numbered(alloc: Global, word: &str) -> Option<Item> {
-    if word == "_" {
-        return Some(Item::Pattern(Pattern::Default));
-    }
+/// A type or a term without parts, but a literal: a numeral, a primitive, or a letter with a number.
+pub(crate) fn leaf(alloc: Global, word: &str) -> Option<Arg> {
     if let Ok(number) = word.parse::<u32>() {
-        return Some(Item::Type(Ty::nat(number)));
+        return Some(Arg::OfType(Ty::nat(number)));
     }
-    if let Some((con, fields)) = word.split_once('/') {
-        let number = con.strip_prefix('c')?.parse::<u32>().ok()?;
-        let fields = fields.parse::<u32>().ok()?;
-        return Some(Item::Pattern(Pattern::OfCon(ConId { number }, fields)));
+    if let Some(primitive) = named(word.as_bytes()) {
+        return Some(Arg::OfTerm(Term::prim_of(alloc, primitive)));
     }
-    let (sign, number) = word.split_at_checked(1)?;
-    let number = number.parse::<u32>().ok()?;
-    match sign {
-        "t" => Some(Item::Type(Ty::var(TyIx { number }))),
-        "d" => Some(Item::Type(Ty::dom_of(DomId { number }))),
-        "v" => Some(Item::Term(Term::var(alloc, VarIx { number }))),
-        "g" => Some(Item::Term(Term::global(alloc, DefId { number }))),
-        "m" => Some(Item::Term(Term::made(alloc, MadeId { number }))),
-        "c" => Some(Item::Term(Term::con(alloc, ConId { number }))),
+    let (letter, number) = numbered(word)?;
+    match letter {
+        "t" => Some(Arg::OfType(Ty::var(TyIx { number }))),
+        "d" => Some(Arg::OfType(Ty::dom_of(DomId { number }))),
+        "v" => Some(Arg::OfTerm(Term::var(alloc, VarIx { number }))),
+        "g" => Some(Arg::OfTerm(Term::global(alloc, DefId { number }))),
+        "m" => Some(Arg::OfTerm(Term::made(alloc, MadeId { number }))),
+        "c" => Some(Arg::OfTerm(Term::con(alloc, ConId { number }))),
         _ => None,
     }
 }
 
-// The sort and the bits of a literal.
-fn literal(alloc: Global, word: &str) -> Result<Option<(Scalar, Bits)>, NoMemory> {
-    let Some((sign, digits)) = word.split_at_checked(1) else {
-        return Ok(None);
-    };
+// A letter, and the number behind it.
+fn numbered(word: &str) -> Option<(&str, u32)> {
+    let (letter, digits) = word.split_at_checked(1)?;
+    let number = digits.parse::<u32>().ok()?;
+    Some((letter, number))
+}
+
+/// The pattern of an alternative.
+pub(crate) fn pattern(alloc: Global, word: &str) -> Option<Pattern> {
+    if word == "_" {
+        return Some(Pattern::Default);
+    }
+    if let Some((con, fields)) = word.split_once('/') {
+        let (_, number) = numbered(con)?;
+        let fields = fields.parse::<u32>().ok()?;
+        return Some(Pattern::OfCon(ConId { number }, fields));
+    }
+    let (sort, bits) = literal(alloc, word)?;
+    Some(Pattern::OfLit(sort, bits))
+}
+
+/// The sort and the bits of a literal.
+pub(crate) fn literal(alloc: Global, word: &str) -> Option<(Scalar, Bits)> {
+    let (sign, digits) = word.split_at_checked(1)?;
     let sort = match sign {
         "u" => Scalar::U,
         "s" => Scalar::S,
         "b" => Scalar::B,
-        _ => return Ok(None),
+        _ => return None,
     };
     let mut bits = Vec::new(alloc);
     for digit in digits.as_bytes() {
-        match digit {
-            b'0' => bits.push(false)?,
-            b'1' => bits.push(true)?,
-            _ => return Ok(None),
-        }
+        bits.push(*digit == b'1').ok()?;
     }
     if bits.len() > 1_000 {
-        return Ok(None);
+        return None;
     }
-    Ok(Some((sort, Bits::of_list(bits))))
+    Some((sort, Bits::of_list(bits)))
 }

@@ -5,4 +5,4 @@ pub mod table;
 pub mod text;
 
 pub use table::{Unread, print_rows, put};
-pub use text::put_number;
+pub use text::{bytes_of, put_bytes, put_number, words_of};

@@ -5,7 +5,7 @@ mod spine;
 
 use chw_base::Or;
 use chw_terms::{depth, evaluate, numeral, occurs, put, put_type_in, shift, shift_types};
-use row_notation::{Items, put_number, put_term, put_type, read};
+use row_notation::{Parts, put_number, put_term, put_type, read};
 use row_tables::{Unread, print_rows};
 use spine::put_spine;
 use std::alloc::Global;
@@ -17,13 +17,13 @@ fn main(rt: HostRuntime) -> io::Result<()> {
 
 // Writes what a call gives.
 fn answer(alloc: Global, call: &str, text: &str, out: &mut Vec<u8>) -> Result<(), Or<Unread>> {
-    let items = read(alloc, text)?;
+    let parts = read(alloc, text)?;
     match call {
-        "evaluate" => put_evaluated(alloc, items, out),
-        "occurs" => put_occurs(items, out),
-        "depth" => put_depth(items, out),
-        "spine" => put_spine(alloc, items, out),
-        _ => put_moved(alloc, call, items, out),
+        "evaluate" => put_evaluated(alloc, &parts, out),
+        "occurs" => put_occurs(&parts, out),
+        "depth" => put_depth(&parts, out),
+        "spine" => put_spine(alloc, parts.number(0)?, out),
+        _ => put_moved(alloc, call, &parts, out),
     }
 }
 
@@ -31,37 +31,22 @@ fn answer(alloc: Global, call: &str, text: &str, out: &mut Vec<u8>) -> Result<()
 fn put_moved(
     alloc: Global,
     call: &str,
-    mut items: Items,
+    parts: &Parts,
     out: &mut Vec<u8>,
 ) -> Result<(), Or<Unread>> {
     let moved = match call {
-        "copy" => items.term()?.copy(alloc)?,
-        "shift" => {
-            let from = items.var()?;
-            let by = items.number()?;
-            shift(alloc, &items.term()?, from, by)?
-        }
-        "shift_types" => {
-            let from = items.ty_var()?;
-            let by = items.number()?;
-            shift_types(alloc, &items.term()?, from, by)?
-        }
-        "put" => {
-            let at = items.var()?;
-            let arg = items.term()?;
-            put(alloc, &items.term()?, at, &arg)?
-        }
-        "put_type_in" => {
-            let arg = items.ty()?;
-            put_type_in(alloc, &items.term()?, &arg)?
-        }
+        "copy" => parts.term(0)?.copy(alloc)?,
+        "shift" => shift(alloc, parts.term(1)?, parts.var(0)?, parts.number(0)?)?,
+        "shift_types" => shift_types(alloc, parts.term(0)?, parts.ty_var(0)?, parts.number(1)?)?,
+        "put" => put(alloc, parts.term(2)?, parts.var(0)?, parts.term(1)?)?,
+        "put_type_in" => put_type_in(alloc, parts.term(0)?, parts.ty(0)?)?,
         _ => return Err(Or::Fault(Unread)),
     };
     Ok(put_term(out, &moved)?)
 }
 
-fn put_evaluated(alloc: Global, mut items: Items, out: &mut Vec<u8>) -> Result<(), Or<Unread>> {
-    let evaluated = evaluate(alloc, &items.ty()?)?;
+fn put_evaluated(alloc: Global, parts: &Parts, out: &mut Vec<u8>) -> Result<(), Or<Unread>> {
+    let evaluated = evaluate(alloc, parts.ty(0)?)?;
     put_type(out, &evaluated)?;
     match numeral(&evaluated) {
         Some(number) => Ok(put_number(out, ", the numeral ", number)?),
@@ -69,13 +54,11 @@ fn put_evaluated(alloc: Global, mut items: Items, out: &mut Vec<u8>) -> Result<(
     }
 }
 
-fn put_occurs(mut items: Items, out: &mut Vec<u8>) -> Result<(), Or<Unread>> {
-    let at = items.var()?;
-    let occurs = occurs(&items.term()?, at);
+fn put_occurs(parts: &Parts, out: &mut Vec<u8>) -> Result<(), Or<Unread>> {
+    let occurs = occurs(parts.term(1)?, parts.var(0)?);
     Ok(row_tables::put(out, if occurs { "true" } else { "false" })?)
 }
 
-fn put_depth(mut items: Items, out: &mut Vec<u8>) -> Result<(), Or<Unread>> {
-    let depth = depth(&items.term()?);
-    Ok(put_number(out, "", depth)?)
+fn put_depth(parts: &Parts, out: &mut Vec<u8>) -> Result<(), Or<Unread>> {
+    Ok(put_number(out, "", depth(parts.term(0)?))?)
 }

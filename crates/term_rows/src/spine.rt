@@ -2,13 +2,12 @@
 use chw_base::{NoMemory, Or, TyIx, VarIx};
 use chw_terms::{Head, Term, depth, occurs, put, put_type_in, shift};
 use chw_types::Ty;
-use row_notation::{Items, put_number};
+use row_notation::put_number;
 use row_tables::Unread;
 use std::alloc::Global;
 
 /// Writes what the calls give for a spine of this many arguments, each of them with a type argument.
-pub fn put_spine(alloc: Global, mut items: Items, out: &mut Vec<u8>) -> Result<(), Or<Unread>> {
-    let count = items.number()?;
+pub fn put_spine(alloc: Global, count: u32, out: &mut Vec<u8>) -> Result<(), Or<Unread>> {
     let term = spine(alloc, count)?;
     put_number(out, "depth ", depth(&term))?;
     put_answer(out, "; the last variable", occurs(&term, before(count)))?;

@@ -1,6 +1,6 @@
 -- Tokens that open so many brackets at once, and close as many as they open.
 use Rattle.std.specs.Prelude.{◌≡◌, ℕ, zero, suc, ◌+◌, ◌≤◌, ◌<◌, Bool, true, false, List, [], ◌∷◌, ◌++◌, codes, cond, refl}
-use Rattle.std.proofs.Common.{sym, ap, ◌∙◌, subst, arith}
+use Rattle.std.proofs.Common.{sym, subst, arith}
 use Rattle.std.specs.Str.{bytes_eq}
 use Rattle.std.proofs.lemmas.List.{append_assoc}
 use Rattle.chw_base.specs.declared.limits.TheConstants.{NESTING}
@@ -9,7 +9,7 @@ use Rattle.chw_grammar.specs.declared.terminal.Terminal.TheVariants as the
 use Rattle.chw_grammar.specs.declared.type_tree.KindTree.{KindTree}
 use Rattle.chw_grammar.specs.declared.type_tree.KindTree.TheVariants as kinds
 use Rattle.chw_grammar.specs.declared.word.Word.{Word}
-use Rattle.chw_grammar.specs.Lexemes.{Lexeme, terminal, upper_terminal}
+use Rattle.chw_grammar.specs.Lexemes.{Lexeme, terminal}
 use Rattle.chw_grammar.specs.Text.{sign, kind, upper, closed}
 use Rattle.chw_parser.specs.Faults.{bracketed, ShallowFrom}
 

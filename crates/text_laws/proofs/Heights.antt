@@ -1,5 +1,5 @@
 -- Trees that agree in all but the places of their words are equally high.
-use Rattle.std.specs.Prelude.{◌≡◌, ℕ, suc, ◌+◌, ◌-◌, max, List, [], ◌∷◌, map, refl}
+use Rattle.std.specs.Prelude.{◌≡◌, suc, max, List, [], ◌∷◌, map, refl}
 use Rattle.std.proofs.Common.{sym, ap, ◌∙◌}
 use Rattle.chw_grammar.specs.declared.program.Tree.{Tree}
 use Rattle.chw_grammar.specs.declared.program.Declaration.{Declaration}
@@ -77,7 +77,7 @@ constructors_high [] = refl
 constructors_high (x ∷ xs) = λ i. max (fields_high x.fields i) (constructors_high xs i)
 
 declaration_high : (x : Declaration) → declaration_height (bare_declaration x) ≡ declaration_height x
-declaration_high (Domain w) = refl
+declaration_high (Domain w has_reset) = refl
 declaration_high (Data w ps xs) = λ i. suc (max (parameters_high ps i) (constructors_high xs i))
 declaration_high (Def w t e) = λ i. suc (max (type_high t i) (term_high e i))
 

@@ -14,7 +14,7 @@ use Rattle.chw_grammar.specs.declared.term_tree.Argument.{Argument}
 use Rattle.chw_grammar.specs.declared.term_tree.Argument.TheVariants.{OfTerm, OfType}
 use Rattle.chw_grammar.specs.Lexemes.{Lexeme}
 use Rattle.chw_grammar.specs.Grammar.{TermAt, lambda, type_lambda, letrec, case_of, application, BindingsAt, no_binding, binding, AlternativesAt, no_alternative, alternative, default, ApplicationAt, head_alone, applied, ArgumentsAt, no_argument, argument, ArgumentAt, term_argument, type_argument, SimpleAt, name_term, constructor_term, literal_term, vec_term, bracketed_term, ElementsAt, no_element, elements, MoreElementsAt, no_more_element, element}
-use Rattle.chw_grammar.specs.Height.{type_height, term_height, terms_height, bindings_height, alternatives_height, arguments_height}
+use Rattle.chw_grammar.specs.Height.{term_height, terms_height, bindings_height, alternatives_height, arguments_height}
 use Rattle.chw_grammar.specs.TypeTree.{Ty}
 use Rattle.chw_grammar.specs.TermTree.{Tm, term_lambda, term_type_lambda, term_letrec, term_case, term_apply, term_name, term_constructor, term_literal, term_vec, Bindings, Alternatives, Tms, Arguments}
 use Rattle.chw_grammar.specs.TermView.{terms_of, bindings_of, alternatives_of, before, arguments_of}

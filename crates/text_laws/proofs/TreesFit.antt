@@ -1,5 +1,5 @@
 -- The canonical tokens of a description that was read and isn't higher than the limit open no more brackets at once than the limit.
-use Rattle.std.specs.Prelude.{◌≡◌, ℕ, zero, suc, ◌≤◌, List, [], ◌∷◌, ◌++◌, false, refl}
+use Rattle.std.specs.Prelude.{ℕ, zero, suc, ◌≤◌, List, [], ◌∷◌, ◌++◌, false, refl}
 use Rattle.std.specs.List.{flat_map}
 use Rattle.std.proofs.Common.{subst, arith}
 use Rattle.std.proofs.lemmas.List.{append-nil}
@@ -13,11 +13,11 @@ use Rattle.chw_grammar.specs.declared.program.Declaration.{Declaration}
 use Rattle.chw_grammar.specs.declared.program.Parameter.{Parameter}
 use Rattle.chw_grammar.specs.declared.program.Constructor.{Constructor}
 use Rattle.chw_grammar.specs.Lexemes.{Lexeme}
-use Rattle.chw_grammar.specs.Grammar.{AtomsAt, no_atom, atom, ConstructorAt, constructor, ConstructorsAt, no_constructor, one_more, DeclarationAt, domain_declared, definition_declared, data_declared, DeclarationsAt, no_declaration, declared, Reads}
+use Rattle.chw_grammar.specs.Grammar.{AtomsAt, no_atom, atom, ConstructorAt, constructor, ConstructorsAt, no_constructor, one_more, DeclarationAt, domain_declared, reset_declared, definition_declared, data_declared, DeclarationsAt, no_declaration, declared, Reads}
 use Rattle.chw_grammar.specs.Height.{types_height, constructors_height, declaration_height, declarations_height, tree_height}
 use Rattle.chw_grammar.specs.TypeTree.{Ty}
 use Rattle.chw_grammar.specs.TypeView.{types_of}
-use Rattle.chw_grammar.specs.Text.{lower, upper, kind, sign, type_lexemes, term_lexemes, parameter_lexemes, fields_lexemes, constructor_lexemes, more_constructor_lexemes, declaration_lexemes, port_lexemes, port_names_lexemes, ports_lexemes, top_lexemes, tree_lexemes}
+use Rattle.chw_grammar.specs.Text.{lower, upper, kind, sign, type_lexemes, term_lexemes, parameter_lexemes, fields_lexemes, constructor_lexemes, more_constructor_lexemes, reset_word, declaration_lexemes, port_lexemes, port_names_lexemes, ports_lexemes, top_lexemes, tree_lexemes}
 use Rattle.chw_parser.specs.Faults.{ShallowFrom, Shallow}
 use Rattle.text_laws.proofs.Fits.{Fits, fits_nothing, fits_append, fits_plain, fits_brackets, kind_plain, upper_plain}
 use Rattle.text_laws.proofs.TypesFit.{type_fits, atom_fits}
@@ -53,6 +53,10 @@ constructors_fit (one_more {x = x} {xs = xs} b c h d more) = λ k low.
 declaration_fits : {x : Declaration} {a b : List Lexeme} → DeclarationAt x a b → (k : ℕ) → declaration_height x ≤ suc k → Fits (suc k) (declaration_lexemes x)
 declaration_fits (domain_declared {w = w} b c h1 h2 h3) = λ k low.
     fits_plain (suc k) (sign the.Domain) (upper w ∷ sign the.Semicolon ∷ []) (λ n. refl) (fits_plain (suc k) (upper w) (sign the.Semicolon ∷ []) (upper_plain w) (fits_plain (suc k) (sign the.Semicolon) [] (λ n. refl) (fits_nothing (suc k))))
+declaration_fits (reset_declared {w = w} b c d h1 h2 h3 h4) = λ k low.
+    fits_plain (suc k) (sign the.Domain) (upper w ∷ lower reset_word ∷ sign the.Semicolon ∷ []) (λ n. refl)
+    (fits_plain (suc k) (upper w) (lower reset_word ∷ sign the.Semicolon ∷ []) (upper_plain w)
+    (fits_plain (suc k) (lower reset_word) (sign the.Semicolon ∷ []) (λ n. refl) (fits_plain (suc k) (sign the.Semicolon) [] (λ n. refl) (fits_nothing (suc k)))))
 declaration_fits (definition_declared {w = w} {t = t} {e = e} b c d f g h h1 h2 h3 ty h4 body h5) = λ k low.
     let of = type_fits ty in
     let inner = term_fits body in

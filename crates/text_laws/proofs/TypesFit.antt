@@ -10,7 +10,7 @@ use Rattle.chw_lexer.specs.declared.token.Sort.TheVariants as sort
 use Rattle.chw_grammar.specs.Lexemes.{Lexeme}
 use Rattle.chw_grammar.specs.Grammar.{TypeAt, forall_type, sum_type, arrow_type, SumAt, one_product, sum_of, SummandsAt, no_summand, summand, ProductAt, one_factor, product_of, FactorsAt, no_factor, factor, AppliedAt, named_type, atom_type, AtomsAt, no_atom, atom, AtomAt, variable_type, name_type, numeral_type, bracketed_type}
 use Rattle.chw_grammar.specs.Height.{type_height, types_height}
-use Rattle.chw_grammar.specs.TypeTree.{Ty, type_forall, type_arrow, type_sum, type_product, type_named, type_variable, type_numeral, Tys, no_types, type_and}
+use Rattle.chw_grammar.specs.TypeTree.{Ty, type_forall, type_arrow, type_sum, type_product, type_named, type_variable, type_numeral, no_types}
 use Rattle.chw_grammar.specs.TypeView.{types_of}
 use Rattle.chw_grammar.specs.Text.{as_token, lower, upper, kind, sign, closed, closes_arrow, closes_sum, closes_product, closes_named, type_lexemes, parts_lexemes, more_lexemes, types_lexemes}
 use Rattle.text_laws.proofs.Fits.{Fits, fits_nothing, fits_append, fits_plain, fits_brackets, fits_closed, kind_plain, upper_plain}

@@ -6,9 +6,9 @@ mod ports;
 use chw_base::{Name, Or};
 use chw_prims::schema;
 use chw_terms::Head;
-use chw_types::{kind_of, put_arguments, put_type, same, shift_type, type_text};
-use ports::{both, put_leaves, put_representable};
-use row_notation::{Item, Items, kind_name, read};
+use chw_types::{Ty, kind_of, put_arguments, put_type, representable, same, shift_type, type_text};
+use ports::{both, put_leaves};
+use row_notation::{Parts, kind_name, read};
 use row_tables::{Unread, print_rows, put};
 use std::alloc::Global;
 use std::io;
@@ -19,14 +19,14 @@ fn main(rt: HostRuntime) -> io::Result<()> {
 
 // Writes what a call gives.
 fn answer(alloc: Global, call: &str, text: &str, out: &mut Vec<u8>) -> Result<(), Or<Unread>> {
-    let items = read(alloc, text)?;
+    let parts = read(alloc, text)?;
     match call {
-        "kind_of" => put_kind(alloc, items, out),
-        "same" => put_same(alloc, items, out),
-        "representable" => put_representable(alloc, items, out),
-        "leaves" => put_leaves(alloc, items, out),
-        "type_text" => put_named(alloc, items, out),
-        _ => put_moved(alloc, call, items, out),
+        "kind_of" => put_kind(alloc, &parts, out),
+        "same" => put_truth(out, same(alloc, parts.ty(0)?, parts.ty(1)?)?),
+        "representable" => put_truth(out, representable(alloc, parts.ty(0)?, &both(alloc)?)?),
+        "leaves" => put_leaves(alloc, parts.ty(0)?, out),
+        "type_text" => put_named(alloc, parts.ty(0)?, out),
+        _ => put_moved(alloc, call, &parts, out),
     }
 }
 
@@ -34,60 +34,51 @@ fn answer(alloc: Global, call: &str, text: &str, out: &mut Vec<u8>) -> Result<()
 fn put_moved(
     alloc: Global,
     call: &str,
-    mut items: Items,
+    parts: &Parts,
     out: &mut Vec<u8>,
 ) -> Result<(), Or<Unread>> {
-    let moved = match call {
-        "shift_type" => {
-            let from = items.ty_var()?;
-            let by = items.number()?;
-            shift_type(alloc, &items.ty()?, from, by)?
-        }
-        "put_type" => {
-            let at = items.ty_var()?;
-            let arg = items.ty()?;
-            put_type(alloc, &items.ty()?, at, &arg)?
-        }
-        "put_arguments" => {
-            let field = items.ty()?;
-            put_arguments(alloc, &field, &items.types(alloc)?)?
-        }
-        "schema" => match items.term()?.head {
-            Head::PrimOf(primitive) => schema(alloc, primitive)?,
-            _ => return Err(Or::Fault(Unread)),
-        },
-        _ => return Err(Or::Fault(Unread)),
-    };
+    let moved = moved(alloc, call, parts)?;
     let written = type_text(alloc, &moved, &[], &[])?;
     Ok(out.extend_from_slice(written.as_slice())?)
 }
 
-fn put_same(alloc: Global, mut items: Items, out: &mut Vec<u8>) -> Result<(), Or<Unread>> {
-    let first = items.ty()?;
-    let same = same(alloc, &first, &items.ty()?)?;
-    Ok(put(out, if same { "true" } else { "false" })?)
+// What a type becomes, and the type of a primitive.
+fn moved(alloc: Global, call: &str, parts: &Parts) -> Result<Ty, Or<Unread>> {
+    match call {
+        "shift_type" => {
+            let from = parts.ty_var(0)?;
+            Ok(shift_type(alloc, parts.ty(2)?, from, parts.number(1)?)?)
+        }
+        "put_type" => {
+            let at = parts.ty_var(0)?;
+            Ok(put_type(alloc, parts.ty(2)?, at, parts.ty(1)?)?)
+        }
+        "put_arguments" => match parts.types.as_slice() {
+            [field, args @ ..] => Ok(put_arguments(alloc, field, args)?),
+            _ => Err(Or::Fault(Unread)),
+        },
+        "schema" => match &parts.term(0)?.head {
+            Head::PrimOf(primitive) => Ok(schema(alloc, *primitive)?),
+            _ => Err(Or::Fault(Unread)),
+        },
+        _ => Err(Or::Fault(Unread)),
+    }
+}
+
+fn put_truth(out: &mut Vec<u8>, truth: bool) -> Result<(), Or<Unread>> {
+    Ok(put(out, if truth { "true" } else { "false" })?)
 }
 
 // The kind of a type, behind those of the variables in scope, the outermost first. There is one domain.
-fn put_kind(alloc: Global, items: Items, out: &mut Vec<u8>) -> Result<(), Or<Unread>> {
-    let mut scope = Vec::new(alloc);
-    let mut ty = None;
-    for item in items.rest {
-        match item {
-            Item::Kind(kind) => scope.push(kind)?,
-            Item::Type(last) => ty = Some(last),
-            _ => return Err(Or::Fault(Unread)),
-        }
-    }
-    let ty = ty.ok_or(Or::Fault(Unread))?;
+fn put_kind(alloc: Global, parts: &Parts, out: &mut Vec<u8>) -> Result<(), Or<Unread>> {
     let domains = [Name::from(Vec::new(alloc))];
-    let found = kind_of(&ty, &scope, &both(alloc)?, &domains);
+    let found = kind_of(parts.ty(0)?, &parts.kinds, &both(alloc)?, &domains);
     Ok(put(out, found.map_or("none", kind_name))?)
 }
 
 // The text of a type, where the domain 0 is `A`.
-fn put_named(alloc: Global, mut items: Items, out: &mut Vec<u8>) -> Result<(), Or<Unread>> {
+fn put_named(alloc: Global, ty: &Ty, out: &mut Vec<u8>) -> Result<(), Or<Unread>> {
     let domains = [Name::from(Vec::from_slice(alloc, b"A")?)];
-    let written = type_text(alloc, &items.ty()?, &both(alloc)?, &domains)?;
+    let written = type_text(alloc, ty, &both(alloc)?, &domains)?;
     Ok(out.extend_from_slice(written.as_slice())?)
 }

@@ -1,10 +1,9 @@
-//! Which types are representable, and the leaves of ports.
+//! The leaves of ports.
 ghost use Rattle.std.specs.Prelude.{IfOk};
 ghost use Rattle.chw_types.specs.References.{HasNoCycle};
 
 use chw_base::{Name, NoMemory, Or, Seq, TyIx};
-use chw_types::{ConDecl, Data, Kind, Ty, leaves, representable, type_text};
-use row_notation::Items;
+use chw_types::{ConDecl, Data, Kind, Ty, leaves, type_text};
 use row_tables::{Unread, put};
 use std::alloc::Global;
 
@@ -30,25 +29,10 @@ pub(crate) fn both(alloc: Global) -> Result<Vec<Data>, NoMemory>
     Ok(Vec::from_array(alloc, [it])?)
 }
 
-/// Writes whether a type is representable.
-pub(crate) fn put_representable(
-    alloc: Global,
-    mut items: Items,
-    out: &mut Vec<u8>,
-) -> Result<(), Or<Unread>> {
-    let datas = both(alloc)?;
-    let answer = representable(alloc, &items.ty()?, &datas)?;
-    Ok(put(out, if answer { "true" } else { "false" })?)
-}
-
 /// Writes each leaf's domain and payload.
-pub(crate) fn put_leaves(
-    alloc: Global,
-    mut items: Items,
-    out: &mut Vec<u8>,
-) -> Result<(), Or<Unread>> {
+pub(crate) fn put_leaves(alloc: Global, ty: &Ty, out: &mut Vec<u8>) -> Result<(), Or<Unread>> {
     let datas = both(alloc)?;
-    let Some(found) = leaves(alloc, &items.ty()?, &datas)? else {
+    let Some(found) = leaves(alloc, ty, &datas)? else {
         return Ok(put(out, "none")?);
     };
     for (place, leaf) in found.iter().enumerate() {

@@ -18,7 +18,7 @@ fn answer(alloc: Global, call: &str, text: &str, out: &mut Vec<u8>) -> Result<()
     if call != "without_zeros" {
         return Err(Or::Fault(Unread));
     }
-    let less = without_zeros(alloc, &read(alloc, text)?.ty()?)?;
+    let less = without_zeros(alloc, read(alloc, text)?.ty(0)?)?;
     let written = type_text(alloc, &less, &[], &[])?;
     Ok(out.extend_from_slice(written.as_slice())?)
 }

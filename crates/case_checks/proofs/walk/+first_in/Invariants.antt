@@ -5,13 +5,13 @@ use Rattle.case_checks.proofs.Lists.{args, elements, bindings, alternatives}
 use Rattle.case_checks.proofs.walk.+first_in.Given as goal
 
 abbrev pub invariant-first_in-loop-arg : goal.invariant-first_in-loop-arg
-invariant-first_in-loop-arg l = Told (args l.constructors) l.arg-items (drop l.arg-index l.arg-items)
+invariant-first_in-loop-arg l = Told (args l.constructors l.sought) l.arg-items (drop l.arg-index l.arg-items)
 
 abbrev pub invariant-first_in_head-loop-binding : goal.invariant-first_in_head-loop-binding
-invariant-first_in_head-loop-binding l = Told (bindings l.constructors) l.binding-items (drop l.binding-index l.binding-items)
+invariant-first_in_head-loop-binding l = Told (bindings l.constructors l.sought) l.binding-items (drop l.binding-index l.binding-items)
 
 abbrev pub invariant-first_in_head-loop-element : goal.invariant-first_in_head-loop-element
-invariant-first_in_head-loop-element l = Told (elements l.constructors) l.element-items (drop l.element-index l.element-items)
+invariant-first_in_head-loop-element l = Told (elements l.constructors l.sought) l.element-items (drop l.element-index l.element-items)
 
 abbrev pub invariant-first_in_head-loop-alternative : goal.invariant-first_in_head-loop-alternative
-invariant-first_in_head-loop-alternative l = Told (alternatives l.constructors) l.alternative-items (drop l.alternative-index l.alternative-items)
+invariant-first_in_head-loop-alternative l = Told (alternatives l.constructors l.sought) l.alternative-items (drop l.alternative-index l.alternative-items)

@@ -1,7 +1,7 @@
 use Rattle.std.proofs.Common.{List, sym, subst}
 use Rattle.std.specs.Prelude.{IsSome}
 use Rattle.chw_check.specs.Names.{IsConName, IsDefName}
-use Rattle.chw_check.proofs.Lacking.{lacking_constructor}
+use Rattle.chw_check.proofs.Lacking.{first_known}
 use Rattle.chw_check.proofs.Told.{missing_told, no_default_told}
 use Rattle.chw_check.proofs.checking.check_cases.Goals as goal
 use Rattle.chw_terms.specs.Constructors.{con_at}
@@ -12,7 +12,7 @@ pub con_name-requires : goal.con_name-requires
 con_name-requires c =
     let first = rw c.in-Some.is at c.in_ok-found.ensures in
     subst (λ (datas : List Data). IsSome (con_at datas c.in-Constructor.at.number)) (sym c.requires.table)
-    (lacking_constructor c.args.program.now.datas first.it.body c.in-Some.found.lacks c.in-Constructor.at first.first c.in-Constructor.is)
+    (first_known c.args.program.now c.in-Some.found c.in-Constructor.at first c.in-Constructor.is)
 
 pub returns-in_ok-constructor-in-Constructor-clause-fault : goal.returns-in_ok-constructor-in-Constructor-clause-fault
 returns-in_ok-constructor-in-Constructor-clause-fault c =

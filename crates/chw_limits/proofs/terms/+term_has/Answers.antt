@@ -2,7 +2,7 @@ use Rattle.std.proofs.Common.{◌≡◌, true, false, ◌||◌, length, ap, ◌�
 use Rattle.std.proofs.lemmas.Bool.{or_from, or_left, or_right}
 use Rattle.chw_grammar.specs.TermTree.{term_letrec, term_case, term_apply, term_vec}
 use Rattle.chw_grammar.specs.TermView.{terms_of, bindings_of, alternatives_of, arguments_of, term_of}
-use Rattle.chw_limits.specs.Parts.{type_has, pattern_has, term_has}
+use Rattle.chw_limits.specs.Parts.{type_has, term_has}
 use Rattle.chw_limits.specs.Sought.{tests_of}
 use Rattle.chw_limits.proofs.Lists.{binding_has, alternative_has, argument_has, found, none_of_all, letrec_is, case_is, apply_is, vec_early, vec_is}
 use Rattle.chw_limits.proofs.terms.+term_has.Goals.{then-type_has-2-via-then-type_has-2, then-type_has-2-via-else-type_has-2+then-term_has, then-pattern_has-via-then-pattern_has, then-pattern_has-via-else-pattern_has+then-term_has-3, in-OfTerm, in-OfType, then-vector-via-then-vector, then-vector-via-else-vector+then-type_has-3}

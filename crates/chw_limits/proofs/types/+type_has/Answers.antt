@@ -1,4 +1,4 @@
-use Rattle.std.proofs.Common.{◌≡◌, true, false, ap, ◌∙◌, sym, arith, inl, inr}
+use Rattle.std.proofs.Common.{◌≡◌, ap, ◌∙◌, sym, arith, inl, inr}
 use Rattle.chw_grammar.specs.declared.type_tree.TypeNode.{TypeNode}
 use Rattle.chw_grammar.specs.TypeView.{type_of, types_of}
 use Rattle.chw_limits.specs.Parts.{type_has, types_have}

@@ -1,7 +1,6 @@
 use Rattle.std.proofs.Common.{[], ◌++◌}
 use Rattle.chw_types.specs.BuiltIn.{built_in}
 use Rattle.chw_types.proofs.KindsFound.{found_is_kind}
-use Rattle.chw_prims.specs.declared.prim.Primitive.{Primitive}
 use Rattle.chw_prims.specs.Schemas.{schema_type}
 use Rattle.chw_prims.proofs.SchemaKinds.{kind_of_schema, schema_has_kind, is_of_terms, is_circuit}
 use Rattle.chw_prims.proofs.laws.schemas_have_kinds.Goals as goal

@@ -3,5 +3,4 @@ use Rattle.chw_resolve.proofs.declarations.definition_in.Goals as goal
 
 pub returns : goal.returns
 returns c =
-    definition_made c.args.globals.now c.args.word.now c.args.ty.now c.args.body.now c.new-types.ensures c.in_ok-ty.ensures.scope c.new-values.ensures c.in_ok-name.ensures c.in_ok-ty.ensures.made
-    c.in_ok-body.ensures.made
+    definition_made c.args.globals.now c.args.word.now c.args.ty.now c.args.body.now c.in_ok-name.ensures c.in_ok-ty.ensures c.in_ok-body.ensures

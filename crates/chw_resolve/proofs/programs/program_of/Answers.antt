@@ -1,23 +1,9 @@
-use Rattle.std.proofs.Common.{[], ◌∙◌, arith}
-use Rattle.chw_types.specs.BuiltIn.{built_in}
-use Rattle.chw_resolve.specs.Programs.{domains_in, datas_in, defs_in}
-use Rattle.chw_resolve.proofs.ProgramMade.{declared_more, program_made}
+use Rattle.std.proofs.Common.{◌∙◌}
+use Rattle.chw_resolve.proofs.ProgramMade.{program_made}
 use Rattle.chw_resolve.proofs.programs.program_of.Goals as goal
-
-pub loop-declaration-preserved : goal.loop-declaration-preserved
-loop-declaration-preserved c =
-    let g = c.args.globals.now in
-    let ds = c.as_slice-declaration-items.result.now in
-    let i = c.loop-declaration.declaration-index in
-    let d = c.declaration-item.result in
-    record {
-      domains = declared_more domains_in ds i d [] c.loop-declaration-test.true c.declaration-item.is c.loop-declaration.invariant.domains c.in_ok-add.ensures.domains;
-      datas = declared_more (datas_in g) ds i d built_in c.loop-declaration-test.true c.declaration-item.is c.loop-declaration.invariant.datas c.in_ok-add.ensures.datas;
-      defs = declared_more (defs_in g) ds i d [] c.loop-declaration-test.true c.declaration-item.is c.loop-declaration.invariant.defs c.in_ok-add.ensures.defs;
-    }
 
 pub returns : goal.returns
 returns c =
-    let all = c.loop-declaration.invariant in
-    program_made c.args.tree.now _ c.args.globals.now c.as_slice-declaration-items.result.now c.loop-declaration.declaration-index c.as_slice-declaration-items.ensures c.requires (omega (arith, c.loop-declaration-test.false))
-    (c.from-domains.ensures ∙ all.domains) (c.from-datas.ensures ∙ all.datas) (c.from-defs.ensures ∙ all.defs) c.in_ok-top.ensures
+    let all = c.in_ok-declared.ensures in
+    program_made c.args.tree.now _ c.args.globals.now c.as_slice-declarations.result.now c.as_slice-declarations.ensures c.requires
+    (c.from.ensures ∙ all.domains) (c.from-2.ensures ∙ c.in_ok-resets.ensures) (c.from-3.ensures ∙ all.datas) (c.from-4.ensures ∙ all.defs) c.in_ok-top.ensures

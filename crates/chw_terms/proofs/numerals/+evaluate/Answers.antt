@@ -1,7 +1,7 @@
 use Rattle.std.proofs.Common.{length, sym, ap, ◌∙◌, arith, take, map}
 use Rattle.chw_types.specs.TypeView.{tree_of}
 use Rattle.chw_terms.specs.Evaluated.{evaluated}
-use Rattle.chw_terms.proofs.TypesTyped.{evaluated_data}
+use Rattle.chw_terms.proofs.TypesEvaluated.{evaluated_data}
 use Rattle.chw_terms.proofs.numerals.+evaluate.Goals as goal
 
 pub returns-after-loop-arg : goal.returns-after-loop-arg

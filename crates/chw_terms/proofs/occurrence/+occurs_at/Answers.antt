@@ -1,9 +1,9 @@
 use Rattle.std.proofs.Common.{vec_len, ◌≡◌, ◌+◌, ◌-◌, ◌^◌, min, false, true, length, sym, ap, ◌∙◌, refl, arith, subst}
 use Rattle.chw_terms.specs.Occurs.{occurs}
 use Rattle.chw_terms.specs.TermTree.{binders}
-use Rattle.chw_terms.specs.TermView.{tree_of, group_of, alts_of, terms_of}
+use Rattle.chw_terms.specs.TermView.{tree_of}
 use Rattle.chw_terms.specs.Sought.{Found, any_of, occurs_in, occurs_in_binding, occurs_in_alt}
-use Rattle.chw_terms.proofs.Found.{found_told, none_at_next, found_at, found_none, found_head, found_args, found_lam, found_body, found_group, found_elements, found_scrutinee, found_alts, found_deeper}
+use Rattle.chw_terms.proofs.Found.{found_told, none_at_next, found_at, found_none, found_head, found_args, found_body, found_group, found_elements, found_alts, found_deeper}
 use Rattle.chw_terms.proofs.occurrence.+occurs_at.Goals as goal
 
 pub occurs_at-returns-then-occurs_in_head : goal.occurs_at-returns-then-occurs_in_head

@@ -1,4 +1,4 @@
-use Rattle.std.proofs.Common.{◌≡◌, ◌==◌, ap, arith}
+use Rattle.std.proofs.Common.{◌==◌, ap, arith}
 use Rattle.chw_terms.proofs.Found.{found_var}
 use Rattle.chw_terms.proofs.occurrence.is_at.Goals as goal
 

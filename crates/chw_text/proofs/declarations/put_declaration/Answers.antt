@@ -1,7 +1,12 @@
 use Rattle.std.proofs.Common.{◌++◌, sym, ap, ◌∙◌}
 use Rattle.chw_grammar.specs.Text.{declaration_text}
-use Rattle.chw_text.proofs.DeclarationForms.{data_puts, def_puts}
+use Rattle.chw_text.proofs.DeclarationForms.{domain_puts, data_puts, def_puts}
 use Rattle.chw_text.proofs.declarations.put_declaration.Goals as goal
+
+pub returns-in_ok-put_end-in-Domain : goal.returns-in_ok-put_end-in-Domain
+returns-in_ok-put_end-in-Domain c =
+    domain_puts c.in-Domain.has_reset c.in_ok-put_sign-in-Domain.ensures c.in_ok-put_word-in-Domain.ensures c.in_ok-put_reset-in-Domain.ensures c.in_ok-put_end-in-Domain.ensures
+    ∙ ap (λ d. c.args.out.now.items ++ declaration_text d) (sym c.in-Domain.is)
 
 pub returns-in_ok-put_end-in-Data : goal.returns-in_ok-put_end-in-Data
 returns-in_ok-put_end-in-Data c =

@@ -7,11 +7,11 @@ use Rattle.chw_grammar.specs.Text.{parts_lexemes, types_lexemes}
 use Rattle.chw_text.specs.Spaced.{Leaves, parts_from}
 use Rattle.chw_text.proofs.types.+put_type.Given as goal
 
-abbrev pub invariant-loop-i : goal.invariant-loop-i
-invariant-loop-i l = Leaves l.initial.out.items (parts_lexemes Summand Plus (types_of l.part-items)) l.out.items (parts_from l.i Summand Plus (types_of (drop l.i l.part-items)))
+abbrev pub invariant-put_bare-loop-i : goal.invariant-put_bare-loop-i
+invariant-put_bare-loop-i l = Leaves l.initial.out.items (parts_lexemes Summand Plus (types_of l.part-items)) l.out.items (parts_from l.i Summand Plus (types_of (drop l.i l.part-items)))
 
-abbrev pub invariant-loop-i-2 : goal.invariant-loop-i-2
-invariant-loop-i-2 l = Leaves l.initial.out.items (parts_lexemes Factor Star (types_of l.part-items)) l.out.items (parts_from l.i Factor Star (types_of (drop l.i l.part-items)))
+abbrev pub invariant-put_bare-loop-i-2 : goal.invariant-put_bare-loop-i-2
+invariant-put_bare-loop-i-2 l = Leaves l.initial.out.items (parts_lexemes Factor Star (types_of l.part-items)) l.out.items (parts_from l.i Factor Star (types_of (drop l.i l.part-items)))
 
-abbrev pub invariant-loop-argument : goal.invariant-loop-argument
-invariant-loop-argument l = Leaves l.initial.out.items (types_lexemes (types_of l.argument-items)) l.out.items (types_lexemes (types_of (drop l.argument-index l.argument-items)))
+abbrev pub invariant-put_bare-loop-argument : goal.invariant-put_bare-loop-argument
+invariant-put_bare-loop-argument l = Leaves l.initial.out.items (types_lexemes (types_of l.argument-items)) l.out.items (types_lexemes (types_of (drop l.argument-index l.argument-items)))

@@ -1,5 +1,5 @@
 use Rattle.std.specs.Prelude.{◌≡◌, ◌≤◌, zero, length, map}
-use Rattle.std.proofs.Common.{subst, arith}
+use Rattle.std.proofs.Common.{arith}
 use Rattle.chw_lexer.specs.Words.{words_of}
 use Rattle.chw_grammar.specs.Height.{tree_height}
 use Rattle.chw_grammar.specs.Lexemes.{lexemes_of}

@@ -1,0 +1,52 @@
+//! What a walk over a term does to its variables and its types.
+ghost use Rattle.std.specs.Prelude.{◌≡◌, ◌+◌, length, IfOk};
+ghost use Rattle.chw_terms.specs.Moved.{moved_type};
+
+use crate::numerals::evaluate;
+use crate::term::{Binding, Term};
+use chw_base::{NoMemory, TyIx};
+use chw_types::{Ty, put_type, shift_type};
+use std::alloc::Global;
+
+// What a walk does at its places. A place among the variables is counted up by each binder that is passed, and a place among the type
+// variables by each type binder.
+#[derive(Clone, Copy)]
+pub(crate) enum Move<'a> {
+    // The variables from the place on are raised by the first number, and the type variables from the type place on by the second.
+    Raise(u32, u32),
+    // The term, from outside of as many type binders as the type place counts, is put for the variable at the place.
+    PutTerm(&'a Term),
+    // The type is put for the type variable at the type place, and closed naturals become numerals.
+    PutType(&'a Ty),
+}
+
+impl<'a> Move<'a> {
+    // A type of the term.
+    pub(crate) fn ty(self, alloc: Global, t: &Ty, types: u32) -> Result<Ty, NoMemory>
+        ensures { IfOk result (λ r. r ≡ moved_type self.entry types t.now) }
+    {
+        let at = TyIx { number: types };
+        match self {
+            Move::Raise(_, by) => shift_type(alloc, t, at, by),
+            Move::PutTerm(_) => t.copy(alloc),
+            Move::PutType(arg) => {
+                let put = put_type(alloc, t, at, arg)?;
+                evaluate(alloc, &put)
+            }
+        }
+    }
+}
+
+// A place under so many more binders.
+pub(crate) fn deeper(place: u32, binders: u32) -> Result<u32, NoMemory>
+    ensures { IfOk result (λ n. n ≡ place + binders) }
+{
+    place.checked_add(binders).ok_or(NoMemory)
+}
+
+// How many bindings there are.
+pub(crate) fn count(bindings: &[Binding]) -> Result<u32, NoMemory>
+    ensures { IfOk result (λ n. n ≡ length bindings.now) }
+{
+    u32::try_from(bindings.len()).map_err(|_| NoMemory)
+}

@@ -1,0 +1,107 @@
+//! Rows of descriptions, each with what is found of its names.
+//!
+//! `fault TEXT` gives the first fault, and `kinds TEXT` the first letters of the kinds of the data types, the built-in ones first, and the
+//! number of the top's definition.
+#![tactic(auto)]
+
+use chw_base::{Name, NoMemory, Or};
+use chw_grammar::Tree;
+use chw_lexer::lex;
+use chw_parser::parse;
+use chw_resolve::{NameFault, resolve};
+use chw_terms::Program;
+use chw_types::Kind;
+use row_tables::{Unread, bytes_of, print_rows, put, put_number};
+use std::alloc::Global;
+use std::io;
+
+fn main(rt: HostRuntime) -> io::Result<()> {
+    print_rows(&rt, answer)
+}
+
+// Writes what a call gives.
+fn answer(alloc: Global, call: &str, text: &str, out: &mut Vec<u8>) -> Result<(), Or<Unread>> {
+    match call {
+        "fault" => put_resolved(alloc, text, false, out),
+        "kinds" => put_resolved(alloc, text, true, out),
+        _ => Err(Or::Fault(Unread)),
+    }
+}
+
+// Writes the first fault of a text, or the kinds of its program where they are asked for.
+fn put_resolved(
+    alloc: Global,
+    text: &str,
+    with_kinds: bool,
+    out: &mut Vec<u8>,
+) -> Result<(), Or<Unread>> {
+    let tree = tree(alloc, text)?;
+    match resolve(alloc, &tree) {
+        Ok(program) if with_kinds => Ok(put_kinds(out, &program)?),
+        Ok(_) => Ok(put(out, "none")?),
+        Err(Or::Fault(fault)) => Ok(put_fault(out, &fault)?),
+        Err(Or::Memory) => Err(Or::Memory),
+    }
+}
+
+// The tree of a text that is a description.
+fn tree(alloc: Global, text: &str) -> Result<Tree, Or<Unread>> {
+    let text = bytes_of(alloc, text)?;
+    if text.len() > 2_000_000 {
+        return Err(Or::Fault(Unread));
+    }
+    let Ok(tokens) = lex(alloc, &text) else {
+        return Err(Or::Fault(Unread));
+    };
+    match parse(alloc, &text, tokens.as_slice()) {
+        Ok(tree) => Ok(tree),
+        Err(_) => Err(Or::Fault(Unread)),
+    }
+}
+
+fn put_fault(out: &mut Vec<u8>, fault: &NameFault) -> Result<(), NoMemory> {
+    match fault {
+        NameFault::Limit(limit) => {
+            put(out, "limit ")?;
+            put(out, limit.which.word())?;
+            put_number(out, " ", limit.number)
+        }
+        NameFault::Twice { name, at } => put_place(out, "twice", name, *at),
+        NameFault::Unknown { name, at } => put_place(out, "unknown", name, *at),
+        NameFault::DataCycle(names) => put_listed(out, "data cycle", names.as_slice()),
+        NameFault::DefCycle(names) => put_listed(out, "def cycle", names.as_slice()),
+    }
+}
+
+fn put_place(out: &mut Vec<u8>, what: &str, name: &Name, at: u32) -> Result<(), NoMemory> {
+    put(out, what)?;
+    put(out, " ")?;
+    out.extend_from_slice(name.as_slice())?;
+    put_number(out, " ", at)
+}
+
+fn put_listed(out: &mut Vec<u8>, what: &str, names: &[Name]) -> Result<(), NoMemory> {
+    put(out, what)?;
+    for name in names {
+        put(out, " ")?;
+        out.extend_from_slice(name.as_slice())?;
+    }
+    Ok(())
+}
+
+fn put_kinds(out: &mut Vec<u8>, program: &Program) -> Result<(), NoMemory> {
+    for data in program.datas.as_slice() {
+        out.push(letter(data.kind))?;
+    }
+    put_number(out, " ", program.top.def.number)
+}
+
+// The first letter of a kind.
+fn letter(kind: Kind) -> u8 {
+    match kind {
+        Kind::Nat => b'N',
+        Kind::Dom => b'D',
+        Kind::Val => b'V',
+        Kind::Cir => b'C',
+    }
+}

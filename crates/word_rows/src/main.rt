@@ -1,0 +1,51 @@
+//! Rows of words, each with the command that they are.
+//!
+//! `words "WORD" .. "WORD"` gives the command with its file and its budget, `budget WORD` the budget that a word is.
+#![tactic(auto)]
+
+use chw_base::{NoMemory, Or};
+use chw_words::budget::read_budget;
+use chw_words::{Command, WordsFault, read_words};
+use row_tables::{Unread, print_rows, put, put_bytes, put_number, words_of};
+use std::alloc::Global;
+use std::io;
+
+fn main(rt: HostRuntime) -> io::Result<()> {
+    print_rows(&rt, answer)
+}
+
+// Writes what a call gives.
+fn answer(alloc: Global, call: &str, text: &str, out: &mut Vec<u8>) -> Result<(), Or<Unread>> {
+    match call {
+        "words" => put_command(alloc, text, out),
+        "budget" => Ok(put_budget(text, out)?),
+        _ => Err(Or::Fault(Unread)),
+    }
+}
+
+fn put_command(alloc: Global, text: &str, out: &mut Vec<u8>) -> Result<(), Or<Unread>> {
+    let words = words_of(alloc, text)?;
+    match read_words(alloc, words.as_slice()) {
+        Ok(Command::Emit { file, budget }) => {
+            put_file(out, "emit", file.as_slice())?;
+            Ok(put_number(out, " with ", budget)?)
+        }
+        Ok(Command::Check { file }) => Ok(put_file(out, "check", file.as_slice())?),
+        Err(Or::Fault(WordsFault)) => Ok(put(out, "none")?),
+        Err(Or::Memory) => Err(Or::Memory),
+    }
+}
+
+fn put_file(out: &mut Vec<u8>, command: &str, file: &[u8]) -> Result<(), NoMemory> {
+    put(out, command)?;
+    put(out, " \"")?;
+    put_bytes(out, file)?;
+    put(out, "\"")
+}
+
+fn put_budget(text: &str, out: &mut Vec<u8>) -> Result<(), NoMemory> {
+    match read_budget(text) {
+        Some(budget) => put_number(out, "", budget),
+        None => put(out, "none"),
+    }
+}
