@@ -46,18 +46,3 @@ pub(crate) fn chain(alloc: Global, wires: u32) -> Result<Net, NoMemory>
         modules: Seq::from(vec![in alloc; top]?),
     })
 }
-
-#[cfg(test)]
-mod tests {
-    use super::*;
-    use std::test::Fail;
-
-    #[test]
-    fn a_chain_of_three_wires(rt: HostRuntime) -> Result<(), Fail> {
-        let net = chain(rt.alloc(), 3).expect(&rt, "a net");
-        let top = &net.modules.as_slice()[0];
-        assert_eq!(rt; top.widths.as_slice(), [8, 8, 8].as_slice());
-        assert_eq!(rt; top.cells.len(), 2);
-        Ok(())
-    }
-}

@@ -5,7 +5,6 @@ pub mod Lists
 pub mod OneValue
 pub mod Placing
 pub mod Rounds
-pub mod SmallNets
 pub mod Tables
 pub mod Values
 pub mod Waiting

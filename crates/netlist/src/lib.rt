@@ -13,6 +13,3 @@ mod waits;
 
 pub use flatten::TooLarge;
 pub use net::{Cell, Flat, Loop, Module, Net, Op1, Op2, Order, RamIn};
-
-#[cfg(test)]
-mod tests;

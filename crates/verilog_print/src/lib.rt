@@ -9,6 +9,3 @@ mod printer;
 mod wires;
 
 pub use printer::print;
-
-#[cfg(test)]
-mod tests;

@@ -1,0 +1,29 @@
+//! Rows of graphs and of small nets: the order that each has, or the cycle.
+#![tactic(auto)]
+
+mod graphs;
+mod nets;
+mod slow;
+
+use chw_base::Or;
+use graphs::{put_chain, put_graph};
+use nets::{put_flattened, put_found};
+use row_tables::{Unread, print_rows};
+use std::alloc::Global;
+use std::io;
+
+fn main(rt: HostRuntime) -> io::Result<()> {
+    netlist::laws::an_order_excludes_loops();
+    print_rows(&rt, answer)
+}
+
+// Writes what a call gives.
+fn answer(alloc: Global, call: &str, text: &str, out: &mut Vec<u8>) -> Result<(), Or<Unread>> {
+    match call {
+        "graph" => put_graph(alloc, text, out),
+        "chain" => put_chain(alloc, text, out),
+        "has" | "order" => put_found(alloc, call, text, out),
+        "flatten" => put_flattened(alloc, out),
+        _ => Err(Or::Fault(Unread)),
+    }
+}

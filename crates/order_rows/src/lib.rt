@@ -1,5 +1,0 @@
-//! Tests of orders and cycles of references.
-#![tactic(auto)]
-
-#[cfg(test)]
-mod table;
