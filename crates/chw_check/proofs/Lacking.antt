@@ -6,14 +6,14 @@ use Rattle.chw_types.specs.declared.declarations.Data.{Data}
 use Rattle.chw_terms.specs.Constructors.{con_at}
 use Rattle.chw_terms.specs.TermTree.{TermTree, var, global, made, lam, app, ty_lam, ty_app, letrec, con, prim, lit, vec_lit, case_of, Terms, no_terms, term_and, Group, no_bindings, bind, Alts, no_alts, alt}
 use Rattle.chw_terms.specs.declared.program.Program.{Program}
-use Rattle.case_checks.specs.Incomplete.{IsFirst, of_constructors, of_defaults}
-use Rattle.case_checks.specs.LeavesOut.{LeavesOut, a_constructor, a_default}
-use Rattle.case_checks.specs.Walk.{FirstIn, FirstInTerms, FirstInGroup, FirstInAlts}
-use Rattle.case_checks.specs.declared.lacks.Incomplete.{Incomplete}
-use Rattle.case_checks.specs.declared.lacks.Lacks.{Lacks}
-use Rattle.case_checks.specs.declared.lacks.Lacks.TheVariants.{Constructor, Default}
-use Rattle.case_checks.specs.declared.lacks.Sought.{Sought}
-use Rattle.case_checks.specs.declared.lacks.Sought.TheVariants.{Constructors, Defaults}
+use Rattle.chw_check.specs.Incomplete.{IsFirstIncomplete, of_constructors, of_defaults}
+use Rattle.chw_check.specs.LeavesOut.{LeavesOut, a_constructor, a_default}
+use Rattle.chw_check.specs.FirstCase.{FirstIn, FirstInTerms, FirstInGroup, FirstInAlts}
+use Rattle.chw_check.specs.declared.cases.lacks.Incomplete.{Incomplete}
+use Rattle.chw_check.specs.declared.cases.lacks.Lacks.{Lacks}
+use Rattle.chw_check.specs.declared.cases.lacks.Lacks.TheVariants.{Constructor, Default}
+use Rattle.chw_check.specs.declared.cases.lacks.Sought.{Sought}
+use Rattle.chw_check.specs.declared.cases.lacks.Sought.TheVariants.{Constructors, Defaults}
 
 -- where a constructor is lacking, it is one of the program
 pub IsKnown : List Data → Lacks → Type 0
@@ -66,6 +66,6 @@ unfolding IsKnown
 lacking_constructor datas sought e l c f is = subst (IsKnown datas) is (lacking_known datas sought l e f)
 
 -- so is the one that the first case of the program leaves out
-pub first_known : (p : Program) (i : Incomplete) (c : ConId) → IsFirst p i → i.lacks ≡ Constructor c → IsSome (con_at p.datas c.number)
+pub first_known : (p : Program) (i : Incomplete) (c : ConId) → IsFirstIncomplete p i → i.lacks ≡ Constructor c → IsSome (con_at p.datas c.number)
 first_known p i c (of_constructors first) is = lacking_constructor p.datas Constructors first.it.body i.lacks c first.first is
 first_known p i c (of_defaults kept first) is = lacking_constructor p.datas Defaults first.it.body i.lacks c first.first is

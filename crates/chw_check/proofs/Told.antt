@@ -2,9 +2,9 @@
 use Rattle.std.proofs.Common.{◌≡◌, ℕ, List, Option, Some, None, refl, sym, subst}
 use Rattle.std.specs.Prelude.{IsSomeAnd}
 use Rattle.std.specs.List.{slice_get}
-use Rattle.case_checks.specs.Incomplete.{IsFirst as IsFirstIncomplete}
-use Rattle.case_checks.specs.declared.lacks.Incomplete.{Incomplete}
-use Rattle.case_checks.specs.declared.lacks.Lacks.TheVariants.{Constructor, Default}
+use Rattle.chw_check.specs.Incomplete.{IsFirstIncomplete}
+use Rattle.chw_check.specs.declared.cases.lacks.Incomplete.{Incomplete}
+use Rattle.chw_check.specs.declared.cases.lacks.Lacks.TheVariants.{Constructor, Default}
 use Rattle.chw_base.specs.declared.index.ConId.{ConId}
 use Rattle.chw_base.specs.declared.index.DataId.{DataId}
 use Rattle.chw_base.specs.declared.index.DefId.{DefId}
@@ -15,9 +15,9 @@ use Rattle.chw_check.specs.declared.fault.TypeFault.TheVariants.{Kind, Typing, M
 use Rattle.chw_terms.specs.Constructors.{con_at}
 use Rattle.chw_terms.specs.declared.program.Def.{Def}
 use Rattle.chw_terms.specs.declared.program.Program.{Program}
-use Rattle.kind_checks.specs.Fits.{AllDeclarationsFit}
-use Rattle.kind_checks.specs.Unkinded.{IsFirst as IsFirstUnkinded}
-use Rattle.kind_checks.specs.declared.first.Unkinded.TheVariants.{OfData, OfDef}
+use Rattle.chw_check.specs.Fits.{AllDeclarationsFit}
+use Rattle.chw_check.specs.Unkinded.{IsFirstUnkinded}
+use Rattle.chw_check.specs.declared.kinds.first.Unkinded.TheVariants.{OfData, OfDef}
 
 -- where there is such a value, it is one
 record There {X : Type 0} (o : Option X) (P : X → Type 0) : Type 0 where

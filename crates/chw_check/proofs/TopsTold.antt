@@ -2,7 +2,7 @@
 use Rattle.std.proofs.Common.{◌≡◌, ℕ, List, length, get_or, Some, sym, ap, ◌∙◌, subst}
 use Rattle.std.specs.List.{slice_get}
 use Rattle.std.proofs.lemmas.Option.{slice_get-get_or}
-use Rattle.case_checks.specs.Incomplete.{AllKeep}
+use Rattle.chw_check.specs.Incomplete.{AllKeep}
 use Rattle.chw_check.specs.Bodies.{AllHaveTheirTypes}
 use Rattle.chw_check.specs.Faults.{IsTypeFault, not_ports}
 use Rattle.chw_check.specs.Tops.{LeadsToNamedPorts, TopIsOfPorts}
@@ -13,7 +13,7 @@ use Rattle.chw_terms.specs.declared.program.Program.{Program}
 use Rattle.chw_types.specs.TypeText.{type_text}
 use Rattle.chw_types.specs.declared.declarations.Data.{Data}
 use Rattle.chw_typing.specs.Programs.{LeadsToPort}
-use Rattle.kind_checks.specs.Fits.{AllDeclarationsFit}
+use Rattle.chw_check.specs.Fits.{AllDeclarationsFit}
 
 module _ (p : Program) (datas : List Data) (defs : List Def) (other : Def) (inputs outputs : ℕ) (tidy : IsTidy p) (datas_are : datas ≡ p.datas) (defs_are : defs ≡ p.defs)
     (inputs_are : inputs ≡ length p.top.inputs) (outputs_are : outputs ≡ length p.top.outputs) where

@@ -14,4 +14,5 @@ pub record IsFirstUntyped (p : Program) (it : Def) : Type 0 where
   pub at : ℕ
   pub is_it : slice_get p.defs at ≡ Some it
   pub untyped : HasItsType p it → ⊥
-  pub earlier : (c : ℕ) (other : Def) → c < at → slice_get p.defs c ≡ Some other → HasItsType p other
+  pub earlier : (c : ℕ) (other : Def) → c < at
+      → slice_get p.defs c ≡ Some other → HasItsType p other

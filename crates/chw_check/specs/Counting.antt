@@ -19,4 +19,5 @@ HasMoreLeaves datas t most = (n : ℕ) → n ≤ most → HasLeaves datas t n �
 -- looking at a type finds so many leaves, whatever was found before
 abbrev pub CountsOn : List Data → TypeTree → ℕ → List TypeTree → List TypeTree → Type 0
 CountsOn datas t n todo todo' =
-    (found : List Leaf) → (found' : List Leaf) × (length found' ≡ length found + n) × Looked datas t found found' todo todo'
+    (found : List Leaf) → (found' : List Leaf) × (length found' ≡ length found + n)
+    × Looked datas t found found' todo todo'

@@ -1,5 +1,15 @@
 pub mod Bodies
+pub mod CasesFound
 pub mod Counting
+pub mod Each
 pub mod Faults
+pub mod FirstCase
+pub mod FitParts
+pub mod Fits
+pub mod Incomplete
+pub mod Laws
+pub mod LeavesOut
 pub mod Names
 pub mod Tops
+pub mod Unkinded
+pub mod WithoutAlternative

@@ -11,4 +11,5 @@ LeadsToNamedPorts p it = LeadsToPort p.datas it.ty (length p.top.inputs) (length
 
 -- so the definition that the top names
 abbrev pub TopIsOfPorts : Program → Type 0
-TopIsOfPorts p = (it : Def) × (slice_get p.defs p.top.«def».number ≡ Some it) × LeadsToNamedPorts p it
+TopIsOfPorts p =
+    (it : Def) × (slice_get p.defs p.top.«def».number ≡ Some it) × LeadsToNamedPorts p it

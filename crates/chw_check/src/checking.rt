@@ -1,26 +1,24 @@
 //! A program that is typed, or its first fault.
 ghost use Rattle.std.specs.Prelude.{◌≡◌, IfOk, OnOk};
-ghost use Rattle.case_checks.specs.Incomplete.{AllKeep};
 ghost use Rattle.chw_base.specs.Outcome.{IfFault};
 ghost use Rattle.chw_check.specs.Bodies.{AllHaveTheirTypes};
 ghost use Rattle.chw_check.specs.Faults.{IsTypeFault};
+ghost use Rattle.chw_check.specs.Fits.{AllDeclarationsFit};
+ghost use Rattle.chw_check.specs.Incomplete.{AllKeep};
 ghost use Rattle.chw_check.specs.Tops.{TopIsOfPorts};
 ghost use Rattle.chw_terms.specs.Tidy.{IsTidy};
 ghost use Rattle.chw_typing.specs.Programs.{IsTyped};
-ghost use Rattle.kind_checks.specs.Fits.{AllDeclarationsFit};
 
 use crate::bodies::first_untyped;
+use crate::cases::{Lacks, first_incomplete};
 use crate::fault::TypeFault;
+use crate::kinds::{Unkinded, first_unkinded};
 use crate::names::{con_name, data_name, def_name};
 use crate::ports::leads_to_port;
-use case_checks::laws::typed_terms_are_complete;
-use case_checks::{Lacks, first_incomplete};
 use chw_base::{Name, NoMemory, Or};
 use chw_terms::Program;
 use chw_types::type_text;
 use con_places::Constructors;
-use kind_checks::laws::what_fits_is_sound;
-use kind_checks::{Unkinded, first_unkinded};
 use std::alloc::Global;
 use std::marker::Model;
 
@@ -75,7 +73,6 @@ fn check_all(alloc: Global, program: &Program) -> Result<(), Or<TypeFault>>
     ensures ok { OnOk result (IsTyped program.now) }
     ensures fault { IfFault result (IsTypeFault program.now) }
 {
-    typed_terms_are_complete();
     check_kinds(alloc, program)?;
     let constructors = Constructors::of(alloc, program.datas.as_slice())?;
     check_types(alloc, program, &constructors)?;
@@ -113,7 +110,6 @@ fn check_types(
     ensures ok { OnOk result (AllHaveTheirTypes program.now) }
     ensures fault { IfFault result (IsTypeFault program.now) }
 {
-    what_fits_is_sound();
     match first_untyped(alloc, program, constructors)? {
         None => Ok(()),
         Some(it) => {

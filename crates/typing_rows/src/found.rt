@@ -3,14 +3,14 @@ ghost use Rattle.std.specs.Prelude.{◌≡◌, IfSome};
 ghost use Rattle.chw_terms.specs.Tidy.{IsTidy};
 ghost use Rattle.chw_typing.specs.Programs.{IsSound, setting_of};
 
+use chw_check::kinds::first_unkinded;
+use chw_check::laws::what_fits_is_sound;
 use chw_lexer::lex;
 use chw_parser::parse;
 use chw_resolve::resolve;
 use chw_terms::{Def, Program, Scene};
 use chw_types::{Ty, type_text};
 use con_places::Constructors;
-use kind_checks::first_unkinded;
-use kind_checks::laws::what_fits_is_sound;
 use std::alloc::{AllocError, Global};
 use term_types::type_of;
 

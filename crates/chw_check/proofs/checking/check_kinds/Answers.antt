@@ -4,7 +4,7 @@ use Rattle.chw_check.proofs.Told.{kind_of_data_told, kind_of_def_told}
 use Rattle.chw_check.proofs.checking.check_kinds.Goals as goal
 use Rattle.chw_terms.specs.declared.program.Def.{Def}
 use Rattle.chw_types.specs.declared.declarations.Data.{Data}
-use Rattle.kind_checks.specs.declared.first.Unkinded.TheVariants.{OfData, OfDef}
+use Rattle.chw_check.specs.declared.kinds.first.Unkinded.TheVariants.{OfData, OfDef}
 
 pub returns-in_ok-name-in-Some-OfData-clause-fault : goal.returns-in_ok-name-in-Some-OfData-clause-fault
 returns-in_ok-name-in-Some-OfData-clause-fault c =

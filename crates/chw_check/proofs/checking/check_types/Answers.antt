@@ -1,9 +1,10 @@
 use Rattle.std.proofs.Common.{◌∙◌}
+use Rattle.chw_check.proofs.FittingPrograms.{fits_sound}
 use Rattle.chw_check.proofs.Told.{typing_told}
 use Rattle.chw_check.proofs.checking.check_types.Goals as goal
 
 pub first_untyped-requires-clause-sound : goal.first_untyped-requires-clause-sound
-first_untyped-requires-clause-sound c = c.what_fits_is_sound.ensures c.args.program.now c.requires.tidy c.requires.fit
+first_untyped-requires-clause-sound c = fits_sound c.args.program.now c.requires.tidy c.requires.fit
 
 pub returns-in_ok-name-in-Some-clause-fault : goal.returns-in_ok-name-in-Some-clause-fault
 returns-in_ok-name-in-Some-clause-fault c =

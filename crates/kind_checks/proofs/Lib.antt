@@ -1,4 +1,0 @@
-pub mod EachItem
-pub mod Found
-pub mod Parts
-pub mod TypedFits

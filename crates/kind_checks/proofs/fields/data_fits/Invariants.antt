@@ -1,8 +1,0 @@
--- each of the constructors so far has fields that fit
-use Rattle.chw_typing.specs.Programs.{setting_of}
-use Rattle.kind_checks.specs.Parts.{FieldsFit}
-use Rattle.kind_checks.proofs.EachItem.{EachBefore}
-use Rattle.kind_checks.proofs.fields.data_fits.Given as goal
-
-abbrev pub invariant-loop-con : goal.invariant-loop-con
-invariant-loop-con l = EachBefore (FieldsFit (setting_of l.fn.program) l.fn.it.params) l.fn.it.cons l.con-index

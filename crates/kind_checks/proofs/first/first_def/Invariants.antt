@@ -1,8 +1,0 @@
--- each of the definitions so far fits
-use Rattle.chw_typing.specs.Programs.{setting_of}
-use Rattle.kind_checks.specs.Fits.{DefFits}
-use Rattle.kind_checks.proofs.EachItem.{EachBefore}
-use Rattle.kind_checks.proofs.first.first_def.Given as goal
-
-abbrev pub invariant-loop-place : goal.invariant-loop-place
-invariant-loop-place l = EachBefore (DefFits (setting_of l.fn.program)) l.fn.program.defs l.place
