@@ -1,4 +1,4 @@
 pub mod Deciding
-pub mod Lengths
 pub mod Lists
 pub mod Powers
+mod Rows

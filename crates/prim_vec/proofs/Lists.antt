@@ -2,7 +2,7 @@
 use Rattle.std.proofs.Common.{◌≡◌, ℕ, suc, zero, ◌+◌, ◌-◌, ◌%◌, ◌^◌, ◌<◌, get_or, Bool, List, [], ◌∷◌, ◌++◌, length, ap, sym, ◌∙◌, arith}
 use Rattle.std.specs.Prelude.{reverse}
 use Rattle.std.specs.List.{range_with_len, flat_map, fold}
-use Rattle.std.proofs.lemmas.List.{get_or-reverse, length-reverse, append-nil}
+use Rattle.std.proofs.lemmas.List.{get_or-reverse, length-reverse, append-nil, append_assoc}
 use Rattle.std.proofs.lemmas.List.FromFn.{map-range_with_len_more, length-range_with_len, get_or-range_with_len, fill_by_all}
 use Rattle.std.proofs.lemmas.List.Concat.{flat_map-append}
 use Rattle.std.proofs.lemmas.List.Sums.{fold-append}
@@ -12,6 +12,10 @@ use Rattle.chw_terms.specs.Unrolled.{each}
 -- one more value
 pub each_more : {X : Type 0} (f : ℕ → X) → (n : ℕ) → each (n + 1) f ≡ each n f ++ f n ∷ []
 each_more f n = map-range_with_len_more f 0 n n (omega arith)
+
+-- the same behind others
+pub each_after : {X : Type 0} (f : ℕ → X) (xs : List X) → (n : ℕ) → xs ++ each (n + 1) f ≡ (xs ++ each n f) ++ f n ∷ []
+each_after f xs n = ap (λ ys. xs ++ ys) (each_more f n) ∙ sym (append_assoc xs (each n f) (f n ∷ []))
 
 range_more : (a n j : ℕ) → a + n ≡ j → range_with_len a (n + 1) ≡ range_with_len a n ++ j ∷ []
 range_more a zero j e = let f : a ≡ j = omega arith in ap (λ x. x ∷ []) f
@@ -31,6 +35,10 @@ fold_each_more f a g n = ap (fold f a) (each_more g n) ∙ fold-append f a (each
 pub flat_more : {X : Type 0} (f : ℕ → List X) → (n : ℕ) → flat_map f (range_with_len 0 (n + 1)) ≡ flat_map f (range_with_len 0 n) ++ f n
 flat_more f n =
     ap (flat_map f) (range_more 0 n n (omega arith)) ∙ flat_map-append f (range_with_len 0 n) (n ∷ []) ∙ ap (λ xs. flat_map f (range_with_len 0 n) ++ xs) (append-nil (f n))
+
+-- the same behind others
+pub flat_after : {X : Type 0} (f : ℕ → List X) (xs : List X) → (n : ℕ) → xs ++ flat_map f (range_with_len 0 (n + 1)) ≡ (xs ++ flat_map f (range_with_len 0 n)) ++ f n
+flat_after f xs n = ap (λ ys. xs ++ ys) (flat_more f n) ∙ sym (append_assoc xs (flat_map f (range_with_len 0 n)) (f n))
 
 -- the numbers below n, the last one first
 pub from_the_last : (n : ℕ) → each n (λ j. n - 1 - j) ≡ reverse (range_with_len 0 n)

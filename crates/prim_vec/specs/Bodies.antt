@@ -1,25 +1,17 @@
--- What the parts of unrolling ask for and give: the body at type arguments whose closed naturals aren't evaluated yet.
-use Rattle.std.specs.Prelude.{◌≡◌, ℕ, List, [], ◌∷◌, map, Some, IsSome}
-use Rattle.std.specs.List.{AllByRecursion}
-use Rattle.chw_base.specs.declared.limits.TheConstants.{VECTOR_LENGTH}
+-- What the parts of unrolling ask for and give: the body at type arguments whose closed naturals are numerals.
+use Rattle.std.specs.Prelude.{◌≡◌, ℕ, List, [], ◌∷◌, Some, IsSome}
 use Rattle.chw_types.specs.TypeTree.{TypeTree, nat_lit}
-use Rattle.chw_prims.specs.Schemas.{row_type}
 use Rattle.chw_prims.specs.declared.row.Row.{Row}
 use Rattle.chw_terms.specs.TermTree.{TermTree}
-use Rattle.chw_terms.specs.Evaluated.{evaluated}
-use Rattle.chw_terms.specs.Unrolled.{body_of, at_types, lengths_in, IsUpTo}
+use Rattle.chw_terms.specs.Unrolled.{body_of}
 
 -- the primitives of a line have a body at these types
 abbrev pub HasBody : Row → List TypeTree → Type 0
-HasBody row types = IsSome (body_of row (map evaluated types))
+HasBody row types = IsSome (body_of row types)
 
 -- it is this one
 abbrev pub IsBody : Row → List TypeTree → TermTree → Type 0
-IsBody row types e = body_of row (map evaluated types) ≡ Some e
-
--- the vectors of the line's type are short enough
-abbrev pub AreShort : Row → List TypeTree → Type 0
-AreShort row types = AllByRecursion (λ n. IsUpTo VECTOR_LENGTH (at_types types n)) (lengths_in (row_type row))
+IsBody row types e = body_of row types ≡ Some e
 
 -- types that are a number and one, two or three types, or two numbers and a type
 abbrev pub Sized1 : List TypeTree → Type 0

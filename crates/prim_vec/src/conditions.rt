@@ -6,6 +6,7 @@ ghost use Rattle.chw_terms.specs.Evaluated.{evaluated, numeral};
 ghost use Rattle.chw_terms.specs.Unrolled.{CanUnroll, body_of, parameters, at_types, lengths_in, widths_in};
 ghost use Rattle.prim_vec.specs.Tests.{can_unroll, shape_of, has_shape, is_up_to};
 
+use crate::sizes::all_evaluated;
 use chw_base::NoMemory;
 use chw_base::limits::{SCALAR_BITS, VECTOR_LENGTH};
 use chw_prims::{Prim, Row, schema};
@@ -60,24 +61,23 @@ fn shape_of(row: Row) -> Shape
     }
 }
 
-// Whether a natural is closed.
-fn is_number(alloc: Global, t: &Ty) -> Result<bool, NoMemory>
-    ensures { IfOk result (λ b. b ≡ is_some (numeral (evaluated t.now))) }
+// Whether a type is a numeral.
+fn is_number(t: &Ty) -> bool
+    ensures { result ≡ is_some (numeral t.now) }
 {
-    Ok(numeral(&evaluate(alloc, t)?).is_some())
+    numeral(t).is_some()
 }
 
-fn has_shape(alloc: Global, shape: Shape, types: &[Ty]) -> Result<bool, NoMemory>
-    ensures { IfOk result (λ b. b ≡ has_shape shape (map evaluated types.now)) }
+// Whether these types, whose closed naturals are numerals, are so.
+fn has_shape(shape: Shape, types: &[Ty]) -> bool
+    ensures { result ≡ has_shape shape types.now }
 {
     match shape {
-        Shape::One => Ok(types.len() == 2 && is_number(alloc, &types[0])?),
-        Shape::Two => Ok(types.len() == 3 && is_number(alloc, &types[0])?),
-        Shape::Three => Ok(types.len() == 4 && is_number(alloc, &types[0])?),
-        Shape::Twice => Ok(
-            types.len() == 3 && is_number(alloc, &types[0])? && is_number(alloc, &types[1])?,
-        ),
-        Shape::Unshaped => Ok(false),
+        Shape::One => types.len() == 2 && is_number(&types[0]),
+        Shape::Two => types.len() == 3 && is_number(&types[0]),
+        Shape::Three => types.len() == 4 && is_number(&types[0]),
+        Shape::Twice => types.len() == 3 && is_number(&types[0]) && is_number(&types[1]),
+        Shape::Unshaped => false,
     }
 }
 
@@ -85,7 +85,8 @@ fn has_shape(alloc: Global, shape: Shape, types: &[Ty]) -> Result<bool, NoMemory
 fn has_body(alloc: Global, row: Row, types: &[Ty]) -> Result<bool, NoMemory>
     ensures { IfOk result (λ b. b ≡ is_some (body_of row (map evaluated types.now))) }
 {
-    has_shape(alloc, shape_of(row), types)
+    let types = all_evaluated(alloc, types)?;
+    Ok(has_shape(shape_of(row), &types))
 }
 
 // Whether a function of this type takes as many arguments.
@@ -102,11 +103,19 @@ fn takes(ty: &Ty, args: &[Term]) -> bool
     }
 }
 
+/// A part of a primitive's type, with these type arguments.
+pub(crate) fn at_types(alloc: Global, t: &Ty, types: &[Ty]) -> Result<Ty, NoMemory>
+    ensures { IfOk result (λ put. put ≡ at_types types.now t.now) }
+{
+    let put = put_arguments(alloc, t, types)?;
+    evaluate(alloc, &put)
+}
+
 // Whether a part of a primitive's type is a number that is at most this.
 fn is_up_to(alloc: Global, t: &Ty, types: &[Ty], most: u32) -> Result<bool, NoMemory>
     ensures { IfOk result (λ b. b ≡ is_up_to most (at_types types.now t.now)) }
 {
-    let t = evaluate(alloc, &put_arguments(alloc, t, types)?)?;
+    let t = at_types(alloc, t, types)?;
     match numeral(&t) {
         Some(n) => Ok(n <= most),
         None => Ok(false),
@@ -138,9 +147,9 @@ fn are_narrow(alloc: Global, ty: &Ty, types: &[Ty]) -> Result<bool, NoMemory>
         TyNode::Fun(from, to) => {
             Ok(are_narrow(alloc, from, types)? && are_narrow(alloc, to, types)?)
         }
-        TyNode::Unsigned(k) => is_up_to(alloc, k, types, SCALAR_BITS),
-        TyNode::Signed(k) => is_up_to(alloc, k, types, SCALAR_BITS),
-        TyNode::BitVector(k) => is_up_to(alloc, k, types, SCALAR_BITS),
+        TyNode::Unsigned(k) | TyNode::Signed(k) | TyNode::BitVector(k) => {
+            is_up_to(alloc, k, types, SCALAR_BITS)
+        }
         _ => Ok(true),
     }
 }

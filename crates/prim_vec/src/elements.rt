@@ -1,7 +1,8 @@
 //! Elements of vectors, each taken by its number.
-ghost use Rattle.std.specs.Prelude.{◌≡◌, ◌<◌, ◌≤◌, IfOk};
-ghost use Rattle.chw_terms.specs.TermTree.{var};
-ghost use Rattle.chw_terms.specs.Unrolled.{each, get, element};
+ghost use Rattle.std.specs.Prelude.{◌≡◌, ◌-◌, IfOk};
+ghost use Rattle.chw_types.specs.TypeTree.{nat_lit};
+ghost use Rattle.chw_terms.specs.TermTree.{var, prim, ty_app};
+ghost use Rattle.chw_terms.specs.Unrolled.{get, element};
 
 use chw_base::{NoMemory, VarIx};
 use chw_prims::Prim;
@@ -26,8 +27,33 @@ fn get(kind: Kind) -> Prim
     }
 }
 
-/// An element of a vector of this length, whose elements are of this kind and type.
+// What takes element j of a vector of this length, whose elements are of this kind and type.
+fn taking(alloc: Global, kind: Kind, len: u32, of: &Ty, j: u32) -> Result<Term, NoMemory>
+    ensures { IfOk result (λ e. e ≡ ty_app (ty_app (ty_app (prim (get kind)) (nat_lit j)) (nat_lit (len - 1 - j))) of.now) }
+{
+    let at = Term::ty_app(Term::prim_of(alloc, get(kind)), Ty::nat(j))?;
+    let after = len.saturating_sub(1).saturating_sub(j);
+    let at = Term::ty_app(at, Ty::nat(after))?;
+    Term::ty_app(at, of.copy(alloc)?)
+}
+
+/// Element j of the vector that is this variable, of this length, whose elements are of this kind and type.
 pub(crate) fn element(
+    alloc: Global,
+    kind: Kind,
+    len: u32,
+    of: &Ty,
+    vector: u32,
+    j: u32,
+) -> Result<Term, NoMemory>
+    ensures { IfOk result (λ e. e ≡ element kind len of.now (var vector) j) }
+{
+    let at = taking(alloc, kind, len, of, j)?;
+    Term::app(at, variable(alloc, vector))
+}
+
+/// Element j of a vector that is an element itself.
+pub(crate) fn inner_element(
     alloc: Global,
     kind: Kind,
     len: u32,
@@ -35,32 +61,11 @@ pub(crate) fn element(
     vector: Term,
     j: u32,
 ) -> Result<Term, NoMemory>
-    requires { j < len }
     ensures { IfOk result (λ e. e ≡ element kind len of.now vector j) }
 {
-    let at = Term::ty_app(Term::prim_of(alloc, get(kind)), Ty::nat(j))?;
-    let at = Term::ty_app(at, Ty::nat(len - 1 - j))?;
-    let at = Term::ty_app(at, of.copy(alloc)?)?;
-    Ok(Term::app(at, vector)?)
-}
-
-/// The first elements of a vector, so many; the vector is a variable.
-#[tactic(auto, using(crate::proofs::Lists::each_more))]
-pub(crate) fn first_elements(
-    alloc: Global,
-    kind: Kind,
-    len: u32,
-    of: &Ty,
-    vector: u32,
-    count: u32,
-) -> Result<Vec<Term>, NoMemory>
-    requires { count ≤ len }
-    ensures { IfOk result (λ es. es.items ≡ each count (element kind len of.now (var vector))) }
-{
-    let mut done = Vec::new(alloc);
-    for j in 0..count {
-        let e = element(alloc, kind, len, of, variable(alloc, vector), j)?;
-        done.push(e)?;
-    }
-    Ok(done)
+    let Ok(at) = taking(alloc, kind, len, of, j) else {
+        drop(vector);
+        return Err(NoMemory);
+    };
+    Term::app(at, vector)
 }

@@ -13,6 +13,13 @@ use chw_terms::Term;
 use chw_types::{Kind, Ty};
 use std::alloc::Global;
 
+// The function 2 on these two.
+fn applied(alloc: Global, first: Term, second: Term) -> Result<Term, NoMemory>
+    ensures { IfOk result (λ e. e ≡ app (app (var 2) first) second) }
+{
+    Term::app(Term::app(variable(alloc, 2), first)?, second)
+}
+
 // From the first element on.
 #[tactic(auto, using(crate::proofs::Lists::fold_more))]
 fn from_the_first(alloc: Global, kind: Kind, n: u32, a: &Ty) -> Result<Term, NoMemory>
@@ -20,9 +27,8 @@ fn from_the_first(alloc: Global, kind: Kind, n: u32, a: &Ty) -> Result<Term, NoM
 {
     let mut made = variable(alloc, 1);
     for j in 0..n {
-        let x = element(alloc, kind, n, a, variable(alloc, 0), j)?;
-        let of_made = Term::app(variable(alloc, 2), made)?;
-        made = Term::app(of_made, x)?;
+        let x = element(alloc, kind, n, a, 0, j)?;
+        made = applied(alloc, made, x)?;
     }
     Ok(made)
 }
@@ -31,8 +37,8 @@ pub(crate) fn folded_left(alloc: Global, kind: Kind, types: &[Ty]) -> Result<Ter
     requires { HasBody (FoldedLeft kind) types.now }
     ensures { IfOk result (λ e. IsBody (FoldedLeft kind) types.now e) }
 {
-    let (n, a, _b) = sized_2(alloc, types)?;
-    Ok(from_the_first(alloc, kind, n, &a)?)
+    let (n, a, _b) = sized_2(types);
+    from_the_first(alloc, kind, n, a)
 }
 
 // From the last element on.
@@ -42,9 +48,8 @@ fn from_the_last(alloc: Global, kind: Kind, n: u32, a: &Ty) -> Result<Term, NoMe
 {
     let mut made = variable(alloc, 1);
     for j in 0..n {
-        let x = element(alloc, kind, n, a, variable(alloc, 0), n - 1 - j)?;
-        let of_x = Term::app(variable(alloc, 2), x)?;
-        made = Term::app(of_x, made)?;
+        let x = element(alloc, kind, n, a, 0, n - 1 - j)?;
+        made = applied(alloc, x, made)?;
     }
     Ok(made)
 }
@@ -53,6 +58,6 @@ pub(crate) fn folded_right(alloc: Global, kind: Kind, types: &[Ty]) -> Result<Te
     requires { HasBody (FoldedRight kind) types.now }
     ensures { IfOk result (λ e. IsBody (FoldedRight kind) types.now e) }
 {
-    let (n, a, _b) = sized_2(alloc, types)?;
-    Ok(from_the_last(alloc, kind, n, &a)?)
+    let (n, a, _b) = sized_2(types);
+    from_the_last(alloc, kind, n, a)
 }

@@ -9,6 +9,7 @@ pub mod conditions;
 mod elements;
 mod folds;
 mod indices;
+mod made;
 mod maps;
 mod moves;
 mod sizes;

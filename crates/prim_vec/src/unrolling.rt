@@ -1,18 +1,21 @@
 //! Unrolling.
 ghost use Rattle.std.specs.Prelude.{◌≡◌, ◌++◌, length, map, Some, IfOk, OnOk};
 ghost use Rattle.std.specs.List.{zip};
-ghost use Rattle.chw_prims.specs.Schemas.{schema_type};
+ghost use Rattle.chw_prims.specs.Schemas.{row_of, schema_type};
 ghost use Rattle.chw_terms.specs.TermView.{group_of};
 ghost use Rattle.chw_terms.specs.TermMoves.{shift};
+ghost use Rattle.chw_terms.specs.Evaluated.{evaluated};
 ghost use Rattle.chw_terms.specs.Unrolled.{CanUnroll, unrolled, named, binding, parameters, at_types};
-ghost use Rattle.prim_vec.specs.Bodies.{HasBody, IsBody, AreShort};
+ghost use Rattle.prim_vec.specs.Bodies.{HasBody, IsBody};
 
+use crate::conditions::at_types;
+use crate::sizes::all_evaluated;
 use crate::{choices, folds, maps, moves};
 use chw_base::{NoMemory, VarIx};
 use chw_prims::{Prim, Row, schema};
 use chw_terms::term::Binding;
-use chw_terms::{Term, evaluate, shift};
-use chw_types::{Ty, TyNode, put_arguments};
+use chw_terms::{Term, shift};
+use chw_types::{Ty, TyNode};
 use std::alloc::Global;
 
 /// The term to which a primitive at these types and on these arguments unrolls.
@@ -23,9 +26,18 @@ pub fn unroll(alloc: Global, p: Prim, types: &[Ty], args: &[Term]) -> Result<Ter
     requires { CanUnroll p types.now args.now }
     ensures { IfOk result (λ e. unrolled p types.now args.now ≡ Some e) }
 {
+    let body = body_at(alloc, p, types)?;
     let group = named(alloc, p, types, args)?;
-    let body = body(alloc, Row::of(p), types)?;
-    Ok(Term::letrec(alloc, group, body)?)
+    Term::letrec(alloc, group, body)
+}
+
+// The body at these types.
+fn body_at(alloc: Global, p: Prim, types: &[Ty]) -> Result<Term, NoMemory>
+    requires { HasBody (row_of p) (map evaluated types.now) }
+    ensures { IfOk result (λ e. IsBody (row_of p) (map evaluated types.now) e) }
+{
+    let types = all_evaluated(alloc, types)?;
+    body(alloc, Row::of(p), &types)
 }
 
 // The arguments with their types.
@@ -51,24 +63,36 @@ fn bind(
     ensures { OnOk result (group.new.items ≡ group.old.items ++ map binding (zip (map (at_types types.now) (parameters ty.now)) (map (λ e. shift e 0 names) args.now))) }
 {
     match &ty.node {
-        TyNode::Forall(_, of) => Ok(bind(alloc, of, types, args, names, group)?),
+        TyNode::Forall(_, of) => bind(alloc, of, types, args, names, group),
         TyNode::Fun(from, to) => {
             let Some((arg, more)) = args.split_first() else {
                 return Ok(());
             };
-            let ty = evaluate(alloc, &put_arguments(alloc, from, types)?)?;
-            let body = shift(alloc, arg, VarIx { number: 0 }, names)?;
-            group.push(Binding { ty, body })?;
-            Ok(bind(alloc, to, types, more, names, group)?)
+            group.push(bound(alloc, from, types, arg, names)?)?;
+            bind(alloc, to, types, more, names, group)
         }
         _ => Ok(()),
     }
 }
 
-// The body, with the arguments as variables.
+// An argument bound to a new name, under so many of them, with the type of its parameter.
+fn bound(
+    alloc: Global,
+    from: &Ty,
+    types: &[Ty],
+    arg: &Term,
+    names: u32,
+) -> Result<Binding, NoMemory>
+    ensures { IfOk result (λ b. b ≡ binding (at_types types.now from.now, shift arg.now 0 names)) }
+{
+    let ty = at_types(alloc, from, types)?;
+    let body = shift(alloc, arg, VarIx { number: 0 }, names)?;
+    Ok(Binding { ty, body })
+}
+
+// The body, with the arguments as variables. Closed naturals among the types are numerals.
 fn body(alloc: Global, row: Row, types: &[Ty]) -> Result<Term, NoMemory>
-    requires has { HasBody row types.now }
-    requires short { AreShort row types.now }
+    requires { HasBody row types.now }
     ensures { IfOk result (λ e. IsBody row types.now e) }
 {
     match row {

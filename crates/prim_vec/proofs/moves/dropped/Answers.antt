@@ -1,6 +1,8 @@
-use Rattle.std.proofs.Common.{arith}
-use Rattle.prim_vec.proofs.Lengths.{both_short}
+use Rattle.std.proofs.lemmas.Result.{IfOk-weaker}
+use Rattle.prim_vec.proofs.Rows.{dropped_is}
 use Rattle.prim_vec.proofs.moves.dropped.Goals as goal
 
-pub last_elements-requires : goal.last_elements-requires
-last_elements-requires c = let small = both_short _ _ _ _ c.in_ok-n.ensures c.requires.short.0 in omega (arith, small)
+pub returns : goal.returns
+returns c =
+    let r = c.twice_sized-n.result in
+    IfOk-weaker c.vector_of.result _ _ (λ e is. dropped_is c.args.kind r.0 r.1 c.in-Some.len r.2.now c.args.types.now e c.twice_sized-n.ensures c.in-Some.ensures.1 is) c.vector_of.ensures

@@ -1,7 +1,0 @@
-use Rattle.std.proofs.Common.{◌≡◌, ◌-◌}
-use Rattle.chw_terms.specs.TermTree.{var}
-use Rattle.chw_terms.specs.Unrolled.{each, element}
-use Rattle.prim_vec.proofs.moves.in_reverse.Given as goal
-
-abbrev pub invariant-loop-j : goal.invariant-loop-j
-invariant-loop-j l = l.done.items ≡ each l.j (λ j. element l.kind l.n l.a (var 0) (l.n - 1 - j))
