@@ -1,4 +1,5 @@
--- What the parts of unrolling ask for and give: the body at type arguments whose closed naturals are numerals.
+-- What the parts of unrolling ask for and give: the body at type arguments whose closed naturals are
+-- numerals.
 use Rattle.std.specs.Prelude.{◌≡◌, ℕ, List, [], ◌∷◌, Some, IsSome}
 use Rattle.chw_types.specs.TypeTree.{TypeTree, nat_lit}
 use Rattle.chw_prims.specs.declared.row.Row.{Row}

@@ -20,7 +20,8 @@ abbrev pub made_at : Made → ℕ → TermTree
 made_at Same j = var 0
 made_at (Placed k) j = app (var 0) (index k j)
 made_at (Mapped kind n a) j = app (var 1) (element kind n a.now (var 0) j)
-made_at (Zipped kind n a b) j = app (app (var 2) (element kind n a.now (var 1) j)) (element kind n b.now (var 0) j)
+made_at (Zipped kind n a b) j =
+    app (app (var 2) (element kind n a.now (var 1) j)) (element kind n b.now (var 0) j)
 made_at (Element kind len a v order) j = element kind len a.now (var v) (place_in order len j)
 made_at (Inner kind n inner q m a) j = element kind m a.now (element kind n inner.now (var 0) q) j
 made_at (Replaced n k a) j =
