@@ -5,7 +5,6 @@
 #![tactic(auto)]
 
 use chw_base::{Name, NoMemory, Or};
-use chw_grammar::Tree;
 use chw_lexer::lex;
 use chw_parser::parse;
 use chw_resolve::{NameFault, resolve};
@@ -35,28 +34,40 @@ fn put_resolved(
     with_kinds: bool,
     out: &mut Vec<u8>,
 ) -> Result<(), Or<Unread>> {
-    let tree = tree(alloc, text)?;
-    match resolve(alloc, &tree) {
-        Ok(program) if with_kinds => Ok(put_kinds(out, &program)?),
+    let text = bytes_of(alloc, text)?;
+    let resolved = program(alloc, &text);
+    let outcome = put_outcome(&resolved, with_kinds, out);
+    drop(resolved);
+    outcome
+}
+
+fn put_outcome(
+    resolved: &Result<Program, Or<NameFault>>,
+    with_kinds: bool,
+    out: &mut Vec<u8>,
+) -> Result<(), Or<Unread>> {
+    match resolved {
+        Ok(program) if with_kinds => Ok(put_kinds(out, program)?),
         Ok(_) => Ok(put(out, "none")?),
-        Err(Or::Fault(fault)) => Ok(put_fault(out, &fault)?),
+        Err(Or::Fault(fault)) => Ok(put_fault(out, fault)?),
         Err(Or::Memory) => Err(Or::Memory),
     }
 }
 
-// The tree of a text that is a description.
-fn tree(alloc: Global, text: &str) -> Result<Tree, Or<Unread>> {
-    let text = bytes_of(alloc, text)?;
+// The program of a text, or its first fault. A text that has no tree is answered as if memory were wanting.
+fn program(alloc: Global, text: &[u8]) -> Result<Program, Or<NameFault>> {
     if text.len() > 2_000_000 {
-        return Err(Or::Fault(Unread));
+        return Err(Or::Memory);
     }
-    let Ok(tokens) = lex(alloc, &text) else {
-        return Err(Or::Fault(Unread));
+    let Ok(tokens) = lex(alloc, text) else {
+        return Err(Or::Memory);
     };
-    match parse(alloc, &text, tokens.as_slice()) {
-        Ok(tree) => Ok(tree),
-        Err(_) => Err(Or::Fault(Unread)),
-    }
+    let Ok(tree) = parse(alloc, text, tokens.as_slice()) else {
+        return Err(Or::Memory);
+    };
+    let resolved = resolve(alloc, &tree);
+    drop(tree);
+    resolved
 }
 
 fn put_fault(out: &mut Vec<u8>, fault: &NameFault) -> Result<(), NoMemory> {
