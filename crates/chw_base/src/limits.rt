@@ -16,6 +16,10 @@ pub const WRITTEN_VECTOR: u32 = 1_024;
 pub const LITERAL_VALUE_BITS: u32 = 128;
 /// A numeral of a type, and the width of a literal, is below two to this number.
 pub const TYPE_NUMERAL_BITS: u32 = 32;
+/// The deepest type that putting types into another may give. A type without parts has depth 1.
+pub const TYPE_DEPTH: u32 = 4_000;
+/// The most parts of a type that putting types into another may give, the type itself counted.
+pub const TYPE_PARTS: u32 = 1_000_000;
 /// The widest scalar, in bits.
 pub const SCALAR_BITS: u32 = 128;
 /// The longest vector, in elements.
