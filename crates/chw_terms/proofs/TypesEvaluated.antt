@@ -60,7 +60,7 @@ mutual
   evaluated_renamed_all (type_and t ts) ρ = λ i. type_and (evaluated_renamed t ρ i) (evaluated_renamed_all ts ρ i)
 
 -- only numerals have a number
-numeral_is : (t : TypeTree) (n : ℕ) → numeral t ≡ Some n → t ≡ nat_lit n
+pub numeral_is : (t : TypeTree) (n : ℕ) → numeral t ≡ Some n → t ≡ nat_lit n
 numeral_is (ty_var x) n h = cc
 numeral_is (nat_lit m) n h = let e : m ≡ n = cc in ap nat_lit e
 numeral_is (nat_sum a b) n h = cc

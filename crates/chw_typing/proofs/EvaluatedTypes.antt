@@ -9,21 +9,8 @@ use Rattle.chw_types.specs.Kinds.{degree, KindOf, kind_var, kind_nat, kind_sum, 
 use Rattle.chw_types.specs.Polynomials.{ended, is_natural, multiplied, SameNaturals}
 use Rattle.chw_types.specs.SameTypes.{SameTypes, same_naturals, same_sum, same_product, same_domain, same_scalar, same_vector, same_data, same_fun, same_signal, same_for_all, SameAll, same_none, same_and}
 use Rattle.chw_types.proofs.SameLaws.{same_self, same_through}
+use Rattle.chw_terms.proofs.TypesEvaluated.{numeral_is}
 use Rattle.chw_terms.specs.Evaluated.{numeral, numeral_or, evaluated, evaluated_all}
-
--- a natural that is a numeral, or one that isn't
-numeral_is : (t : TypeTree) (n : ℕ) → numeral t ≡ Some n → t ≡ nat_lit n
-numeral_is (nat_lit m) n e = let is : m ≡ n = cc in ap nat_lit is
-numeral_is (ty_var x) n e = absurd (cc)
-numeral_is (nat_sum a b) n e = absurd (cc)
-numeral_is (nat_product a b) n e = absurd (cc)
-numeral_is (domain d) n e = absurd (cc)
-numeral_is (scalar s w) n e = absurd (cc)
-numeral_is (vector m t) n e = absurd (cc)
-numeral_is (data_of d ts) n e = absurd (cc)
-numeral_is (fun a b) n e = absurd (cc)
-numeral_is (signal d t) n e = absurd (cc)
-numeral_is (for_all k t) n e = absurd (cc)
 
 sum_of_numerals : (m n : ℕ) → SameTypes (nat_sum (nat_lit m) (nat_lit n)) (nat_lit (ended (m + n)))
 unfolding is_natural multiplied

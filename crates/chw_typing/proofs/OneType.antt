@@ -26,7 +26,7 @@ unfolding is_natural
 results_same (same_naturals n m p) = absurd (cc)
 results_same (same_fun h g) = g
 
-binders_same : {j k : Kind} {t u : TypeTree} → SameTypes (for_all j t) (for_all k u) → (k ≡ j) × SameTypes t u
+pub binders_same : {j k : Kind} {t u : TypeTree} → SameTypes (for_all j t) (for_all k u) → (k ≡ j) × SameTypes t u
 unfolding is_natural
 binders_same (same_naturals n m p) = absurd (cc)
 binders_same (same_for_all h) = (refl, h)

@@ -12,32 +12,10 @@ use Rattle.chw_types.specs.TypeMoves.{Substitution, up, sub, sub_all}
 use Rattle.chw_types.specs.Kinds.{KindOf, kind_var, kind_nat, kind_sum, kind_product, kind_domain, kind_scalar, kind_vector, kind_data, kind_fun, kind_signal, kind_for_all, KindsOf, no_kinds, kind_and}
 use Rattle.chw_types.specs.Polynomials.{is_natural, SameNaturals}
 use Rattle.chw_types.specs.SameTypes.{SameTypes, same_naturals, same_sum, same_product, same_scalar, same_vector, same_data, same_fun, same_signal, same_for_all}
-use Rattle.chw_types.proofs.KindsKept.{kind_renamed}
 use Rattle.type_laws.specs.Standing.{StandsIn, InSums, AnyInSums}
-use Rattle.type_laws.proofs.KindsExact.{PutsKinds}
-use Rattle.type_laws.proofs.OneKind.{sums_kind, same_kind}
+use Rattle.type_laws.proofs.KindsExact.{PutsKinds, kinds_under}
+use Rattle.type_laws.proofs.OneKind.{stands_kind, sums_kind, one_slot, same_kind}
 use Rattle.type_laws.proofs.Parts.{variable_stands}
-
-kinds_under : (datas : List Data) (domains : ℕ) (σ : Substitution) (scope scope' : List Kind) (j : Kind) → PutsKinds datas domains σ scope scope' → PutsKinds datas domains (up σ) (j ∷ scope) (j ∷ scope')
-unfolding up
-kinds_under datas domains σ scope scope' j h zero k e = kind_var e
-kinds_under datas domains σ scope scope' j h (suc x) k e = kind_renamed (h x k e) suc (j ∷ scope') (λ y i f. f)
-
--- a variable that stands in a natural has the natural's kind
-stands_kind : {datas : List Data} {domains : ℕ} {scope : List Kind} {t : TypeTree} {k : Kind} → KindOf datas domains scope t k → (x : ℕ) → StandsIn t x → slice_get scope x ≡ Some k
-stands_kind (kind_var {scope = scope} {k = k} e) x s = subst (λ y. slice_get scope y ≡ Some k) s e
-stands_kind (kind_sum d e small) x (inl s) = stands_kind d x s
-stands_kind (kind_sum d e small) x (inr s) = stands_kind e x s
-stands_kind (kind_product d e small) x (inl s) = stands_kind d x s
-stands_kind (kind_product d e small) x (inr s) = stands_kind e x s
-stands_kind kind_nat x s = absurd s
-stands_kind (kind_domain l) x s = absurd s
-stands_kind (kind_scalar d) x s = absurd s
-stands_kind (kind_vector d e o) x s = absurd s
-stands_kind (kind_data e ds) x s = absurd s
-stands_kind (kind_fun d e o) x s = absurd s
-stands_kind (kind_signal d e) x s = absurd s
-stands_kind (kind_for_all d o) x s = absurd s
 
 stands_put : {datas : List Data} {domains : ℕ} {scope : List Kind} {t : TypeTree} {k : Kind} → KindOf datas domains scope t k → (σ : Substitution) (scope' : List Kind) → PutsKinds datas domains σ scope scope' → (y : ℕ) → StandsIn (sub t σ) y → slice_get scope' y ≡ Some k
 unfolding sub
@@ -88,9 +66,6 @@ mutual
   any_sums_put no_kinds σ scope' h y s = absurd s
   any_sums_put (kind_and d ds) σ scope' h y (inl s) = sums_put d σ scope' h y s
   any_sums_put (kind_and d ds) σ scope' h y (inr s) = any_sums_put ds σ scope' h y s
-
-one_slot : (scope : List Kind) (x : ℕ) (j k : Kind) → slice_get scope x ≡ Some j → slice_get scope x ≡ Some k → j ≡ k
-one_slot scope x j k e f = cc
 
 -- a natural whose polynomial is one in variables of the kind of naturals has that kind
 nat_kind : {datas : List Data} {domains : ℕ} {scope : List Kind} {u : TypeTree} {i : Kind} → KindOf datas domains scope u i → is_natural u ≡ true → (w : TypeTree) → SameNaturals w u → ((y : ℕ) → StandsIn w y → slice_get scope y ≡ Some Nat) → i ≡ Nat

@@ -1,11 +1,12 @@
 -- What terms are typed over, and the types of the variables in scope.
-use Rattle.std.specs.Prelude.{ℕ, List, [], ◌∷◌, ◌++◌, map, reverse}
+use Rattle.std.specs.Prelude.{ℕ, List, [], ◌∷◌, ◌++◌, map, length, reverse}
 use Rattle.chw_types.specs.declared.kind.Kind.{Kind}
 use Rattle.chw_types.specs.declared.declarations.Data.{Data}
 use Rattle.chw_types.specs.TypeTree.{TypeTree}
 use Rattle.chw_types.specs.TypeMoves.{shift}
 use Rattle.chw_types.specs.Kinds.{KindOf, IsOfTerms}
 use Rattle.chw_types.specs.SameTypes.{SameTypes}
+use Rattle.chw_terms.specs.declared.scene.Scene.{Scene}
 use Rattle.chw_terms.specs.TermTree.{Group, no_bindings, bind}
 
 -- the data types, the number of domains, the declared types of the definitions, and the types of the made definitions
@@ -14,6 +15,16 @@ pub record Setting : Type 0 where
   pub domains : ℕ
   pub defs : List TypeTree
   pub made : List TypeTree
+
+-- the program's data types, domains and definitions, and the types of the made definitions; where there are none, it is the program's setting
+abbrev pub setting_in : Scene → Setting
+setting_in scene =
+    record {
+      datas = scene.program.now.datas;
+      domains = length scene.program.now.domains;
+      defs = map (λ d. d.ty) scene.program.now.defs;
+      made = map (λ m. m.ty) scene.made.now;
+    }
 
 -- the type has the kind, with type variables of these kinds in scope, the innermost first
 abbrev pub HasKind : Setting → List Kind → TypeTree → Kind → Type 0

@@ -7,5 +7,4 @@ pub mod Groups
 pub mod InScope
 pub mod Keying
 pub mod Kinding
-pub mod Settings
 pub mod VarsView

@@ -2,8 +2,7 @@
 ghost use Rattle.std.specs.Prelude.{◌≡◌, reverse, IfOk, MatchOption};
 ghost use Rattle.chw_types.specs.SameTypes.{SameTypes};
 ghost use Rattle.chw_types.specs.Kinds.{IsOfTerms};
-ghost use Rattle.chw_typing.specs.Scopes.{HasKind, IsTermType};
-ghost use Rattle.term_types.specs.Settings.{setting_in};
+ghost use Rattle.chw_typing.specs.Scopes.{HasKind, IsTermType, setting_in};
 ghost use Rattle.term_types.specs.Kinding.{has_functions, LacksKind, LacksKindUpTo, IsWithKind};
 
 use chw_base::NoMemory;

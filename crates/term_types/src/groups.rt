@@ -1,6 +1,6 @@
 //! The declared types of the bindings of a letrec.
 ghost use Rattle.std.specs.Prelude.{◌≡◌, reverse, MatchOption};
-ghost use Rattle.term_types.specs.Settings.{setting_in};
+ghost use Rattle.chw_typing.specs.Scopes.{setting_in};
 ghost use Rattle.term_types.specs.Groups.{NotAllOfTerms, IsGroupKind, together};
 
 use crate::found::kind_of_terms;

@@ -2,7 +2,7 @@
 ghost use Rattle.std.specs.Prelude.{◌≡◌, ◌<◌, ◌≤◌, length, reverse, IfOk, MatchOption};
 ghost use Rattle.chw_typing.specs.HeadTypes.{widest, literal_type};
 ghost use Rattle.chw_terms.specs.TermTree.{var, global, made, con, prim, lit};
-ghost use Rattle.term_types.specs.Settings.{setting_in};
+ghost use Rattle.chw_typing.specs.Scopes.{setting_in};
 ghost use Rattle.term_types.specs.Answers.{IsAnswer, IsReady};
 
 use crate::constructors::con_type;

@@ -2,10 +2,9 @@
 ghost use Rattle.std.specs.Prelude.{◌≡◌, reverse, IfOk, IsTrue, ◌↔◌, MatchOption};
 ghost use Rattle.chw_types.specs.TypeTree.{data_of};
 ghost use Rattle.chw_types.specs.TypeView.{trees_of};
-ghost use Rattle.chw_typing.specs.Scopes.{HasKind};
+ghost use Rattle.chw_typing.specs.Scopes.{HasKind, setting_in};
 ghost use Rattle.chw_typing.specs.Programs.{IsSound};
 ghost use Rattle.chw_typing.specs.Typing.{Binds};
-ghost use Rattle.term_types.specs.Settings.{setting_in};
 ghost use Rattle.term_types.specs.Binding.{BindsNothing, IsLiteralOf, AreSettled, NoneSettled, is_looked_at};
 ghost use Rattle.chw_terms.specs.declared.term.Pattern.TheVariants.{OfCon};
 

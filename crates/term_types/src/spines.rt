@@ -1,7 +1,7 @@
 //! Applications: the type of a function at an argument.
 ghost use Rattle.std.specs.Prelude.{◌≡◌, reverse, IfOk, MatchOption};
 ghost use Rattle.chw_types.specs.SameFound.{same_kind};
-ghost use Rattle.term_types.specs.Settings.{setting_in};
+ghost use Rattle.chw_typing.specs.Scopes.{setting_in};
 ghost use Rattle.term_types.specs.Forms.{function_parts, bound_parts, Takes, TakesNot, TakesType, TakesTypeNot};
 
 use crate::found::{Found, kind_in, settled};

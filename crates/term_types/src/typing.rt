@@ -1,7 +1,7 @@
 //! The type of a term.
 ghost use Rattle.std.specs.Prelude.{◌≡◌, reverse, IfOk, IfSome, IfNone};
 ghost use Rattle.chw_typing.specs.Typing.{HasType};
-ghost use Rattle.term_types.specs.Settings.{setting_in};
+ghost use Rattle.chw_typing.specs.Scopes.{setting_in};
 ghost use Rattle.term_types.specs.Answers.{HasNoType, IsReady};
 
 use crate::vars::Vars;

@@ -4,9 +4,8 @@ ghost use Rattle.chw_terms.specs.TermTree.{TermTree, lam, ty_lam, letrec, vec_li
 ghost use Rattle.chw_terms.specs.TermView.{tree_of, applied_to, applied, terms_of, group_of, alts_of};
 ghost use Rattle.chw_typing.specs.Alternatives.{NoneHidden};
 ghost use Rattle.chw_typing.specs.HeadTypes.{IsLookedAt};
-ghost use Rattle.chw_typing.specs.Scopes.{HasKind};
+ghost use Rattle.chw_typing.specs.Scopes.{HasKind, setting_in};
 ghost use Rattle.chw_typing.specs.Typing.{HasTypeUpTo};
-ghost use Rattle.term_types.specs.Settings.{setting_in};
 ghost use Rattle.term_types.specs.Answers.{IsAnswer, IsReady, IsTyped};
 ghost use Rattle.term_types.specs.Cases.{Gives, GivesNothing};
 ghost use Rattle.term_types.specs.Groups.{HaveTheirTypes};

@@ -32,7 +32,8 @@ mutual
 abbrev pub PutsKinds : List Data → ℕ → Substitution → List Kind → List Kind → Type 0
 PutsKinds datas domains σ scope scope' = (x : ℕ) (k : Kind) → slice_get scope x ≡ Some k → KindOf datas domains scope' (σ x) k
 
-kinds_under : (datas : List Data) (domains : ℕ) (σ : Substitution) (scope scope' : List Kind) (j : Kind) → PutsKinds datas domains σ scope scope' → PutsKinds datas domains (up σ) (j ∷ scope) (j ∷ scope')
+-- so under a binder
+pub kinds_under : (datas : List Data) (domains : ℕ) (σ : Substitution) (scope scope' : List Kind) (j : Kind) → PutsKinds datas domains σ scope scope' → PutsKinds datas domains (up σ) (j ∷ scope) (j ∷ scope')
 unfolding up
 kinds_under datas domains σ scope scope' j h zero k e = kind_var e
 kinds_under datas domains σ scope scope' j h (suc x) k e = kind_renamed (h x k e) suc (j ∷ scope') (λ y i f. f)

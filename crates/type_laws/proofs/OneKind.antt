@@ -14,7 +14,7 @@ use Rattle.type_laws.specs.Standing.{StandsIn, InSums, AnyInSums}
 use Rattle.type_laws.proofs.Parts.{variable_stands}
 
 -- a variable that stands in a natural has the natural's kind
-stands_kind : {datas : List Data} {domains : ℕ} {scope : List Kind} {t : TypeTree} {k : Kind} → KindOf datas domains scope t k → (x : ℕ) → StandsIn t x → slice_get scope x ≡ Some k
+pub stands_kind : {datas : List Data} {domains : ℕ} {scope : List Kind} {t : TypeTree} {k : Kind} → KindOf datas domains scope t k → (x : ℕ) → StandsIn t x → slice_get scope x ≡ Some k
 stands_kind {datas} {domains} (kind_var {scope = scope} {k = k} e) x s = subst (λ y. slice_get scope y ≡ Some k) s e
 stands_kind (kind_sum d e small) x (inl s) = stands_kind d x s
 stands_kind (kind_sum d e small) x (inr s) = stands_kind e x s
@@ -73,7 +73,7 @@ natural_kind (kind_fun d e o) n = absurd (cc)
 natural_kind (kind_signal d e) n = absurd (cc)
 natural_kind (kind_for_all d o) n = absurd (cc)
 
-one_slot : (scope : List Kind) (x : ℕ) (j k : Kind) → slice_get scope x ≡ Some j → slice_get scope x ≡ Some k → j ≡ k
+pub one_slot : (scope : List Kind) (x : ℕ) (j k : Kind) → slice_get scope x ≡ Some j → slice_get scope x ≡ Some k → j ≡ k
 one_slot scope x j k e f = cc
 
 variable_kind : {datas : List Data} {domains : ℕ} {scope : List Kind} {t u : TypeTree} {j k : Kind} (x : ℕ) → t ≡ ty_var x → slice_get scope x ≡ Some j → KindOf datas domains scope u k → SameNaturals t u → j ≡ k

@@ -17,7 +17,7 @@ use Rattle.chw_types.proofs.SameLaws.{same_self, same_through}
 use Rattle.chw_types.proofs.TypeLaws.{same, rename_sub, sub_sub, sub_ids}
 use Rattle.chw_terms.specs.TermTree.{TermTree}
 use Rattle.type_laws.specs.Standing.{InSums}
-use Rattle.type_laws.proofs.KindsExact.{PutsKinds}
+use Rattle.type_laws.proofs.KindsExact.{PutsKinds, kinds_under}
 use Rattle.type_laws.proofs.OneKind.{nat_natural, sums_kind}
 use Rattle.type_laws.proofs.Shifted.{put_same}
 use Rattle.chw_typing.specs.Scopes.{Setting, HasKind}
@@ -26,6 +26,7 @@ use Rattle.chw_typing.specs.Programs.{IsSound}
 use Rattle.chw_typing.specs.Typing.{HasTypeUpTo}
 use Rattle.chw_typing.proofs.Kinded.{bound_part}
 use Rattle.chw_typing.proofs.Lists.{turned_onto}
+use Rattle.chw_typing.proofs.OneType.{binders_same}
 use Rattle.chw_typing.proofs.Patterns.{are_of_terms}
 use Rattle.chw_typing.proofs.PutKinds.{sums_put}
 use Rattle.unroll_laws.proofs.Applied.{TakesTypes, takes_no_type, takes_type, TakesTerms, takes_no_term, takes_term}
@@ -39,19 +40,9 @@ put_given t a taken = sub_sub t (up (given taken)) (one a) ∙ ap (sub t) (same 
     here zero = refl
     here (suc x) = rename_sub (given taken x) suc (one a) ∙ sub_ids (given taken x)
 
-kinds_under : (datas : List Data) (domains : ℕ) (σ : Substitution) (scope scope' : List Kind) (j : Kind) → PutsKinds datas domains σ scope scope' → PutsKinds datas domains (up σ) (j ∷ scope) (j ∷ scope')
-unfolding up
-kinds_under datas domains σ scope scope' j h zero k e = kind_var e
-kinds_under datas domains σ scope scope' j h (suc x) k e = kind_renamed (h x k e) suc (j ∷ scope') (λ y i f. f)
-
 kinds_and : (datas : List Data) (domains : ℕ) (taken : List TypeTree) (a : TypeTree) (scope scope' : List Kind) (j : Kind) → KindOf datas domains scope' a j → PutsKinds datas domains (given taken) scope scope' → PutsKinds datas domains (given (a ∷ taken)) (j ∷ scope) scope'
 kinds_and datas domains taken a scope scope' j d h zero k e = let is : j ≡ k = cc in subst (KindOf datas domains scope' a) is d
 kinds_and datas domains taken a scope scope' j d h (suc x) k e = h x k e
-
-binders_same : {j k : Kind} {t u : TypeTree} → SameTypes (for_all j t) (for_all k u) → (k ≡ j) × SameTypes t u
-unfolding is_natural
-binders_same (same_naturals n m p) = absurd (cc)
-binders_same (same_for_all h) = (refl, h)
 
 functions_same : {a b c d : TypeTree} → SameTypes (fun a b) (fun c d) → SameTypes a c × SameTypes b d
 unfolding is_natural

@@ -13,6 +13,7 @@ use std::alloc::Global;
 ///
 /// It is the same type up to naturals, and it has a kind wherever any type has one that is the same, over data types of kinds of terms.
 pub fn without_zeros(alloc: Global, t: &Ty) -> Result<Ty, NoMemory>
+    ensures is { IfOk result (λ r. r ≡ without_zeros_of t.now) }
     ensures same { IfOk result (λ r. SameTypes t.now r) }
     ensures kind { IfOk result (λ r. HasEachKind t.now r) }
 {

@@ -1,7 +1,7 @@
 use Rattle.std.proofs.Common.{sym, ◌∙◌}
 use Rattle.std.proofs.lemmas.Bool.{false≢true}
 use Rattle.std.specs.Prelude.{reverse}
-use Rattle.term_types.specs.Settings.{setting_in}
+use Rattle.chw_typing.specs.Scopes.{setting_in}
 use Rattle.term_types.proofs.Settled.{of_others, of_none}
 use Rattle.term_types.proofs.found.kind_of_terms.Goals as goal
 

@@ -1,6 +1,6 @@
 use Rattle.std.specs.Prelude.{reverse}
 use Rattle.chw_types.proofs.SameLaws.{same_self}
-use Rattle.term_types.specs.Settings.{setting_in}
+use Rattle.chw_typing.specs.Scopes.{setting_in}
 use Rattle.term_types.proofs.Settled.{settled_told}
 use Rattle.term_types.proofs.found.settled.Goals as goal
 

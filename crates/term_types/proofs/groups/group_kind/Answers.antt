@@ -2,7 +2,7 @@ use Rattle.std.proofs.Common.{arith, sym, subst, take, ◌+◌}
 use Rattle.std.specs.Prelude.{reverse}
 use Rattle.chw_types.specs.Kinds.{IsOfTerms}
 use Rattle.term_types.specs.Groups.{IsGroupKind}
-use Rattle.term_types.specs.Settings.{setting_in}
+use Rattle.chw_typing.specs.Scopes.{setting_in}
 use Rattle.term_types.proofs.Lets.{no_group, group_next, group_all, no_group_at}
 use Rattle.term_types.proofs.groups.group_kind.Goals as goal
 

@@ -2,7 +2,7 @@ use Rattle.std.proofs.Common.{◌≡◌, Some, None, subst}
 use Rattle.std.specs.Prelude.{reverse}
 use Rattle.chw_terms.specs.Constructors.{con_at}
 use Rattle.con_places.specs.Constructing.{constructor_of}
-use Rattle.term_types.specs.Settings.{setting_in}
+use Rattle.chw_typing.specs.Scopes.{setting_in}
 use Rattle.term_types.proofs.Plain.{con_told, con_missing}
 use Rattle.term_types.proofs.heads.of_constructor.Goals as goal
 

@@ -1,9 +1,8 @@
 use Rattle.std.proofs.Common.{arith}
 use Rattle.std.specs.Prelude.{reverse}
 use Rattle.chw_types.specs.SameTypes.{SameTypes}
-use Rattle.chw_typing.specs.Scopes.{HasKind}
+use Rattle.chw_typing.specs.Scopes.{HasKind, setting_in}
 use Rattle.term_types.specs.Kinding.{LacksKindUpTo}
-use Rattle.term_types.specs.Settings.{setting_in}
 use Rattle.term_types.specs.declared.found.Found.{Found}
 use Rattle.term_types.proofs.Bound.{settled_more, settled_all, unsettled_at}
 use Rattle.term_types.proofs.Matched.{of_some, is_none}

@@ -1,7 +1,7 @@
 use Rattle.std.proofs.Common.{take}
 use Rattle.std.specs.Prelude.{reverse}
 use Rattle.term_types.specs.Binding.{AreSettled}
-use Rattle.term_types.specs.Settings.{setting_in}
+use Rattle.chw_typing.specs.Scopes.{setting_in}
 use Rattle.term_types.proofs.patterns.all_settled.Given as goal
 
 abbrev pub invariant-loop-field : goal.invariant-loop-field

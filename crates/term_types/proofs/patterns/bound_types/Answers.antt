@@ -4,7 +4,7 @@ use Rattle.chw_types.specs.TypeTree.{TypeTree}
 use Rattle.chw_terms.specs.declared.term.Pattern.TheVariants.{OfLit, Default}
 use Rattle.chw_typing.specs.Typing.{Binds}
 use Rattle.term_types.specs.Binding.{BindsNothing}
-use Rattle.term_types.specs.Settings.{setting_in}
+use Rattle.chw_typing.specs.Scopes.{setting_in}
 use Rattle.term_types.proofs.Bound.{default_binds, literal_binds, literal_none}
 use Rattle.term_types.proofs.Matched.{not_true}
 use Rattle.term_types.proofs.patterns.bound_types.Goals as goal

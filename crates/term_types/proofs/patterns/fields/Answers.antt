@@ -4,7 +4,7 @@ use Rattle.chw_types.specs.TypeTree.{TypeTree}
 use Rattle.chw_terms.specs.Constructors.{con_at}
 use Rattle.con_places.specs.Constructing.{constructor_of}
 use Rattle.term_types.specs.Binding.{AreSettled, NoneSettled}
-use Rattle.term_types.specs.Settings.{setting_in}
+use Rattle.chw_typing.specs.Scopes.{setting_in}
 use Rattle.term_types.proofs.Bound.{con_missing, con_other, con_names, fields_told}
 use Rattle.term_types.proofs.patterns.fields.Goals as goal
 

@@ -1,6 +1,6 @@
 use Rattle.std.proofs.Common.{sym, ◌∙◌}
 use Rattle.std.specs.Prelude.{reverse}
-use Rattle.term_types.specs.Settings.{setting_in}
+use Rattle.chw_typing.specs.Scopes.{setting_in}
 use Rattle.term_types.proofs.Applied.{bound_is, no_bound, type_unkinded, type_of_other, type_told}
 use Rattle.term_types.proofs.spines.apply_type.Goals as goal
 

@@ -2,7 +2,7 @@ use Rattle.std.proofs.Common.{sym, subst}
 use Rattle.std.specs.Prelude.{reverse}
 use Rattle.chw_typing.specs.Typing.{HasType}
 use Rattle.term_types.specs.Answers.{HasNoType, IsReady}
-use Rattle.term_types.specs.Settings.{setting_in}
+use Rattle.chw_typing.specs.Scopes.{setting_in}
 use Rattle.term_types.proofs.Walked.{answer_some, answer_is_none}
 use Rattle.term_types.proofs.typing.type_of.Goals as goal
 

@@ -10,13 +10,12 @@ use Rattle.chw_terms.specs.TermTree.{TermTree, lam, ty_lam, letrec, vec_lit, cas
 use Rattle.chw_terms.specs.TermView.{tree_of, applied_to, applied, terms_of, group_of, alts_of}
 use Rattle.chw_typing.specs.Alternatives.{NoneHidden}
 use Rattle.chw_typing.specs.HeadTypes.{IsLookedAt}
-use Rattle.chw_typing.specs.Scopes.{with_more}
+use Rattle.chw_typing.specs.Scopes.{with_more, setting_in}
 use Rattle.chw_typing.specs.Typing.{HasType, HasTypeUpTo, Binds}
 use Rattle.term_types.specs.Answers.{HasNoType, IsTyped, IsAnswer, IsReady}
 use Rattle.term_types.specs.Binding.{BindsNothing}
 use Rattle.term_types.specs.Cases.{Gives, GivesNothing, IsJoined}
 use Rattle.term_types.specs.Groups.{HaveTheirTypes}
-use Rattle.term_types.specs.Settings.{setting_in}
 use Rattle.term_types.proofs.Applied.{applied_none, app_argument_untyped}
 use Rattle.term_types.proofs.Bound.{looked_found, looked_none}
 use Rattle.term_types.proofs.Cased.{case_on, case_looked, case_hidden, case_alt, gives_told, joined_next, joined_none, nothing_joined, together_told}

@@ -8,7 +8,7 @@ use Rattle.term_types.specs.Answers.{IsTyped}
 use Rattle.term_types.specs.Cases.{GiveTogether}
 use Rattle.term_types.specs.Each.{Each}
 use Rattle.term_types.specs.Groups.{HaveTheirTypes}
-use Rattle.term_types.specs.Settings.{setting_in}
+use Rattle.chw_typing.specs.Scopes.{setting_in}
 use Rattle.term_types.proofs.walk.+infer.Given as goal
 
 -- what has the type of the head has this one at the arguments so far
