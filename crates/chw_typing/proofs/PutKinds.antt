@@ -1,6 +1,6 @@
 -- Types into which others of the variables' kinds were put, where a natural may have come to have too great a degree: which variables stand in
 -- them, and the kind of what is the same.
-use Rattle.std.proofs.Common.{◌≡◌, ℕ, suc, zero, true, inl, inr, refl, sym, ap, subst, List, ◌∷◌}
+use Rattle.std.proofs.Common.{◌≡◌, ℕ, suc, true, inl, inr, refl, sym, ap, List, ◌∷◌}
 use Rattle.std.specs.Prelude.{Some}
 use Rattle.std.specs.List.{slice_get}
 use Rattle.chw_types.specs.declared.kind.Kind.{Kind}

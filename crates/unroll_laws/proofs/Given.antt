@@ -5,14 +5,13 @@ use Rattle.std.specs.List.{slice_get}
 use Rattle.chw_types.specs.declared.kind.Kind.{Kind}
 use Rattle.chw_types.specs.declared.kind.Kind.TheVariants.{Nat}
 use Rattle.chw_types.specs.declared.declarations.Data.{Data}
-use Rattle.chw_types.specs.TypeTree.{TypeTree, fun, for_all}
+use Rattle.chw_types.specs.TypeTree.{TypeTree, fun}
 use Rattle.chw_types.specs.TypeView.{trees_of}
 use Rattle.chw_types.specs.TypeMoves.{Substitution, up, sub, up_by, one, put_at, put}
 use Rattle.chw_types.specs.Arguments.{given}
-use Rattle.chw_types.specs.Kinds.{KindOf, kind_var, KindsOf, no_kinds, kind_and}
+use Rattle.chw_types.specs.Kinds.{KindOf, KindsOf, no_kinds, kind_and}
 use Rattle.chw_types.specs.Polynomials.{is_natural}
-use Rattle.chw_types.specs.SameTypes.{SameTypes, same_naturals, same_fun, same_for_all}
-use Rattle.chw_types.proofs.KindsKept.{kind_renamed}
+use Rattle.chw_types.specs.SameTypes.{SameTypes, same_naturals, same_fun}
 use Rattle.chw_types.proofs.SameLaws.{same_self, same_through}
 use Rattle.chw_types.proofs.TypeLaws.{same, rename_sub, sub_sub, sub_ids}
 use Rattle.chw_terms.specs.TermTree.{TermTree}
