@@ -12,7 +12,8 @@ use Rattle.chw_bits.proofs.RoundTrips.{number_of-bits_of, same_bits, length-cut_
 use Rattle.chw_types.specs.declared.kind.Scalar.{Scalar}
 use Rattle.chw_types.specs.declared.kind.Scalar.TheVariants.{U, S, B}
 use Rattle.prim_bits.specs.Results.{sum_of, product_of}
-use Rattle.prim_bits.specs.Words.{signed, integer_of, residue_of, word_of}
+use Rattle.chw_bits.specs.Integers.{signed, residue_of, word_of}
+use Rattle.prim_bits.specs.Words.{integer_of}
 use Rattle.prim_bits.proofs.Residues.{Alike, alike_along, alike_low, alike_residue}
 use Rattle.prim_bits.proofs.Signs.{alike_at}
 

@@ -1,6 +1,6 @@
 -- The lengths of words that are made bit by bit.
 use Rattle.std.proofs.Common.{◌≡◌, suc, ◌≤◌, Bool, List, [], ◌∷◌, length, refl, ap, arith}
-use Rattle.prim_bits.specs.Results.{bit_by_bit}
+use Rattle.chw_bits.specs.Bitwise.{bit_by_bit}
 
 pub length-bit_by_bit : (of : Bool → Bool → Bool) (a b : List Bool) → length a ≡ length b → length (bit_by_bit of a b) ≡ length a
 length-bit_by_bit of [] b e = refl

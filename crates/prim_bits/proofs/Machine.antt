@@ -12,7 +12,7 @@ use Rattle.std.proofs.lemmas.Bool.{cases_lt}
 use Rattle.std.specs.Int.{int_div_euclid}
 use Rattle.chw_bits.specs.Bits.{bits_of}
 use Rattle.chw_bits.proofs.Numbers.{lt-pow}
-use Rattle.prim_bits.specs.Words.{residue_of, word_of}
+use Rattle.chw_bits.specs.Integers.{residue_of, word_of}
 use Rattle.prim_bits.proofs.Residues.{Alike, alike_same, alike_along, alike_sum, alike_difference, alike_product, alike_low, alike_from, word_of_alike}
 
 -- shifts by the width or more

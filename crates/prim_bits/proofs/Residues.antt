@@ -7,7 +7,7 @@ use Rattle.std.proofs.lemmas.Nat.{pow_pos, pow-add, mod-pow-add, mod_below, div-
 use Rattle.std.proofs.lemmas.Int.{int_rem_euclid_is}
 use Rattle.std.specs.Int.RustNames.{unsigned_abs}
 use Rattle.chw_bits.specs.Bits.{bit_of, bits_of}
-use Rattle.prim_bits.specs.Words.{residue_of, word_of}
+use Rattle.chw_bits.specs.Integers.{residue_of, word_of}
 
 -- two integers that differ by a multiple of m: an integer z is read as `up z - down z`
 pub record Alike (m : ℕ) (a b : ℤ) : Type 0 where

@@ -9,10 +9,10 @@ use Rattle.chw_prims.specs.declared.prim.Primitive.{Primitive}
 use Rattle.chw_prims.specs.declared.prim.Primitive.TheVariants.{AddU, AddS, SubU, SubS, MulU, MulS, XaddU, XaddS, XmulU, XmulS, AndU, AndS, AndB, OrU, OrS, OrB, XorU, XorS, XorB, NotU, NotS, NotB, ShlU, ShlS, ShlB, ShrU, ShrS, ShrB, EqU, EqS, EqB, LtU, LtS, ExtU, ExtS, ExtB, TruncU, TruncS, TruncB, Slice, Join, RedAnd, RedOr, RedXor, PackU, PackS, UnpackU, UnpackS, Fmap, Ap, Pure, Register, BlockRam, UnsafeSynchronizer, VGet, VGetC, VAt, VReplace, VMap, VMapC, VZipWith, VZipWithC, VFoldl, VFoldlC, VFoldr, VFoldrC, VGenerate, VGenerateC, VReplicate, VReplicateC, VAppend, VAppendC, VConcat, VConcatC, VTake, VTakeC, VDrop, VDropC, VReverse, VReverseC, VRotl, VRotlC}
 use Rattle.chw_prims.specs.declared.row.Row.{Row}
 use Rattle.chw_prims.specs.declared.row.Row.TheVariants.{Binary, Unary, Joined, Packed, Unpacked}
-use Rattle.prim_bits.specs.Results.{bit_by_bit, differ}
+use Rattle.chw_bits.specs.Bitwise.{bit_by_bit, differ}
 use Rattle.prim_bits.specs.Values.{result_of, value_of}
 use Rattle.prim_bits.specs.Widths.{argument_widths, width_of}
-use Rattle.prim_bits.specs.Words.{residue_of}
+use Rattle.chw_bits.specs.Integers.{residue_of}
 use Rattle.prim_bits.proofs.Taken.{taken_from_value}
 use Rattle.prim_bits.proofs.Lengths.{length-bit_by_bit}
 

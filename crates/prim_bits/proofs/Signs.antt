@@ -11,7 +11,7 @@ use Rattle.chw_bits.specs.Bits.{number_of, bits_of}
 use Rattle.chw_bits.proofs.Numbers.{lt-pow, number_of_lt}
 use Rattle.chw_types.specs.declared.kind.Scalar.TheVariants.{U, S}
 use Rattle.prim_bits.specs.Results.{sum_of, difference_of, product_of}
-use Rattle.prim_bits.specs.Words.{signed}
+use Rattle.chw_bits.specs.Integers.{signed}
 use Rattle.prim_bits.proofs.Residues.{Alike, alike_same, alike_narrow, alike_sum, alike_difference, alike_product, same_residue}
 
 -- the low part of a number's complement is its complement at that width

@@ -1,9 +1,10 @@
--- What is done with words: arithmetic at a width, shifts, and bit by bit.
-use Rattle.std.specs.Prelude.{ℕ, ◌^◌, Bool, not, ◌&&◌, ◌||◌, List, [], ◌∷◌, map, zip, pos, ◌+ℤ◌, ◌-ℤ◌, ◌*ℤ◌}
+-- What is done with words: arithmetic at a width, and shifts.
+use Rattle.std.specs.Prelude.{ℕ, ◌^◌, Bool, List, pos, ◌+ℤ◌, ◌-ℤ◌, ◌*ℤ◌}
 use Rattle.std.specs.Int.{int_div_euclid}
 use Rattle.chw_bits.specs.Bits.{number_of}
 use Rattle.chw_types.specs.declared.kind.Scalar.{Scalar}
-use Rattle.prim_bits.specs.Words.{integer_of, word_of}
+use Rattle.chw_bits.specs.Integers.{word_of}
+use Rattle.prim_bits.specs.Words.{integer_of}
 
 -- the sum, difference and product of two words as integers, at a width
 abbrev pub sum_of : Scalar → ℕ → (a b : List Bool) → List Bool
@@ -21,15 +22,3 @@ raised_of x width a places = word_of width (integer_of x a *ℤ pos (2 ^ number_
 
 abbrev pub lowered_of : Scalar → ℕ → (a places : List Bool) → List Bool
 lowered_of x width a places = word_of width (int_div_euclid (integer_of x a) (pos (2 ^ number_of places)))
-
--- two words bit by bit
-abbrev pub bit_by_bit : (Bool → Bool → Bool) → (a b : List Bool) → List Bool
-bit_by_bit of a b = map (λ pair. of pair.0 pair.1) (zip a b)
-
--- whether just one of two bits is set
-abbrev pub differ : (x y : Bool) → Bool
-differ x y = x && not y || not x && y
-
--- a truth value as one bit
-abbrev pub one_bit : Bool → List Bool
-one_bit bit = bit ∷ []

@@ -8,9 +8,11 @@ use Rattle.chw_types.specs.declared.kind.Scalar.TheVariants.{U, S, B}
 use Rattle.chw_prims.specs.Schemas.{row_of}
 use Rattle.chw_prims.specs.declared.prim.Primitive.{Primitive}
 use Rattle.chw_prims.specs.declared.prim.Primitive.TheVariants.{AddU, AddS, SubU, SubS, MulU, MulS, XaddU, XaddS, XmulU, XmulS, AndU, AndS, AndB, OrU, OrS, OrB, XorU, XorS, XorB, NotU, NotS, NotB, ShlU, ShlS, ShlB, ShrU, ShrS, ShrB, EqU, EqS, EqB, LtU, LtS, ExtU, ExtS, ExtB, TruncU, TruncS, TruncB, Slice, Join, RedAnd, RedOr, RedXor, PackU, PackS, UnpackU, UnpackS}
-use Rattle.prim_bits.specs.Results.{sum_of, difference_of, product_of, raised_of, lowered_of, bit_by_bit, differ, one_bit}
+use Rattle.chw_bits.specs.Bitwise.{bit_by_bit, differ, one_bit}
+use Rattle.prim_bits.specs.Results.{sum_of, difference_of, product_of, raised_of, lowered_of}
 use Rattle.prim_bits.specs.Widths.{argument_widths, width_of}
-use Rattle.prim_bits.specs.Words.{integer_of, word_of}
+use Rattle.chw_bits.specs.Integers.{word_of}
+use Rattle.prim_bits.specs.Words.{integer_of}
 
 -- the result of a primitive at its first two natural arguments and its words; of one that isn't on words, none
 abbrev pub result_of : Primitive → (n m : ℕ) → (a b : List Bool) → List Bool

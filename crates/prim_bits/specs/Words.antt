@@ -1,25 +1,12 @@
 -- Words as integers, at each sort of scalars.
-use Rattle.std.specs.Prelude.{ℕ, ◌^◌, Bool, List, [], ◌∷◌, length, if◌then◌else◌, ℤ, pos, ◌-ℤ◌, unsigned_abs}
-use Rattle.std.specs.Int.{int_rem_euclid}
-use Rattle.chw_bits.specs.Bits.{number_of, bits_of}
+use Rattle.std.specs.Prelude.{Bool, List, ℤ, pos}
+use Rattle.chw_bits.specs.Bits.{number_of}
+use Rattle.chw_bits.specs.Integers.{signed}
 use Rattle.chw_types.specs.declared.kind.Scalar.{Scalar}
 use Rattle.chw_types.specs.declared.kind.Scalar.TheVariants.{U, S, B}
-
--- the integer that bits mean in two's complement: the first bit weighs minus 2 to the count of bits after it
-abbrev pub signed : List Bool → ℤ
-signed [] = pos 0
-signed (sign ∷ bits) = pos (number_of bits) -ℤ pos (if sign then 2 ^ length bits else 0)
 
 -- the integer that bits mean at their sort: in two's complement where they are signed, else their number
 abbrev pub integer_of : Scalar → List Bool → ℤ
 integer_of U bits = pos (number_of bits)
 integer_of S bits = signed bits
 integer_of B bits = pos (number_of bits)
-
--- what is left of an integer modulo 2 to the width
-abbrev pub residue_of : ℕ → ℤ → ℕ
-residue_of width z = unsigned_abs (int_rem_euclid z (pos (2 ^ width)))
-
--- the lowest bits of an integer, as many as the width: those of what is left of it modulo 2 to the width
-abbrev pub word_of : ℕ → ℤ → List Bool
-word_of width z = bits_of width (residue_of width z)

@@ -1,6 +1,6 @@
 //! Words bit by bit.
 ghost use Rattle.std.specs.Prelude.{◌≡◌, ◌<◌, ◌^◌, ◌&&◌, ◌||◌, not, map, length, IfOk};
-ghost use Rattle.prim_bits.specs.Results.{bit_by_bit, differ};
+ghost use Rattle.chw_bits.specs.Bitwise.{bit_by_bit, differ};
 
 use chw_base::NoMemory;
 use chw_bits::Bits;

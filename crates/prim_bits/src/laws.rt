@@ -7,7 +7,8 @@ ghost use Rattle.chw_types.specs.declared.kind.Scalar.TheVariants.{U, S};
 ghost use Rattle.prim_bits.specs.Results.{sum_of, difference_of, product_of};
 ghost use Rattle.prim_bits.specs.Values.{value_of, result_of};
 ghost use Rattle.prim_bits.specs.Widths.{Takes, width_of};
-ghost use Rattle.prim_bits.specs.Words.{integer_of, word_of};
+ghost use Rattle.chw_bits.specs.Integers.{word_of};
+ghost use Rattle.prim_bits.specs.Words.{integer_of};
 
 /// A primitive has a value just where it takes its words, and then its result is the one value.
 pub fn values_where_taken()

@@ -1,7 +1,8 @@
 //! Words made wider and narrower.
 ghost use Rattle.std.specs.Prelude.{◌≡◌, ◌≤◌, ◌/◌, ◌^◌, length, IfOk};
 ghost use Rattle.chw_bits.specs.Bits.{number_of, bits_of};
-ghost use Rattle.prim_bits.specs.Words.{integer_of, word_of};
+ghost use Rattle.chw_bits.specs.Integers.{word_of};
+ghost use Rattle.prim_bits.specs.Words.{integer_of};
 
 use crate::shifts::down;
 use crate::words::{number, residue, word};

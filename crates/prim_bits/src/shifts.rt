@@ -2,7 +2,8 @@
 ghost use Rattle.std.specs.Prelude.{◌≡◌, ◌≤◌, ◌*◌, ◌/◌, ◌%◌, ◌^◌, length, pos, IfOk};
 ghost use Rattle.std.specs.Int.{int_div_euclid};
 ghost use Rattle.prim_bits.specs.Results.{raised_of, lowered_of};
-ghost use Rattle.prim_bits.specs.Words.{integer_of, residue_of};
+ghost use Rattle.chw_bits.specs.Integers.{residue_of};
+ghost use Rattle.prim_bits.specs.Words.{integer_of};
 
 use crate::words::{number, residue, signed_number, word};
 use chw_base::NoMemory;

@@ -1,8 +1,9 @@
 //! Words as numbers of the machine, and back.
 ghost use Rattle.std.specs.Prelude.{◌≡◌, ◌≤◌, ◌%◌, ◌^◌, length, slice_index_or, false, IfOk};
 ghost use Rattle.chw_bits.specs.Bits.{number_of, bits_of};
-ghost use Rattle.prim_bits.specs.Results.{one_bit};
-ghost use Rattle.prim_bits.specs.Words.{signed, integer_of, residue_of};
+ghost use Rattle.chw_bits.specs.Bitwise.{one_bit};
+ghost use Rattle.chw_bits.specs.Integers.{signed, residue_of};
+ghost use Rattle.prim_bits.specs.Words.{integer_of};
 
 use chw_base::{NoMemory, Or};
 use chw_bits::Bits;

@@ -1,6 +1,6 @@
 use Rattle.std.proofs.Common.{length, ap, arith}
 use Rattle.prim_bits.proofs.Lengths.{length-bit_by_bit_le}
-use Rattle.prim_bits.specs.Results.{differ}
+use Rattle.chw_bits.specs.Bitwise.{differ}
 use Rattle.prim_bits.proofs.bitwise.differing.Goals as goal
 
 pub of_list-requires : goal.of_list-requires

@@ -1,7 +1,8 @@
 use Rattle.std.proofs.Common.{IfOk, ◌≡◌, ◌^◌, Bool, List, subst, ap, ◌∙◌}
 use lib.IntN.{pos}
 use Rattle.std.specs.Int.{int_div_euclid}
-use Rattle.prim_bits.specs.Words.{integer_of, word_of}
+use Rattle.chw_bits.specs.Integers.{word_of}
+use Rattle.prim_bits.specs.Words.{integer_of}
 use Rattle.prim_bits.proofs.Machine.{extended_bits}
 use Rattle.prim_bits.proofs.shifts.lowered.Goals as goal
 

@@ -1,7 +1,8 @@
 use Rattle.std.proofs.Common.{IfOk, ◌≡◌, ◌^◌, Bool, List, subst, ap, ◌∙◌}
 use lib.IntN.{pos, ◌*ℤ◌}
 use Rattle.chw_bits.specs.Bits.{bits_of}
-use Rattle.prim_bits.specs.Words.{integer_of, word_of}
+use Rattle.chw_bits.specs.Integers.{word_of}
+use Rattle.prim_bits.specs.Words.{integer_of}
 use Rattle.prim_bits.proofs.Machine.{raised_bits}
 use Rattle.prim_bits.proofs.shifts.raised.Goals as goal
 

@@ -2,7 +2,7 @@ use Rattle.std.proofs.Common.{◌≡◌, ◌<◌, get_or, false, true, ap, sym, 
 use lib.IntN.{pos, negsuc}
 use mir.Syntax.{w128}
 use Rattle.std.proofs.lemmas.Int.{to_z_pos}
-use Rattle.prim_bits.specs.Words.{signed}
+use Rattle.chw_bits.specs.Integers.{signed}
 use Rattle.prim_bits.proofs.Signs.{negative_is, negative_small, positive_is, positive_small, complement_is}
 use Rattle.prim_bits.proofs.words.signed_number.Goals as goal
 
