@@ -1,7 +1,9 @@
 #!/usr/bin/env bash
 # Times `chw check` on descriptions of 64 KiB to just under 4 MiB, the limit, beside Python's parser on a text of as many bytes and the same shape.
-# Usage: bench/check.sh [definitions|arguments|brackets]
+# Usage: bench/check.sh [definitions|arguments|brackets|letrecs|sums|calls|hard]
 #   definitions: up to 4,096 definitions, the limit, longer ones in the larger texts    arguments: applications of 150 arguments    brackets: 150 brackets, one in the other
+#   letrecs: bindings of a letrec    sums: widths that are long sums    calls: polymorphic calls
+#   hard: texts with great types, types that grow, and naturals of many products; the status, the time and the memory of each
 set -eu
 top=$(cd "$(dirname "$0")/.." && pwd)
 form=${1:-definitions}
@@ -27,9 +29,22 @@ def row(k):
                 f"f{k} = lambda n: lambda x: lambda v: {g}(n, x, v) if x == 0 else True if x == {k} else [" + f"{g}(n, x, v), v, " * (2 * (parts - 1)) + f"n + 1, n + 2, n + 3, (n, x, v), {g}(n, x + 1, v), (n, x, v, n + 1), [n * 2, n * 3, x * 2, x * 3], {g}(n, x, v, 0), (v, x), lambda y, z: z if y else {g}(n, x, y)]\n")
     if form == "arguments":
         return (f"def f{k} : Bool = " + group("h " + "0u8 " * 150) + ";\n", f"f{k} = " + ", ".join(["f(" + "100," * 150 + ")"] * parts) + "\n")
+    if form == "letrecs":
+        n = 40 * parts
+        return (f"def f{k} : Unsigned 8 -> Unsigned 8 = \\(x : Unsigned 8) . letrec {{ " + "".join(f"y{i} : Unsigned 8 = addU @8 y{max(i - 1, 0)} (mulU @8 x y{i // 2}); " for i in range(1, n)) + f"y0 : Unsigned 8 = x; }} in y{n - 1};\n",
+                f"def f{k}(x):\n" + "".join(f"    y{i} = add8(y{max(i - 1, 0)}, mul8(x, y{i // 2}), 8, 8) # y{i}\n" for i in range(1, n)) + f"    return y{n - 1}\n")
+    if form == "sums":
+        chain = " + ".join(["n"] * 150)
+        return (f"def f{k} : forall (n : Nat) . Unsigned ({chain}) -> Bool = /\\(n : Nat) . \\(x : Unsigned ({chain})) . " + group("True") + ";\n",
+                f"f{k} = lambda n, x, y, z: ({chain}, {chain})\n")
+    if form == "calls":
+        call = "p @(Unsigned 8) @(Maybe Bool) 1u8 (Nothing @Bool)"
+        return (f"def f{k} : Unsigned 8 = letrec {{ " + "".join(f"y{i} : Unsigned 8 = {call}; " for i in range(10 * parts)) + "} in y0;\n",
+                f"f{k} = [" + "p(Unsigned(8), Maybe(Bool))(1, Nothing(Bool))[y0], " * (10 * parts) + "0]\n")
     return (f"def f{k} : Bool = " + group("(" * 150 + "True" + ")" * 150) + ";\n", f"f{k} = " + ", ".join(["(" * 150 + "x" + ")" * 150] * parts) + "\n")
 begin = ("domain Sys;\ndef g : forall (n : Nat) . Unsigned 8 -> Unsigned (n + 1) -> Bool = /\\(n : Nat) . \\(x : Unsigned 8) . \\(v : Unsigned (n + 1)) . True;\n"
          "def h : " + "Unsigned 8 -> " * 150 + "Bool = " + "".join(f"\\(x{k} : Unsigned 8) . " for k in range(150)) + "True;\n"
+         "def p : forall (a : Val) . forall (b : Val) . a -> b -> a = /\\(a : Val) . /\\(b : Val) . \\(x : a) . \\(y : b) . x;\n"
          "def main : Signal Sys (Unsigned 8) -> Signal Sys (Unsigned 8) = \\(x : Signal Sys (Unsigned 8)) . x;\n")
 for name, which, begin, end in (("a.chw", 0, begin, "top main (x) (o);\n"), ("a.py", 1, "", "")):
     out, n, k = [begin], len(begin) + len(end), 0
@@ -40,6 +55,11 @@ for name, which, begin, end in (("a.chw", 0, begin, "top main (x) (o);\n"), ("a.
     open(f"{work}/{name}", "w").write("".join(out) + end)
 PY
 }
+
+if [ "$form" = hard ]; then
+  python3 "$top/bench/hard.py" "$program" "$work"
+  exit
+fi
 
 # The least of five times, in microseconds.
 least() {

@@ -1,6 +1,6 @@
 //! Which kind a type has.
-ghost use Rattle.std.specs.Prelude.{◌≡◌, ◌^◌, ◌-◌, length, reverse, min, IfOk, OnErr};
-ghost use Rattle.chw_types.specs.Kinds.{degree, KindOf, HasNoKind};
+ghost use Rattle.std.specs.Prelude.{◌≡◌, ◌^◌, ◌-◌, length, reverse, min, nat_le, IfOk, OnErr};
+ghost use Rattle.chw_types.specs.Kinds.{degree, most_degree, KindOf, HasNoKind};
 ghost use Rattle.chw_types.specs.KindFound.{kind_found, natural_kind, domain_kind, scalar_kind, vector_kind, function_kind, signal_kind, bound_kind, is_kind};
 
 use crate::declarations::Data;
@@ -31,69 +31,98 @@ pub fn kind_of(t: &Ty, scope: &[Kind], datas: &[Data], domains: &[Name]) -> Resu
 }
 
 // The kind of a type under binders that were passed.
-#[tactic(auto, unfolding(crate::specs::KindFound::kind_found), using(crate::proofs::KindsInLists::small_degree))]
 fn kind_in(t: &Ty, scope: &Scope, datas: &[Data], domains: &[Name]) -> Option<Kind>
     ensures { result ≡ kind_found datas.now (length domains.now) scope.now t.now }
 {
+    look_at(t, scope, datas, domains).kind
+}
+
+// What is found of a type: its kind, and the degree of a natural, at most the last value of its type.
+#[derive(Clone, Copy)]
+struct Looked {
+    kind: Option<Kind>,
+    degree: u32,
+}
+
+// The kind of a type, together with its degree: so each part of a natural is looked at once.
+#[tactic(auto, unfolding(crate::specs::KindFound::kind_found), using(crate::proofs::KindsInLists::small_degree))]
+fn look_at(t: &Ty, scope: &Scope, datas: &[Data], domains: &[Name]) -> Looked
+    ensures kind { result.kind ≡ kind_found datas.now (length domains.now) scope.now t.now }
+    ensures degree { result.degree ≡ min (degree t.now) (2 ^ 32 - 1) }
+{
     match &t.node {
-        TyNode::Var(at) => scope.at(at.number),
-        TyNode::NatLit(_) => Some(Kind::Nat),
-        TyNode::Sum(a, b) | TyNode::Times(a, b) => {
-            let small = degree(t) <= MOST_DEGREE;
-            let a = kind_in(a, &*scope, datas, domains);
-            let b = kind_in(b, &*scope, datas, domains);
-            natural_kind(small, a, b)
+        TyNode::Var(at) => Looked {
+            kind: scope.at(at.number),
+            degree: 1,
+        },
+        TyNode::NatLit(_) => no_degree(Some(Kind::Nat)),
+        TyNode::Sum(a, b) => {
+            let a = look_at(a, &*scope, datas, domains);
+            let b = look_at(b, &*scope, datas, domains);
+            natural(a.degree.max(b.degree), a.kind, b.kind)
         }
-        TyNode::DomOf(at) => domain_kind((at.number as usize) < domains.len()),
+        TyNode::Times(a, b) => {
+            let a = look_at(a, &*scope, datas, domains);
+            let b = look_at(b, &*scope, datas, domains);
+            natural(a.degree.saturating_add(b.degree), a.kind, b.kind)
+        }
+        TyNode::DomOf(at) => no_degree(domain_kind((at.number as usize) < domains.len())),
         TyNode::Unsigned(w) | TyNode::Signed(w) | TyNode::BitVector(w) => {
-            scalar_kind(kind_in(w, &*scope, datas, domains))
+            no_degree(scalar_kind(look_at(w, &*scope, datas, domains).kind))
         }
         TyNode::Vec(n, t) => {
-            let n = kind_in(n, &*scope, datas, domains);
-            let t = kind_in(t, &*scope, datas, domains);
-            vector_kind(n, t)
+            let n = look_at(n, &*scope, datas, domains);
+            let t = look_at(t, &*scope, datas, domains);
+            no_degree(vector_kind(n.kind, t.kind))
         }
         TyNode::DataOf(at, args) => {
             let Some(it) = datas.get(at.number as usize) else {
-                return None;
+                return no_degree(None);
             };
             let params = it.params.as_slice();
             if params.len() != args.len() {
-                return None;
+                return no_degree(None);
             }
             for (i, arg) in args.iter().enumerate() {
-                if !is_kind(kind_in(arg, &*scope, datas, domains), params[i]) {
-                    return None;
+                if !is_kind(look_at(arg, &*scope, datas, domains).kind, params[i]) {
+                    return no_degree(None);
                 }
             }
-            Some(it.kind)
+            no_degree(Some(it.kind))
         }
         TyNode::Fun(a, b) => {
-            let a = kind_in(a, &*scope, datas, domains);
-            let b = kind_in(b, &*scope, datas, domains);
-            function_kind(a, b)
+            let a = look_at(a, &*scope, datas, domains);
+            let b = look_at(b, &*scope, datas, domains);
+            no_degree(function_kind(a.kind, b.kind))
         }
         TyNode::Signal(d, t) => {
-            let d = kind_in(d, &*scope, datas, domains);
-            let t = kind_in(t, &*scope, datas, domains);
-            signal_kind(d, t)
+            let d = look_at(d, &*scope, datas, domains);
+            let t = look_at(t, &*scope, datas, domains);
+            no_degree(signal_kind(d.kind, t.kind))
         }
         TyNode::Forall(k, t) => {
             let inner = (&*scope).under(*k);
-            bound_kind(kind_in(t, &inner, datas, domains))
+            no_degree(bound_kind(look_at(t, &inner, datas, domains).kind))
         }
     }
 }
 
-// The degree of a natural, at most the last value of its type.
-fn degree(t: &Ty) -> u32
-    ensures { result ≡ min (degree t.now) (2 ^ 32 - 1) }
+// What is found of a type that is no natural in variables.
+fn no_degree(kind: Option<Kind>) -> Looked
+    ensures kind { result.kind ≡ kind }
+    ensures degree { result.degree ≡ 0 }
 {
-    match &t.node {
-        TyNode::Var(_) => 1,
-        TyNode::Sum(a, b) => degree(a).max(degree(b)),
-        TyNode::Times(a, b) => degree(a).saturating_add(degree(b)),
-        _ => 0,
+    Looked { kind, degree: 0 }
+}
+
+// What is found of a sum or product of this degree.
+fn natural(degree: u32, a: Option<Kind>, b: Option<Kind>) -> Looked
+    ensures kind { result.kind ≡ natural_kind (nat_le degree most_degree) a b }
+    ensures degree { result.degree ≡ degree }
+{
+    Looked {
+        kind: natural_kind(degree <= MOST_DEGREE, a, b),
+        degree,
     }
 }
 
