@@ -1,21 +1,38 @@
 //! Putting the arguments of a data type into its fields.
 ghost use Rattle.std.specs.Prelude.{◌≡◌, ◌+◌, reverse, IfOk};
 ghost use Rattle.chw_types.specs.Arguments.{given, arguments};
+ghost use Rattle.chw_types.specs.SmallTypes.{IsSmall};
 ghost use Rattle.chw_types.specs.TypeMoves.{sub, up_by};
 ghost use Rattle.chw_types.specs.TypeView.{trees_of};
 
 use crate::forms::{pair_like, sort_of};
 use crate::moves::{raise, shift};
+use crate::room::has_room;
 use crate::ty::{Ty, TyNode};
 use chw_base::{NoMemory, TyIx};
 use std::alloc::Global;
 
 /// Puts these types for the parameters of a data type, of which the last is the variable 0, all at once. Later variables come down by
 /// their number, and under a binder the variables of the arguments are raised.
+///
+/// Where the result would be deeper than `TYPE_DEPTH`, or have more parts than `TYPE_PARTS`, the answer is want of memory, before
+/// any of it is made.
 pub fn put_arguments(alloc: Global, field: &Ty, args: &[Ty]) -> Result<Ty, NoMemory>
-    ensures { IfOk result (λ t. t ≡ sub field.now (arguments (trees_of args.now))) }
+    ensures is { IfOk result (λ t. t ≡ sub field.now (arguments (trees_of args.now))) }
+    ensures small { IfOk result (λ t. IsSmall t) }
 {
-    Ok(fill(alloc, field, 0, args)?)
+    Ok(fill_small(alloc, field, 0, args)?)
+}
+
+/// The type with these put for its variables from `under` on, where there is room for it.
+pub(crate) fn fill_small(alloc: Global, t: &Ty, under: u32, args: &[Ty]) -> Result<Ty, NoMemory>
+    ensures is { IfOk result (λ r. r ≡ sub t.now (up_by under (given (reverse args.now)))) }
+    ensures small { IfOk result (λ r. IsSmall r) }
+{
+    if !has_room(t, under, args) {
+        return Err(NoMemory);
+    }
+    Ok(fill(alloc, t, under, args)?)
 }
 
 // What stands for a variable under so many binders.
@@ -39,7 +56,7 @@ fn fill_var(alloc: Global, x: TyIx, under: u32, args: &[Ty]) -> Result<Ty, NoMem
 
 // The type with these put for its variables from `under` on.
 #[tactic(auto, unfolding(crate::specs::TypeMoves::sub))]
-pub(crate) fn fill(alloc: Global, t: &Ty, under: u32, args: &[Ty]) -> Result<Ty, NoMemory>
+fn fill(alloc: Global, t: &Ty, under: u32, args: &[Ty]) -> Result<Ty, NoMemory>
     ensures { IfOk result (λ r. r ≡ sub t.now (up_by under (given (reverse args.now)))) }
 {
     match &t.node {

@@ -12,6 +12,7 @@ pub mod moves;
 mod polynomial;
 pub mod ports;
 pub mod representation;
+mod room;
 mod rows;
 pub mod sameness;
 mod scope;
