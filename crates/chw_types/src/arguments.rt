@@ -1,14 +1,15 @@
 //! Putting the arguments of a data type into its fields.
 ghost use Rattle.std.specs.Prelude.{◌≡◌, ◌+◌, reverse, IfOk};
 ghost use Rattle.chw_types.specs.Arguments.{given, arguments};
-ghost use Rattle.chw_types.specs.SmallTypes.{IsSmall};
+ghost use Rattle.chw_types.specs.SmallTypes.{IsSmall, Takes};
 ghost use Rattle.chw_types.specs.TypeMoves.{sub, up_by};
 ghost use Rattle.chw_types.specs.TypeView.{trees_of};
 
 use crate::forms::{pair_like, sort_of};
 use crate::moves::{raise, shift};
-use crate::room::has_room;
+use crate::room::{Room, parts_left};
 use crate::ty::{Ty, TyNode};
+use chw_base::limits::{TYPE_DEPTH, TYPE_PARTS};
 use chw_base::{NoMemory, TyIx};
 use std::alloc::Global;
 
@@ -21,17 +22,43 @@ pub fn put_arguments(alloc: Global, field: &Ty, args: &[Ty]) -> Result<Ty, NoMem
     ensures is { IfOk result (λ t. t ≡ sub field.now (arguments (trees_of args.now))) }
     ensures small { IfOk result (λ t. IsSmall t) }
 {
-    Ok(fill_small(alloc, field, 0, args)?)
+    let mut parts = TYPE_PARTS;
+    Ok(put_arguments_within(alloc, field, args, &mut parts)?)
 }
 
-/// The type with these put for its variables from `under` on, where there is room for it.
-pub(crate) fn fill_small(alloc: Global, t: &Ty, under: u32, args: &[Ty]) -> Result<Ty, NoMemory>
-    ensures is { IfOk result (λ r. r ≡ sub t.now (up_by under (given (reverse args.now)))) }
-    ensures small { IfOk result (λ r. IsSmall r) }
+/// The same, but the parts of the result are taken from `parts`.
+pub(crate) fn put_arguments_within(
+    alloc: Global,
+    field: &Ty,
+    args: &[Ty],
+    parts: &mut u32,
+) -> Result<Ty, NoMemory>
+    ensures is { IfOk result (λ t. t ≡ sub field.now (arguments (trees_of args.now))) }
+    ensures takes { IfOk result (λ t. Takes t TYPE_DEPTH parts.old parts.new) }
 {
-    if !has_room(t, under, args) {
+    Ok(fill_within(alloc, field, 0, args, parts)?)
+}
+
+/// The type with these put for its variables from `under` on, no deeper than `TYPE_DEPTH`. Its parts are taken from `parts`. Where
+/// there is no room, the answer is want of memory, before any of it is made.
+pub(crate) fn fill_within(
+    alloc: Global,
+    t: &Ty,
+    under: u32,
+    args: &[Ty],
+    parts: &mut u32,
+) -> Result<Ty, NoMemory>
+    ensures is { IfOk result (λ r. r ≡ sub t.now (up_by under (given (reverse args.now)))) }
+    ensures takes { IfOk result (λ r. Takes r TYPE_DEPTH parts.old parts.new) }
+{
+    let room = Room {
+        depth: TYPE_DEPTH,
+        parts: *parts,
+    };
+    let Some(left) = parts_left(t, under, args, room) else {
         return Err(NoMemory);
-    }
+    };
+    *parts = left;
     Ok(fill(alloc, t, under, args)?)
 }
 

@@ -4,9 +4,10 @@ ghost use Rattle.chw_types.specs.TypeTree.{ty_var};
 ghost use Rattle.chw_types.specs.SmallTypes.{IsSmall};
 ghost use Rattle.chw_types.specs.TypeMoves.{shift, put};
 
-use crate::arguments::fill_small;
+use crate::arguments::fill_within;
 use crate::forms::{pair_like, sort_of};
 use crate::ty::{Ty, TyNode};
+use chw_base::limits::TYPE_PARTS;
 use chw_base::{NoMemory, TyIx};
 use std::alloc::Global;
 use std::slice;
@@ -19,7 +20,8 @@ pub fn put_type(alloc: Global, into: &Ty, at: TyIx, arg: &Ty) -> Result<Ty, NoMe
     ensures is { IfOk result (λ t. t ≡ put into.now at.number arg.now) }
     ensures small { IfOk result (λ t. IsSmall t) }
 {
-    Ok(fill_small(alloc, into, at.number, slice::from_ref(arg))?)
+    let mut parts = TYPE_PARTS;
+    Ok(fill_within(alloc, into, at.number, slice::from_ref(arg), &mut parts)?)
 }
 
 /// Raises the free variables at or above `from` by this number.

@@ -1,32 +1,18 @@
-//! Whether there is room for a type with others put into it, before it is made.
-ghost use Rattle.std.specs.Prelude.{◌≡◌, ◌+◌, ◌≤◌, ℕ, reverse, IfSome, IfNone, IsTrue, Contains};
+//! How much room a type with others put into it takes, before it is made.
+ghost use Rattle.std.specs.Prelude.{◌≡◌, ◌+◌, ◌≤◌, ℕ, reverse, IfSome, IfNone, Contains};
 ghost use Rattle.chw_types.specs.Arguments.{given};
 ghost use Rattle.chw_types.specs.TypeTree.{ty_var};
 ghost use Rattle.chw_types.specs.TypeMoves.{sub, up_by, shift};
-ghost use Rattle.chw_types.specs.SmallTypes.{IsSmall, Takes};
+ghost use Rattle.chw_types.specs.SmallTypes.{Takes};
 
 use crate::ty::{Ty, TyNode};
 use chw_base::TyIx;
-use chw_base::limits::{TYPE_DEPTH, TYPE_PARTS};
 
-// How deep a type may be, and how many parts are left for it.
+/// How deep a type may be, and how many parts are left for it.
 #[derive(Clone, Copy)]
-struct Room {
-    depth: u32,
-    parts: u32,
-}
-
-/// Whether the type with these put for its variables from `under` on is no deeper, and has no more parts, than types may get.
-///
-/// The walk ends at the first part for which there is no room.
-pub(crate) fn has_room(t: &Ty, under: u32, args: &[Ty]) -> bool
-    ensures { IsTrue result → IsSmall (sub t.now (up_by under (given (reverse args.now)))) }
-{
-    let room = Room {
-        depth: TYPE_DEPTH,
-        parts: TYPE_PARTS,
-    };
-    parts_left(t, under, args, room).is_some()
+pub(crate) struct Room {
+    pub(crate) depth: u32,
+    pub(crate) parts: u32,
 }
 
 // The room for the parts of a type.
@@ -62,9 +48,11 @@ fn argument_for(x: TyIx, under: u32, args: &[Ty]) -> Option<&Ty>
     }
 }
 
-// How many parts are left after the type with these put for its variables from `under` on. Nothing comes where there is no room.
+/// How many parts are left after the type with these put for its variables from `under` on. Nothing comes where there is no room.
+///
+/// The walk ends at the first part for which there is no room.
 #[tactic(auto, unfolding(crate::specs::TypeMoves::sub, crate::specs::SmallTypes::depth_of, crate::specs::SmallTypes::parts_of))]
-fn parts_left(t: &Ty, under: u32, args: &[Ty], room: Room) -> Option<u32>
+pub(crate) fn parts_left(t: &Ty, under: u32, args: &[Ty], room: Room) -> Option<u32>
     ensures { IfSome result (λ left. Takes (sub t.now (up_by under (given (reverse args.now)))) room.depth room.parts left) }
 {
     match &t.node {

@@ -7,6 +7,6 @@ use Rattle.chw_types.proofs.moves.put_type.Goals as goal
 
 pub returns-clause-is : goal.returns-clause-is
 returns-clause-is c =
-    c.in_ok-fill_small.ensures.is
+    c.in_ok-fill_within.ensures.is
     ∙ ap (λ us. sub c.args.into.now (up_by c.args.at.number (given (reverse us)))) c.from_ref.ensures.value
     ∙ put_filled c.args.into.now c.args.at.number c.args.arg.now
