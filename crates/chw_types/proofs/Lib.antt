@@ -5,6 +5,7 @@ pub mod KindsInLists
 pub mod KindsKept
 pub mod LeavesFound
 pub mod NoCycles
+pub mod Rooms
 pub mod RowLoops
 pub mod RowMade
 pub mod RowsTell

@@ -14,6 +14,7 @@ pub mod RowsRight
 pub mod SameFound
 pub mod SamePromises
 pub mod SameTypes
+pub mod SmallTypes
 pub mod Scopes
 pub mod SummandView
 pub mod TypeCode

@@ -5,11 +5,13 @@ use Rattle.chw_base.specs.declared.index.DomId.{DomId}
 use Rattle.chw_types.specs.declared.declarations.ConDecl.{ConDecl}
 use Rattle.chw_types.specs.declared.declarations.Data.{Data}
 use Rattle.chw_types.specs.declared.ports.Leaf.{Leaf}
+use Rattle.chw_types.specs.declared.port_table.PortForm.{PortForm}
+use Rattle.chw_types.specs.declared.port_table.PortForm.TheVariants.{Single, Product, Other}
 use Rattle.chw_types.specs.TypeTree.{TypeTree, domain, data_of, signal, TypeTrees}
 use Rattle.chw_types.specs.TypeMoves.{sub}
 use Rattle.chw_types.specs.Arguments.{list_of, arguments}
 use Rattle.chw_types.specs.Representable.{Representable}
-use Rattle.chw_types.specs.Ports.{leaf_of}
+use Rattle.chw_types.specs.Ports.{leaf_of, IsNoPort}
 
 -- the type is a leaf, which is found
 pub record LeafFound (datas : List Data) (t : TypeTree) (old new : List Leaf) : Type 0 where
@@ -45,3 +47,10 @@ pub record ProductOpened (datas : List Data) (t : TypeTree) (old new : List Type
 -- a leaf is found and nothing more is to be done, or nothing is found yet
 abbrev pub Looked : List Data → TypeTree → List Leaf → List Leaf → List TypeTree → List TypeTree → Type 0
 Looked datas t found found' todo todo' = (LeafFound datas t found found' × (todo' ≡ todo)) ⊎ (ProductOpened datas t todo todo' × (found' ≡ found))
+
+-- the type is a leaf, and nothing more is to be looked at, or a product, whose fields are to be looked at next, or no port
+abbrev pub HasForm : List Data → TypeTree → List TypeTree → List TypeTree → PortForm → Type 0
+HasForm datas t todo todo' (Single dom payload) =
+    (t ≡ signal (domain dom.number) payload.now) × Representable datas payload.now × (todo' ≡ todo)
+HasForm datas t todo todo' Product = ProductOpened datas t todo todo'
+HasForm datas t todo todo' Other = IsNoPort datas t

@@ -1,5 +1,5 @@
 -- What the rows of the table say of the data types.
-use Rattle.std.specs.Prelude.{◌≡◌, ℕ, Bool, true, false, replicate, List, [], ◌∷◌, length, Option, Some, None}
+use Rattle.std.specs.Prelude.{Vec, ◌≡◌, ℕ, Bool, true, false, replicate, List, [], ◌∷◌, length, Option, Some, None}
 use Rattle.std.specs.List.{slice_get}
 use Rattle.chw_types.specs.declared.declarations.Data.{Data}
 use Rattle.chw_types.specs.declared.rows.Row.{Row}
@@ -58,6 +58,11 @@ pub record IsTable (datas : List Data) (rows : List Row) : Type 0 where
 pub record IsWholeTable (datas : List Data) (rows : List Row) : Type 0 where
   pub table : IsTable datas rows
   pub none_open : (d : ℕ) → IsNotOpen (slice_get rows d)
+
+-- where there is a table, it is whole
+abbrev pub AreWhole : {A : Type 0} → List Data → Option (Vec Row A) → Type 0
+AreWhole datas None = Unit {0}
+AreWhole datas (Some rows) = IsWholeTable datas rows.items
 
 -- the row that a data type has by its fields and the other rows
 abbrev pub IsRowOf : List Row → Data → Row → Type 0

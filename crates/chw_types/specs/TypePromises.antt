@@ -4,6 +4,7 @@ use Rattle.chw_types.specs.declared.kind.Kind.{Kind}
 use Rattle.chw_types.specs.declared.declarations.Data.{Data}
 use Rattle.chw_types.specs.TypeTree.{TypeTree}
 use Rattle.chw_types.specs.TypeMoves.{shift, put}
+use Rattle.chw_types.specs.SmallTypes.{depth_of, parts_of}
 use Rattle.chw_types.specs.Kinds.{degree, KindOf}
 
 -- a shift at or above the variable that is put for
@@ -39,3 +40,8 @@ PutKeepsKind =
 abbrev pub PutClosedKeepsKind : Type 0
 PutClosedKeepsKind =
     (datas : List Data) (domains : ℕ) (inner outer : List Kind) (t a : TypeTree) (j k : Kind) → KindOf datas domains (inner ++ j ∷ outer) t k → KindOf datas domains [] a j → KindOf datas domains (inner ++ outer) (put t (length inner) a) k
+
+-- a shift keeps the depth and the number of parts
+abbrev pub ShiftKeepsSize : Type 0
+ShiftKeepsSize =
+    (t : TypeTree) (c by : ℕ) → (depth_of (shift t c by) ≡ depth_of t) × (parts_of (shift t c by) ≡ parts_of t)

@@ -1,21 +1,65 @@
 //! Putting the arguments of a data type into its fields.
 ghost use Rattle.std.specs.Prelude.{◌≡◌, ◌+◌, reverse, IfOk};
 ghost use Rattle.chw_types.specs.Arguments.{given, arguments};
+ghost use Rattle.chw_types.specs.SmallTypes.{IsSmall, Takes};
 ghost use Rattle.chw_types.specs.TypeMoves.{sub, up_by};
 ghost use Rattle.chw_types.specs.TypeView.{trees_of};
 
 use crate::forms::{pair_like, sort_of};
 use crate::moves::{raise, shift};
+use crate::room::{Room, parts_left};
 use crate::ty::{Ty, TyNode};
+use chw_base::limits::{TYPE_DEPTH, TYPE_PARTS};
 use chw_base::{NoMemory, TyIx};
 use std::alloc::Global;
 
 /// Puts these types for the parameters of a data type, of which the last is the variable 0, all at once. Later variables come down by
 /// their number, and under a binder the variables of the arguments are raised.
+///
+/// Where the result would be deeper than `TYPE_DEPTH`, or have more parts than `TYPE_PARTS`, the answer is want of memory, before
+/// any of it is made.
 pub fn put_arguments(alloc: Global, field: &Ty, args: &[Ty]) -> Result<Ty, NoMemory>
-    ensures { IfOk result (λ t. t ≡ sub field.now (arguments (trees_of args.now))) }
+    ensures is { IfOk result (λ t. t ≡ sub field.now (arguments (trees_of args.now))) }
+    ensures small { IfOk result (λ t. IsSmall t) }
 {
-    Ok(fill(alloc, field, 0, args)?)
+    let mut parts = TYPE_PARTS;
+    Ok(put_arguments_within(alloc, field, args, &mut parts)?)
+}
+
+/// The same, but the parts of the result are taken from `parts`.
+pub(crate) fn put_arguments_within(
+    alloc: Global,
+    field: &Ty,
+    args: &[Ty],
+    parts: &mut u32,
+) -> Result<Ty, NoMemory>
+    ensures is { IfOk result (λ t. t ≡ sub field.now (arguments (trees_of args.now))) }
+    ensures takes { IfOk result (λ t. Takes t TYPE_DEPTH parts.old parts.new) }
+{
+    Ok(fill_within(alloc, field, 0, args, parts)?)
+}
+
+/// The type with these put for its variables from `under` on, no deeper than `TYPE_DEPTH`. Its parts are taken from `parts`. Where
+/// there is no room, the answer is want of memory, before any of it is made.
+pub(crate) fn fill_within(
+    alloc: Global,
+    t: &Ty,
+    under: u32,
+    args: &[Ty],
+    parts: &mut u32,
+) -> Result<Ty, NoMemory>
+    ensures is { IfOk result (λ r. r ≡ sub t.now (up_by under (given (reverse args.now)))) }
+    ensures takes { IfOk result (λ r. Takes r TYPE_DEPTH parts.old parts.new) }
+{
+    let room = Room {
+        depth: TYPE_DEPTH,
+        parts: *parts,
+    };
+    let Some(left) = parts_left(t, under, args, room) else {
+        return Err(NoMemory);
+    };
+    *parts = left;
+    Ok(fill(alloc, t, under, args)?)
 }
 
 // What stands for a variable under so many binders.
@@ -39,7 +83,7 @@ fn fill_var(alloc: Global, x: TyIx, under: u32, args: &[Ty]) -> Result<Ty, NoMem
 
 // The type with these put for its variables from `under` on.
 #[tactic(auto, unfolding(crate::specs::TypeMoves::sub))]
-pub(crate) fn fill(alloc: Global, t: &Ty, under: u32, args: &[Ty]) -> Result<Ty, NoMemory>
+fn fill(alloc: Global, t: &Ty, under: u32, args: &[Ty]) -> Result<Ty, NoMemory>
     ensures { IfOk result (λ r. r ≡ sub t.now (up_by under (given (reverse args.now)))) }
 {
     match &t.node {

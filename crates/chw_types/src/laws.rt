@@ -1,5 +1,5 @@
 //! Laws of types, each as the contract of a call that does nothing.
-ghost use Rattle.chw_types.specs.TypePromises.{ShiftAfterPut, PutAfterShift, PutAfterPut, OneKind, ShiftKeepsKind, PutKeepsKind, PutClosedKeepsKind};
+ghost use Rattle.chw_types.specs.TypePromises.{ShiftAfterPut, PutAfterShift, PutAfterPut, OneKind, ShiftKeepsKind, ShiftKeepsSize, PutKeepsKind, PutClosedKeepsKind};
 ghost use Rattle.chw_types.specs.Ceiling.{SumsCommute, SumsAssociate, ProductsCommute, ProductsAssociate, ProductsOverSums, ZeroIsNeutral, OneIsNeutral, ZeroAbsorbs};
 ghost use Rattle.chw_types.specs.SamePromises.{SameReflexive, SameSymmetric, SameTransitive, SameValues};
 
@@ -26,6 +26,11 @@ pub fn one_kind()
 /// A shift keeps the kind.
 pub fn shift_keeps_kind()
     ensures { ShiftKeepsKind }
+{}
+
+/// A shift keeps the depth and the number of parts.
+pub fn shift_keeps_size()
+    ensures { ShiftKeepsSize }
 {}
 
 /// Putting a type of the variable's kind keeps the kind, where it is of degree at most 1, as a closed type is.

@@ -1,20 +1,27 @@
 //! Raising the variables of a type, and putting a type for a variable.
 ghost use Rattle.std.specs.Prelude.{◌≡◌, ◌+◌, IfOk};
 ghost use Rattle.chw_types.specs.TypeTree.{ty_var};
+ghost use Rattle.chw_types.specs.SmallTypes.{IsSmall};
 ghost use Rattle.chw_types.specs.TypeMoves.{shift, put};
 
-use crate::arguments::fill;
+use crate::arguments::fill_within;
 use crate::forms::{pair_like, sort_of};
 use crate::ty::{Ty, TyNode};
+use chw_base::limits::TYPE_PARTS;
 use chw_base::{NoMemory, TyIx};
 use std::alloc::Global;
 use std::slice;
 
 /// Puts `arg` for the variable `at`. Later variables come down by one, and under a binder the variables of `arg` are raised.
+///
+/// Where the result would be deeper than `TYPE_DEPTH`, or have more parts than `TYPE_PARTS`, the answer is want of memory, before
+/// any of it is made.
 pub fn put_type(alloc: Global, into: &Ty, at: TyIx, arg: &Ty) -> Result<Ty, NoMemory>
-    ensures { IfOk result (λ t. t ≡ put into.now at.number arg.now) }
+    ensures is { IfOk result (λ t. t ≡ put into.now at.number arg.now) }
+    ensures small { IfOk result (λ t. IsSmall t) }
 {
-    Ok(fill(alloc, into, at.number, slice::from_ref(arg))?)
+    let mut parts = TYPE_PARTS;
+    Ok(fill_within(alloc, into, at.number, slice::from_ref(arg), &mut parts)?)
 }
 
 /// Raises the free variables at or above `from` by this number.

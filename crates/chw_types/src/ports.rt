@@ -1,20 +1,17 @@
 //! Ports, and their leaves.
-ghost use Rattle.std.specs.Prelude.{◌≡◌, ◌++◌, length, map, reverse, IfOk, OnOk, IfSome, IfNone};
+ghost use Rattle.std.specs.Prelude.{◌≡◌, ◌∷◌, [], ◌++◌, length, map, reverse, IfOk, OnOk, IfSome, IfNone};
 ghost use Rattle.std.specs.Bool.{OnTrue, OnFalse};
 ghost use Rattle.chw_types.specs.Arguments.{arguments};
-ghost use Rattle.chw_types.specs.TypeTree.{signal, data_of};
 ghost use Rattle.chw_types.specs.TypeMoves.{sub};
 ghost use Rattle.chw_types.specs.TypeView.{trees_of};
 ghost use Rattle.chw_types.specs.References.{HasNoCycle};
-ghost use Rattle.chw_types.specs.RowsRight.{IsWholeTable};
-ghost use Rattle.chw_types.specs.Ports.{Leaves, IsNoPort};
-ghost use Rattle.chw_types.specs.PortsFound.{LeafFound, IsProduct, IsNoProduct, Looked};
+ghost use Rattle.chw_types.specs.Ports.{leaf_of, Leaves, IsNoPort};
+ghost use Rattle.chw_types.specs.PortsFound.{IsProduct, IsNoProduct, Looked};
 
-use crate::arguments::put_arguments;
+use crate::arguments::put_arguments_within;
 use crate::declarations::Data;
-use crate::representation::representable_by;
-use crate::rows::{Row, no_rows};
-use crate::ty::{Ty, TyNode};
+use crate::port_table::{PortForm, PortTable};
+use crate::ty::Ty;
 use chw_base::{DomId, NoMemory};
 use std::alloc::Global;
 
@@ -27,19 +24,33 @@ pub struct Leaf {
 
 /// The leaves of a closed type from left to right, where it is a port: a signal of representable values, or data of one constructor
 /// with at least one field, all of whose fields are ports, with the arguments put in. `None` comes exactly where it is no port.
+///
+/// Where `PortTable::look_at` says so, the answer is want of memory.
 pub fn leaves(alloc: Global, t: &Ty, datas: &[Data]) -> Result<Option<Vec<Leaf>>, NoMemory>
     requires { HasNoCycle datas.now }
     ensures some { IfOk result (λ r. IfSome r (λ ls. Leaves datas.now t.now ls.items)) }
     ensures none { IfOk result (λ r. IfNone r (IsNoPort datas.now t.now)) }
 {
-    let mut rows = no_rows(alloc, datas)?;
+    let mut table = PortTable::of(datas);
+    let found = leaves_by(alloc, t, &mut table);
+    drop(table);
+    found
+}
+
+// The same by a table of the data types.
+fn leaves_by(alloc: Global, t: &Ty, table: &mut PortTable) -> Result<Option<Vec<Leaf>>, NoMemory>
+    requires { HasNoCycle table.old }
+    ensures some { IfOk result (λ r. IfSome r (λ ls. Leaves table.old t.now ls.items)) }
+    ensures none { IfOk result (λ r. IfNone r (IsNoPort table.old t.now)) }
+{
     let mut found = Vec::new(alloc);
     // What is still to be looked at, the leftmost last.
     let mut todo = Vec::new(alloc);
     todo.push(t.copy(alloc)?)?;
     while let Some(next) = todo.pop() {
-        let port = look_at(alloc, &next, datas, &mut rows, &mut found, &mut todo)?;
-        if !port {
+        let port = look_at(alloc, &next, table, &mut found, &mut todo);
+        drop(next);
+        if !port? {
             return Ok(None);
         }
     }
@@ -50,63 +61,36 @@ pub fn leaves(alloc: Global, t: &Ty, datas: &[Data]) -> Result<Option<Vec<Leaf>>
 fn look_at(
     alloc: Global,
     next: &Ty,
-    datas: &[Data],
-    rows: &mut Vec<Row>,
+    table: &mut PortTable,
     found: &mut Vec<Leaf>,
     todo: &mut Vec<Ty>,
 ) -> Result<bool, NoMemory>
-    requires order { HasNoCycle datas.now }
-    requires table { IsWholeTable datas.now rows.old.items }
-    ensures table { OnOk result (IsWholeTable datas.now rows.new.items) }
-    ensures yes { IfOk result (λ r. OnTrue r (Looked datas.now next.now found.old.items found.new.items todo.old.items todo.new.items)) }
-    ensures no { IfOk result (λ r. OnFalse r (IsNoPort datas.now next.now)) }
+    requires { HasNoCycle table.old }
+    ensures yes { IfOk result (λ r. OnTrue r (Looked table.old next.now found.old.items found.new.items todo.old.items todo.new.items)) }
+    ensures no { IfOk result (λ r. OnFalse r (IsNoPort table.old next.now)) }
+    ensures same { table.new ≡ table.old }
 {
-    match &next.node {
-        TyNode::Signal(dom, payload) => {
-            Ok(look_at_signal(alloc, dom, payload, datas, rows, found)?)
-        }
-        TyNode::DataOf(at, args) => {
-            let Some(fields) = product_fields(datas, at.number, args.len()) else {
-                return Ok(false);
-            };
-            push_fields(alloc, fields, args, todo)?;
+    match table.look_at(alloc, next, todo)? {
+        PortForm::Single(dom, payload) => {
+            push_leaf(alloc, dom, payload, found)?;
             Ok(true)
         }
-        _ => Ok(false),
+        PortForm::Product => Ok(true),
+        PortForm::Other => Ok(false),
     }
 }
 
-// The leaf of a signal.
-fn look_at_signal(
-    alloc: Global,
-    dom: &Ty,
-    payload: &Ty,
-    datas: &[Data],
-    rows: &mut Vec<Row>,
-    found: &mut Vec<Leaf>,
-) -> Result<bool, NoMemory>
-    requires order { HasNoCycle datas.now }
-    requires table { IsWholeTable datas.now rows.old.items }
-    ensures table { OnOk result (IsWholeTable datas.now rows.new.items) }
-    ensures yes { IfOk result (λ r. OnTrue r (LeafFound datas.now (signal dom.now payload.now) found.old.items found.new.items)) }
-    ensures no { IfOk result (λ r. OnFalse r (IsNoPort datas.now (signal dom.now payload.now))) }
+// Lists a leaf.
+fn push_leaf(alloc: Global, dom: DomId, payload: &Ty, found: &mut Vec<Leaf>) -> Result<(), NoMemory>
+    ensures { OnOk result (found.new.items ≡ found.old.items ++ leaf_of dom payload.now ∷ []) }
 {
-    let TyNode::DomOf(at) = &dom.node else {
-        return Ok(false);
-    };
-    if !representable_by(alloc, rows, payload, datas)? {
-        return Ok(false);
-    }
-    let leaf = Leaf {
-        dom: *at,
-        payload: payload.copy(alloc)?,
-    };
-    found.push(leaf)?;
-    Ok(true)
+    let payload = payload.copy(alloc)?;
+    found.push(Leaf { dom, payload })?;
+    Ok(())
 }
 
 /// The fields of a data type of one constructor with at least one field, where it has this number of parameters.
-pub fn product_fields(datas: &[Data], at: u32, args: usize) -> Option<&[Ty]>
+pub(crate) fn product_fields(datas: &[Data], at: u32, args: usize) -> Option<&[Ty]>
     ensures some { IfSome result (λ fs. IsProduct datas.now at args fs.now) }
     ensures none { IfNone result (IsNoProduct datas.now at args) }
 {
@@ -122,17 +106,19 @@ pub fn product_fields(datas: &[Data], at: u32, args: usize) -> Option<&[Ty]>
     Some(fields)
 }
 
-/// Puts the fields with the arguments put in on the list, the first field last.
-pub fn push_fields(
+/// Puts the fields with the arguments put in on the list, the first field last. Their parts are taken from `parts`. Where there is no
+/// room, the answer is want of memory, before the field is made.
+pub(crate) fn push_fields(
     alloc: Global,
     fields: &[Ty],
     args: &[Ty],
     todo: &mut Vec<Ty>,
+    parts: &mut u32,
 ) -> Result<(), NoMemory>
     ensures { OnOk result (todo.new.items ≡ todo.old.items ++ map (λ f. sub f (arguments (trees_of args.now))) (reverse fields.now)) }
 {
     for field in fields.iter().rev() {
-        todo.push(put_arguments(alloc, field, args)?)?;
+        todo.push(put_arguments_within(alloc, field, args, parts)?)?;
     }
     Ok(())
 }

@@ -5,7 +5,8 @@ ghost use Rattle.chw_types.specs.Representable.{Representable};
 ghost use Rattle.chw_types.specs.RowsRight.{IsWholeTable};
 
 use crate::declarations::Data;
-use crate::rows::{Row, ask, no_rows, settle};
+use crate::port_table::PortTable;
+use crate::rows::{Row, ask, settle};
 use crate::ty::Ty;
 use chw_base::NoMemory;
 use std::alloc::Global;
@@ -19,8 +20,7 @@ pub fn representable(alloc: Global, t: &Ty, datas: &[Data]) -> Result<bool, NoMe
     requires { HasNoCycle datas.now }
     ensures { IfOk result (λ r. IsTrue r ↔ Representable datas.now t.now) }
 {
-    let mut rows = no_rows(alloc, datas)?;
-    Ok(representable_by(alloc, &mut rows, t, datas)?)
+    PortTable::of(datas).representable(alloc, t)
 }
 
 /// The same by a table of rows, which gains those that are needed.

@@ -18,7 +18,7 @@ loop-field-init c = sym (append-nil c.args.todo.now.items)
 
 pub loop-field-preserved : goal.loop-field-preserved
 loop-field-preserved c =
-    pushed_next (λ f. sub f.now (arguments (trees_of c.args.args.now))) c.args.todo.now.items c.loop-field.todo.items c.push.new.self.items c.loop-field.yielded c.in-Some.field c.in_ok-put_arguments.field-0 c.in_ok-put_arguments.ensures c.in_ok-push.ensures.items c.loop-field.invariant
+    pushed_next (λ f. sub f.now (arguments (trees_of c.args.args.now))) c.args.todo.now.items c.loop-field.todo.items c.push.new.self.items c.loop-field.yielded c.in-Some.field c.in_ok-put_arguments_within.field-0 c.in_ok-put_arguments_within.ensures.is c.in_ok-push.ensures.items c.loop-field.invariant
 
 pub returns : goal.returns
 returns c =

@@ -249,7 +249,7 @@ decode_fields-width_of-requires-clause-fits t c =
     let k = c.loop-field-test.true in
     let d = c.field-item.is in
     let inv = c.loop-field.invariant in
-    subst (Fits c.args.datas.now) (sym c.in_ok-of.ensures) (field_has_width c.args.datas.now fs σ bits i values rest f k d inv)
+    subst (Fits c.args.datas.now) (sym c.in_ok-of.ensures.is) (field_has_width c.args.datas.now fs σ bits i values rest f k d inv)
 
 pub decode_fields-slice_bounds-decode_value-end : goal.decode_fields-slice_bounds-decode_value-end
 decode_fields-slice_bounds-decode_value-end t c =
@@ -264,7 +264,7 @@ decode_fields-slice_bounds-decode_value-end t c =
     let d = c.field-item.is in
     let inv = c.loop-field.invariant in
     let w = c.in_ok-width.field-0 in
-    let wide = subst (λ u. HasWidth c.args.datas.now u w) c.in_ok-of.ensures c.in_ok-width.ensures in
+    let wide = subst (λ u. HasWidth c.args.datas.now u w) c.in_ok-of.ensures.is c.in_ok-width.ensures in
     let room = field_room c.args.datas.now fs σ bits i values rest f w k d wide inv in
     let l = length_first w rest room in
     sym l
@@ -282,11 +282,11 @@ decode_fields-decode_value-requires t c =
     let d = c.field-item.is in
     let inv = c.loop-field.invariant in
     let w = c.in_ok-width.field-0 in
-    let wide = subst (λ u. HasWidth c.args.datas.now u w) c.in_ok-of.ensures c.in_ok-width.ensures in
+    let wide = subst (λ u. HasWidth c.args.datas.now u w) c.in_ok-of.ensures.is c.in_ok-width.ensures in
     let room = field_room c.args.datas.now fs σ bits i values rest f w k d wide inv in
     let l = length_first w rest room in
     let small = field_lighter c.args.datas.now fs σ i f k d in
-    let same : whole c.args.datas.now c.in_ok-of.of ≡ whole c.args.datas.now (sub f σ) = ap (λ u. whole c.args.datas.now u) c.in_ok-of.ensures in
+    let same : whole c.args.datas.now c.in_ok-of.of ≡ whole c.args.datas.now (sub f σ) = ap (λ u. whole c.args.datas.now u) c.in_ok-of.ensures.is in
     (omega (arith, c.decreases, small, same), (c.requires.order, subst (HasWidth c.args.datas.now c.in_ok-of.of) (sym l) c.in_ok-width.ensures))
 
 pub decode_fields-returns-in_default-clause-none : goal.decode_fields-returns-in_default-clause-none
@@ -302,11 +302,11 @@ decode_fields-returns-in_default-clause-none t c =
     let d = c.field-item.is in
     let inv = c.loop-field.invariant in
     let w = c.in_ok-width.field-0 in
-    let wide = subst (λ u. HasWidth c.args.datas.now u w) c.in_ok-of.ensures c.in_ok-width.ensures in
+    let wide = subst (λ u. HasWidth c.args.datas.now u w) c.in_ok-of.ensures.is c.in_ok-width.ensures in
     let room = field_room c.args.datas.now fs σ bits i values rest f w k d wide inv in
     let l = length_first w rest room in
     fields_fail c.args.datas.now fs σ bits i values rest (take w rest) (drop w rest) f w k d wide l (sym (take-append-drop w rest))
-    (subst (λ u. (v : Datum) → Encodes c.args.datas.now u v (take w rest) → ⊥) c.in_ok-of.ensures (none_of c.in_ok-value.field-0 c.in_default.not-Some c.in_ok-value.ensures.none)) inv
+    (subst (λ u. (v : Datum) → Encodes c.args.datas.now u v (take w rest) → ⊥) c.in_ok-of.ensures.is (none_of c.in_ok-value.field-0 c.in_default.not-Some c.in_ok-value.ensures.none)) inv
 
 pub decode_fields-after-rest-requires : goal.decode_fields-after-rest-requires
 decode_fields-after-rest-requires t c =
@@ -321,7 +321,7 @@ decode_fields-after-rest-requires t c =
     let d = c.field-item.is in
     let inv = c.loop-field.invariant in
     let w = c.in_ok-width.field-0 in
-    let wide = subst (λ u. HasWidth c.args.datas.now u w) c.in_ok-of.ensures c.in_ok-width.ensures in
+    let wide = subst (λ u. HasWidth c.args.datas.now u w) c.in_ok-of.ensures.is c.in_ok-width.ensures in
     let room = field_room c.args.datas.now fs σ bits i values rest f w k d wide inv in
     let l = length_first w rest room in
     room
@@ -339,13 +339,13 @@ decode_fields-loop-field-preserved t c =
     let d = c.field-item.is in
     let inv = c.loop-field.invariant in
     let w = c.in_ok-width.field-0 in
-    let wide = subst (λ u. HasWidth c.args.datas.now u w) c.in_ok-of.ensures c.in_ok-width.ensures in
+    let wide = subst (λ u. HasWidth c.args.datas.now u w) c.in_ok-of.ensures.is c.in_ok-width.ensures in
     let room = field_room c.args.datas.now fs σ bits i values rest f w k d wide inv in
     let l = length_first w rest room in
     let more = c.after-rest.result.now in
     let j : rest ≡ take w rest ++ more = sym (take-append-drop w rest) ∙ ap (λ r. take w rest ++ r) (sym c.after-rest.ensures) in
     fields_go_on c.args.datas.now fs σ bits i values c.push.new.self.items rest (take w rest) more f w c.in-Some.value k d wide l j
-    (subst (λ u. Encodes c.args.datas.now u c.in-Some.value (take w rest)) c.in_ok-of.ensures (value_some c.args.datas.now c.in_ok-of.of (take w rest) c.in_ok-value.field-0 c.in-Some.value c.in-Some.is c.in_ok-value.ensures.some)) c.in_ok-push.ensures.items inv
+    (subst (λ u. Encodes c.args.datas.now u c.in-Some.value (take w rest)) c.in_ok-of.ensures.is (value_some c.args.datas.now c.in_ok-of.of (take w rest) c.in_ok-value.field-0 c.in-Some.value c.in-Some.is c.in_ok-value.ensures.some)) c.in_ok-push.ensures.items inv
 
 pub decode_fields-returns-then-not-all_zero-clause-none : goal.decode_fields-returns-then-not-all_zero-clause-none
 decode_fields-returns-then-not-all_zero-clause-none t c =

@@ -46,8 +46,8 @@ encode_fields-encode_into-requires t c =
       (
         c.requires.order,
         (
-          subst (λ u. IsValueOf c.args.datas.now u c.index-values-i.result) (sym c.in_ok-of.ensures) (field_at c.args.datas.now c.args.fields.now σ c.args.values.now c.loop-i.i c.index-fields-i.result c.index-values-i.result l c.index-fields-i.is c.loop-i-test.true c.index-values-i.is c.requires.values),
-          subst (Fits c.args.datas.now) (sym c.in_ok-of.ensures) (field_fits c.args.datas.now c.args.fields.now σ c.loop-i.i c.index-fields-i.result l c.index-fields-i.is c.requires.fits),
+          subst (λ u. IsValueOf c.args.datas.now u c.index-values-i.result) (sym c.in_ok-of.ensures.is) (field_at c.args.datas.now c.args.fields.now σ c.args.values.now c.loop-i.i c.index-fields-i.result c.index-values-i.result l c.index-fields-i.is c.loop-i-test.true c.index-values-i.is c.requires.values),
+          subst (Fits c.args.datas.now) (sym c.in_ok-of.ensures.is) (field_fits c.args.datas.now c.args.fields.now σ c.loop-i.i c.index-fields-i.result l c.index-fields-i.is c.requires.fits),
         ),
       ),
     )
@@ -58,7 +58,7 @@ encode_fields-loop-i-preserved t c =
     let many = as_many_fields c.args.datas.now c.args.fields.now σ c.args.values.now c.requires.values in
     let l : c.loop-i.i < length c.args.fields.now = omega (arith, c.loop-i-test.true) in
     fields_more c.args.datas.now c.args.fields.now σ c.args.values.now c.loop-i.i c.index-fields-i.result c.index-values-i.result c.args.into.now.items c.loop-i.into.items c.encode_into.new.into.items l c.index-fields-i.is c.loop-i-test.true c.index-values-i.is c.loop-i.invariant
-    (subst (λ u. Adds (Encodes c.args.datas.now u c.index-values-i.result) c.loop-i.into.items c.encode_into.new.into.items) c.in_ok-of.ensures c.in_ok-encode_into.ensures)
+    (subst (λ u. Adds (Encodes c.args.datas.now u c.index-values-i.result) c.loop-i.into.items c.encode_into.new.into.items) c.in_ok-of.ensures.is c.in_ok-encode_into.ensures)
 
 pub encode_fields-returns : goal.encode_fields-returns
 encode_fields-returns t c =

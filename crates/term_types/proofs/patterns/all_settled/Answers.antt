@@ -16,7 +16,7 @@ loop-field-preserved c =
     let u = c.in_ok-ty.ty in
     let found = c.in-Some.found in
     let settled = of_some (LacksKindUpTo s kinds u) (λ (f : Found). SameTypes u f.ty × HasKind s kinds f.ty f.kind) c.in_ok-found.field-0 found c.in-Some.is c.in_ok-found.ensures in
-    settled_more s kinds c.args.fields.now c.args.args.now l.bound.items c.push.new.self.items l.field-index c.field-item.result _ found.ty u found.kind c.loop-field-test.true c.field-item.is c.in_ok-ty.ensures settled c.in_ok-push-in-Some.ensures.items l.invariant
+    settled_more s kinds c.args.fields.now c.args.args.now l.bound.items c.push.new.self.items l.field-index c.field-item.result _ found.ty u found.kind c.loop-field-test.true c.field-item.is c.in_ok-ty.ensures.is settled c.in_ok-push-in-Some.ensures.items l.invariant
 
 pub returns-in-None : goal.returns-in-None
 returns-in-None c =
@@ -25,7 +25,7 @@ returns-in-None c =
     let l = c.loop-field in
     let u = c.in_ok-ty.ty in
     let none = is_none (LacksKindUpTo s kinds u) (λ (f : Found). SameTypes u f.ty × HasKind s kinds f.ty f.kind) c.in_ok-found.field-0 c.in-None.is c.in_ok-found.ensures in
-    unsettled_at s kinds c.args.fields.now c.args.args.now l.field-index c.field-item.result _ u c.loop-field-test.true c.field-item.is c.in_ok-ty.ensures none
+    unsettled_at s kinds c.args.fields.now c.args.args.now l.field-index c.field-item.result _ u c.loop-field-test.true c.field-item.is c.in_ok-ty.ensures.is none
 
 pub returns : goal.returns
 returns c =

@@ -18,4 +18,4 @@ returns-then-not-same_kind c =
 pub returns : goal.returns
 returns c =
     type_told (setting_in c.args.scene.now) (reverse c.args.kinds.now) c.args.fun.ty c.args.arg.now c.in-Some.of c.in_ok-ty.ty c.in-Some-kind_in.of_arg c.in-Some.kind c.in_ok-settled.field-0
-    (bound_is c.args.fun.ty c.in-Some.of c.in-Some.kind c.in-Some.ensures) c.in-Some-kind_in.ensures (sym c.same_kind.ensures ∙ c.if-not-same_kind.false) c.in_ok-ty.ensures c.in_ok-settled.ensures
+    (bound_is c.args.fun.ty c.in-Some.of c.in-Some.kind c.in-Some.ensures) c.in-Some-kind_in.ensures (sym c.same_kind.ensures ∙ c.if-not-same_kind.false) c.in_ok-ty.ensures.is c.in_ok-settled.ensures
