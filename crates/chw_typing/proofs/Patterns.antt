@@ -94,7 +94,7 @@ binds_same {s} {kinds} {bound = bound} b h j v k x =
 one_found : (datas : List Data) (it other : Constructor) (c d : ℕ) → con_at datas c ≡ Some it → con_at datas d ≡ Some other → c ≡ d → it ≡ other
 one_found datas it other c d e f same = let g : Some it ≡ Some other = sym e ∙ ap (con_at datas) same ∙ f in cc
 
-one_pattern : {datas : List Data} {u v : TypeTree} {q r : Pattern} {ts us : List TypeTree} → PatternOf datas u q ts → PatternOf datas v r us → u ≡ v → q ≡ r → ts ≡ us
+pub one_pattern : {datas : List Data} {u v : TypeTree} {q r : Pattern} {ts us : List TypeTree} → PatternOf datas u q ts → PatternOf datas v r us → u ≡ v → q ≡ r → ts ≡ us
 one_pattern {datas} (of_con {c = c} {ts = ts} it e o n) (of_con {c = d} {ts = us} other f p m) x y =
     let same : c ≡ d = cc in
     let at : ts ≡ us = cc in

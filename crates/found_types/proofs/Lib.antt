@@ -1,0 +1,4 @@
+pub mod FoundOnce
+pub mod FoundTyped
+pub mod Settling
+pub mod TypedFound
