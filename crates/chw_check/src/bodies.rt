@@ -8,8 +8,9 @@ use chw_terms::{Def, Program, Scene};
 use chw_types::same;
 use chw_typing::laws::one_type;
 use con_places::Constructors;
+use found_types::laws::found_is_type;
 use std::alloc::Global;
-use term_types::type_of;
+use term_types::type_of_in;
 
 /// The first definition of a program whose body has no type, or another than the declared one; nothing where there is none.
 pub(crate) fn first_untyped<'p>(
@@ -40,9 +41,10 @@ fn has_its_type(
     requires table { constructors.now ≡ program.now.datas }
     ensures { IfOk result (λ r. MatchBool r (HasItsType program.now it.now) (HasItsType program.now it.now → ⊥)) }
 {
+    found_is_type();
     one_type();
     let scene = Scene { program, made: &[] };
-    let found = type_of(alloc, &scene, constructors, &[], &[], &it.body);
+    let found = type_of_in(alloc, &scene, constructors, &[], &[], &it.body);
     let Scene {
         program: _,
         made: _,

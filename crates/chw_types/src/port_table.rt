@@ -10,12 +10,10 @@ use crate::ports::{product_fields, push_fields};
 use crate::representation::representable_by;
 use crate::rows::{Row, no_rows};
 use crate::ty::{Ty, TyNode};
+use chw_base::limits::PORT_PARTS;
 use chw_base::{DomId, NoMemory};
 use std::alloc::Global;
 use std::marker::Model;
-
-/// The most parts that the fields have together that one table puts on lists.
-pub const PORT_PARTS: u32 = 4_000_000;
 
 /// What a type is as a port.
 pub enum PortForm<'t> {

@@ -18,13 +18,15 @@ use Rattle.chw_terms.specs.declared.term.Arg.{Arg}
 use Rattle.chw_terms.specs.declared.term.Arg.TheVariants.{OfTerm, OfType}
 use Rattle.chw_typing.specs.Scopes.{Setting, HasKind}
 use Rattle.chw_typing.specs.Typing.{HasType, h_app, h_ty_app}
+use Rattle.found_types.specs.Finding.{settled, Finds, f_app, f_ty_app}
 use Rattle.chw_typing.proofs.Kinded.{function_parts, bound_part}
 use Rattle.chw_typing.proofs.OneType.{put_same_of_kinds}
 use Rattle.chw_typing.proofs.Patterns.{are_of_terms}
 use Rattle.term_types.specs.Answers.{HasNoType, IsTyped, IsReady}
-use Rattle.term_types.specs.Kinding.{LacksKind, LacksKindUpTo}
+use Rattle.term_types.specs.Kinding.{LacksKind, LacksKindUpTo, IsSettled}
 use Rattle.term_types.specs.Forms.{Takes, TakesNot, TakesType, TakesTypeNot, function_parts as parts_of_function, bound_parts as parts_of_bound}
 use Rattle.term_types.specs.declared.found.Found.{Found}
+use Rattle.found_types.proofs.FoundTyped.{found_is_type}
 use Rattle.term_types.proofs.Ready.{one, kinded}
 
 pub function_is : (t a b : TypeTree) → Some (a, b) ≡ parts_of_function t → t ≡ fun a b
@@ -87,28 +89,28 @@ applied_none e [] h = h
 applied_none e (OfTerm a ∷ args) h = applied_none (app e a) args (λ t d. h _ (app_parts d).head)
 applied_none e (OfType a ∷ args) h = applied_none (ty_app e a) args (λ t d. h _ (ty_app_parts d).head)
 
-pub app_typed : {s : Setting} {kinds : List Kind} {vars : List TypeTree} {f e : TermTree} (fun_found : Found) (c : TypeTree) (r : Found) → IsTyped s kinds vars f fun_found → HasType s kinds vars e c → Takes fun_found c r → IsTyped s kinds vars (app f e) r
+pub app_typed : {s : Setting} {kinds : List Kind} {vars : List TypeTree} {f e : TermTree} (fun_found : Found) (c : TypeTree) (r : Found) → IsTyped s kinds vars f fun_found → Finds s kinds vars e c → Takes fun_found c r → IsTyped s kinds vars (app f e) r
 app_typed {s} {kinds} {vars} {f} g c r d a t = (
-  h_app (subst (HasType s kinds vars f) t.is d.0) a t.same,
+  f_app (subst (Finds s kinds vars f) t.is d.0) a t.same,
   let parts = function_parts (subst (λ w. HasKind s kinds w g.kind) t.is d.1) in subst (HasKind s kinds r.ty) (sym t.kind) parts.2,
 )
 
-pub app_untyped : {s : Setting} {kinds : List Kind} {vars : List TypeTree} {f e : TermTree} (g : Found) (c : TypeTree) → IsReady s kinds vars → IsTyped s kinds vars f g → HasType s kinds vars e c → TakesNot g.ty c → HasNoType s kinds vars (app f e)
+pub app_untyped : {s : Setting} {kinds : List Kind} {vars : List TypeTree} {f e : TermTree} (g : Found) (c : TypeTree) → IsReady s kinds vars → IsTyped s kinds vars f g → Finds s kinds vars e c → TakesNot g.ty c → HasNoType s kinds vars (app f e)
 app_untyped g c h d a never t other =
     let parts = app_parts other in
-    let at = as_function (one h parts.head d.0) in
-    never at.0 at.1 at.2 (same_through (same_turned at.3) (same_through parts.same (one h parts.typed a)))
+    let at = as_function (one h parts.head (found_is_type d.0)) in
+    never at.0 at.1 at.2 (same_through (same_turned at.3) (same_through parts.same (one h parts.typed (found_is_type a))))
 
 pub app_argument_untyped : {s : Setting} {kinds : List Kind} {vars : List TypeTree} {f e : TermTree} → HasNoType s kinds vars e → HasNoType s kinds vars (app f e)
 app_argument_untyped never t d = let parts = app_parts d in never parts.arg parts.typed
 
 pub ty_app_typed : {s : Setting} {kinds : List Kind} {vars : List TypeTree} {f : TermTree} (g : Found) (a : TypeTree) (r : Found) → IsTyped s kinds vars f g → TakesType s kinds g.ty a r → IsTyped s kinds vars (ty_app f a) r
-ty_app_typed {s} {kinds} {vars} {f} g a r d t = (h_ty_app (subst (HasType s kinds vars f) t.is d.0) t.kind t.same t.kinded, t.kinded)
+ty_app_typed {s} {kinds} {vars} {f} g a r d t = (f_ty_app (subst (Finds s kinds vars f) t.is d.0) t.kind t.settled t.kinded, t.kinded)
 
 pub ty_app_untyped : {s : Setting} {kinds : List Kind} {vars : List TypeTree} {f : TermTree} (g : Found) (a : TypeTree) → IsReady s kinds vars → IsTyped s kinds vars f g → TakesTypeNot s kinds g.ty a → HasNoType s kinds vars (ty_app f a)
 ty_app_untyped {s} {kinds} g a h d never u other =
     let parts = ty_app_parts other in
-    let at = as_bound (one h parts.head d.0) in
+    let at = as_bound (one h parts.head (found_is_type d.0)) in
     let left = bound_part (subst (λ w. HasKind s kinds w g.kind) at.1 d.1) in
     let right = bound_part (kinded h parts.head).has in
     let of = are_of_terms s h.0 in
@@ -148,13 +150,13 @@ type_of_other s kinds t arg of j k is d differ i m of' u h is' d' same e =
     let asked : i ≡ k = cc in
     kinds_differ j k differ (one_kind d d' ∙ asked)
 
-pub type_told : (s : Setting) (kinds : List Kind) (t arg of put_in : TypeTree) (j k : Kind) (r : Option Found) → t ≡ for_all k of → HasKind s kinds arg j → same_kind j k ≡ true → put_in ≡ put of 0 arg → MatchOption r (LacksKindUpTo s kinds put_in) (λ f. SameTypes put_in f.ty × HasKind s kinds f.ty f.kind) → MatchOption r (TakesTypeNot s kinds t arg) (λ f. TakesType s kinds t arg f)
+pub type_told : (s : Setting) (kinds : List Kind) (t arg of put_in : TypeTree) (j k : Kind) (r : Option Found) → t ≡ for_all k of → HasKind s kinds arg j → same_kind j k ≡ true → put_in ≡ put of 0 arg → MatchOption r (LacksKindUpTo s kinds put_in) (λ f. IsSettled s kinds put_in f) → MatchOption r (TakesTypeNot s kinds t arg) (λ f. TakesType s kinds t arg f)
 type_told s kinds t arg of put_in j k (Some f) is d same e h = record {
   j = k;
   of = of;
   is = is;
   kind = subst (HasKind s kinds arg) (kinds_are j k same) d;
-  same = subst (λ x. SameTypes x f.ty) e h.0;
+  settled = subst (λ x. settled s kinds x ≡ f.ty) e h.0;
   kinded = h.1;
 }
 type_told s kinds t arg of put_in j k None is d same e never = λ i m of' u h is' d' same' l.

@@ -31,9 +31,11 @@ use Rattle.chw_typing.proofs.Lists.{found_in_map}
 use Rattle.chw_typing.proofs.Patterns.{are_of_terms, fields_typed, constructor_arguments}
 use Rattle.chw_typing.proofs.PutKinds.{same_kind_put}
 use Rattle.chw_typing.proofs.SameScopes.{same_at}
-use Rattle.term_types.specs.Binding.{BindsNothing, IsLiteralOf, AreSettled, NoneSettled, is_looked_at}
+use Rattle.found_types.specs.Finding.{settled}
+use Rattle.term_types.specs.Binding.{BindsFound, BindsNothing, IsLiteralOf, AreSettled, NoneSettled, is_looked_at}
 use Rattle.term_types.specs.Kinding.{LacksKindUpTo}
 use Rattle.term_types.proofs.EachItem.{next_taken}
+use Rattle.found_types.proofs.Settling.{same_settled, all_same_settled}
 use Rattle.term_types.proofs.VarsFound.{read_at}
 
 pub looked_found : (t : TypeTree) → is_looked_at t ≡ true → IsLookedAt t
@@ -63,13 +65,13 @@ looked_none (signal d t) e h = h
 looked_none (for_all k t) e h = h
 
 -- a default is for all, and binds nothing
-pub default_binds : (s : Setting) (kinds : List Kind) (u : TypeTree) → Binds s kinds u Default []
-default_binds s kinds u = record { fields = []; pattern = of_any; same = tt; typed = tt }
+pub default_binds : (s : Setting) (kinds : List Kind) (u : TypeTree) → BindsFound s kinds u Default []
+default_binds s kinds u = record { fields = []; pattern = of_any; are = refl; typed = tt }
 
-pub literal_binds : (s : Setting) (kinds : List Kind) (u : TypeTree) (r : Scalar) (bits : List Bool) → IsLiteralOf u r bits → Binds s kinds u (OfLit r bits) []
+pub literal_binds : (s : Setting) (kinds : List Kind) (u : TypeTree) (r : Scalar) (bits : List Bool) → IsLiteralOf u r bits → BindsFound s kinds u (OfLit r bits) []
 literal_binds s kinds u r bits h =
     let at = as_scalar (same_turned h.1) in
-    record { fields = []; pattern = subst (λ t. PatternOf s.datas t (OfLit r bits) []) (sym at.1) (of_lit h.0 (same_turned at.2)); same = tt; typed = tt }
+    record { fields = []; pattern = subst (λ t. PatternOf s.datas t (OfLit r bits) []) (sym at.1) (of_lit h.0 (same_turned at.2)); are = refl; typed = tt }
 
 literal_of : {datas : List Data} {u : TypeTree} {q : Pattern} {fs : List TypeTree} (r : Scalar) (bits : List Bool) → q ≡ OfLit r bits → PatternOf datas u q fs → IsLiteralOf u r bits
 literal_of r bits e (of_lit {s = s} {w = w} {bits = b} l x) =
@@ -132,43 +134,43 @@ con_unsettled s kinds u c n it args h e is never bound b =
     let k = typed_at s kinds bound never.0 at.0 b.typed at.1 in
     never.3 at.0 k.kind (are_of_terms s h) at.2 k.has
 
-settled_same : (s : Setting) (kinds : List Kind) (fs args bound : List TypeTree) → AreSettled s kinds fs args bound → AreSame (map (λ f. sub f (arguments (trees_of args))) fs) bound
-settled_same s kinds [] args [] h = tt
-settled_same s kinds (f ∷ fs) args (t ∷ bound) h = (h.0.0, settled_same s kinds fs args bound h.1)
-settled_same s kinds [] args (t ∷ bound) h = absurd h
-settled_same s kinds (f ∷ fs) args [] h = absurd h
+settled_are : (s : Setting) (kinds : List Kind) (fs args bound : List TypeTree) → AreSettled s kinds fs args bound → map (λ a. settled s kinds a) (map (λ f. sub f (arguments (trees_of args))) fs) ≡ bound
+settled_are s kinds [] args [] h = refl
+settled_are s kinds (f ∷ fs) args (t ∷ bound) h = λ i. h.0.0 i ∷ settled_are s kinds fs args bound h.1 i
+settled_are s kinds [] args (t ∷ bound) h = absurd h
+settled_are s kinds (f ∷ fs) args [] h = absurd h
 
 settled_typed : (s : Setting) (kinds params : List Kind) (fs args bound : List TypeTree) → ((i : ℕ) (f : TypeTree) → slice_get fs i ≡ Some f → IsTermType s (reverse params) f) → KindsOf s.datas s.domains kinds (trees_of args) params → AreSettled s kinds fs args bound → AreTermTypes s kinds bound
 settled_typed s kinds params [] args [] typed d h = tt
 settled_typed s kinds params (f ∷ fs) args (t ∷ bound) typed d h =
     let field = typed 0 f refl in
-    let is = same_kind_put field.has (arguments (trees_of args)) kinds (kinds_of_arguments s.datas s.domains kinds params (trees_of args) d) t h.0.1.0 h.0.0 h.0.1.1 in
+    let is = same_kind_put field.has (arguments (trees_of args)) kinds (kinds_of_arguments s.datas s.domains kinds params (trees_of args) d) t h.0.1.0 (subst (SameTypes (sub f (arguments (trees_of args)))) h.0.0 (same_settled s kinds (sub f (arguments (trees_of args))))) h.0.1.1 in
     (term_type s kinds t h.0.1.0 h.0.1.1 (subst IsOfTerms (sym is) field.of_terms), settled_typed s kinds params fs args bound (λ i g e. typed (suc i) g e) d h.1)
 settled_typed s kinds params [] args (t ∷ bound) typed d h = absurd h
 settled_typed s kinds params (f ∷ fs) args [] typed d h = absurd h
 
-pub con_binds : (s : Setting) (kinds : List Kind) (u : TypeTree) (c : ConId) (n : ℕ) (it : Constructor) (args bound : List TypeTree) (j : Kind) → IsSound s → HasKind s kinds u j → con_at s.datas c.number ≡ Some it → u ≡ data_of it.of (trees_of args) → length it.decl.fields ≡ n → AreSettled s kinds it.decl.fields args bound → Binds s kinds u (OfCon c n) bound
-con_binds s kinds u c n it args bound j h d e is names settled =
+pub con_binds : (s : Setting) (kinds : List Kind) (u : TypeTree) (c : ConId) (n : ℕ) (it : Constructor) (args bound : List TypeTree) (j : Kind) → IsSound s → HasKind s kinds u j → con_at s.datas c.number ≡ Some it → u ≡ data_of it.of (trees_of args) → length it.decl.fields ≡ n → AreSettled s kinds it.decl.fields args bound → BindsFound s kinds u (OfCon c n) bound
+con_binds s kinds u c n it args bound j h d e is names settled_each =
     let ts = trees_of args in
     let inner = constructor_arguments s kinds c.number it.of it ts j e refl (subst (λ w. HasKind s kinds w j) is d) in
     record {
       fields = fields_at it ts;
       pattern = subst (λ w. PatternOf s.datas w (OfCon c n) (fields_at it ts)) (sym is) (of_con it e refl names);
-      same = settled_same s kinds it.decl.fields args bound settled;
-      typed = settled_typed s kinds it.it.params it.decl.fields args bound (fields_typed s c.number it h e) inner settled;
+      are = settled_are s kinds it.decl.fields args bound settled_each;
+      typed = settled_typed s kinds it.it.params it.decl.fields args bound (fields_typed s c.number it h e) inner settled_each;
     }
 
 -- one more field
-pub settled_next : (s : Setting) (kinds : List Kind) (fs args bound : List TypeTree) (f t : TypeTree) (k : Kind) → AreSettled s kinds fs args bound → SameTypes (sub f (arguments (trees_of args))) t → HasKind s kinds t k → AreSettled s kinds (fs ++ f ∷ []) args (bound ++ t ∷ [])
+pub settled_next : (s : Setting) (kinds : List Kind) (fs args bound : List TypeTree) (f t : TypeTree) (k : Kind) → AreSettled s kinds fs args bound → settled s kinds (sub f (arguments (trees_of args))) ≡ t → HasKind s kinds t k → AreSettled s kinds (fs ++ f ∷ []) args (bound ++ t ∷ [])
 settled_next s kinds [] args [] f t k h same d = ((same, (k, d)), tt)
 settled_next s kinds (g ∷ fs) args (u ∷ bound) f t k h same d = (h.0, settled_next s kinds fs args bound f t k h.1 same d)
 settled_next s kinds [] args (u ∷ bound) f t k h same d = absurd h
 settled_next s kinds (g ∷ fs) args [] f t k h same d = absurd h
 
-pub settled_more : (s : Setting) (kinds : List Kind) (fs args bound more : List TypeTree) (i : ℕ) (f d t u : TypeTree) (k : Kind) → i < length fs → f ≡ get_or fs i d → u ≡ sub f (arguments (trees_of args)) → SameTypes u t × HasKind s kinds t k → more ≡ bound ++ t ∷ [] → AreSettled s kinds (take i fs) args bound → AreSettled s kinds (take (i + 1) fs) args more
-settled_more s kinds fs args bound more i f d t u k l is put h e settled =
+pub settled_more : (s : Setting) (kinds : List Kind) (fs args bound more : List TypeTree) (i : ℕ) (f d t u : TypeTree) (k : Kind) → i < length fs → f ≡ get_or fs i d → u ≡ sub f (arguments (trees_of args)) → (settled s kinds u ≡ t) × HasKind s kinds t k → more ≡ bound ++ t ∷ [] → AreSettled s kinds (take i fs) args bound → AreSettled s kinds (take (i + 1) fs) args more
+settled_more s kinds fs args bound more i f d t u k l is put h e so_far =
     subst (λ xs. AreSettled s kinds xs args more) (sym (next_taken fs i f d l is))
-    (subst (AreSettled s kinds (take i fs ++ f ∷ []) args) (sym e) (settled_next s kinds (take i fs) args bound f t k settled (subst (λ x. SameTypes x t) put h.0) h.1))
+    (subst (AreSettled s kinds (take i fs ++ f ∷ []) args) (sym e) (settled_next s kinds (take i fs) args bound f t k so_far (subst (λ x. settled s kinds x ≡ t) put h.0) h.1))
 
 pub settled_all : (s : Setting) (kinds : List Kind) (fs args bound : List TypeTree) (i : ℕ) → length fs ≤ i → AreSettled s kinds (take i fs) args bound → AreSettled s kinds fs args bound
 settled_all s kinds fs args bound i l h = subst (λ xs. AreSettled s kinds xs args bound) (take_all i fs l) h
@@ -176,9 +178,13 @@ settled_all s kinds fs args bound i l h = subst (λ xs. AreSettled s kinds xs ar
 pub unsettled_at : (s : Setting) (kinds : List Kind) (fs args : List TypeTree) (i : ℕ) (f d u : TypeTree) → i < length fs → f ≡ get_or fs i d → u ≡ sub f (arguments (trees_of args)) → LacksKindUpTo s kinds u → NoneSettled s kinds fs args
 unsettled_at s kinds fs args i f d u l is put never = (i, f, read_at fs i f d l is, subst (LacksKindUpTo s kinds) put never)
 
+-- what is bound is a binding
+pub binds : {s : Setting} {kinds : List Kind} {u : TypeTree} {q : Pattern} {bound : List TypeTree} → BindsFound s kinds u q bound → Binds s kinds u q bound
+binds {s} {kinds} b = record { fields = b.fields; pattern = b.pattern; same = subst (AreSame b.fields) b.are (all_same_settled s kinds b.fields); typed = b.typed }
+
 -- what a constructor's pattern binds, by what its fields are found to be
-pub fields_told : (s : Setting) (kinds : List Kind) (u : TypeTree) (c : ConId) (n : ℕ) (it : Constructor) (args : List TypeTree) (j : Kind) (r : Option (Vec TypeTree Global)) → IsSound s → HasKind s kinds u j → con_at s.datas c.number ≡ Some it → u ≡ data_of it.of (trees_of args) → length it.decl.fields ≡ n → MatchOption r (NoneSettled s kinds it.decl.fields args) (λ b. AreSettled s kinds it.decl.fields args b.items) → MatchOption r (BindsNothing s kinds u (OfCon c n)) (λ b. Binds s kinds u (OfCon c n) b.items)
-fields_told s kinds u c n it args j (Some b) h d e is names settled = con_binds s kinds u c n it args b.items j h d e is names settled
+pub fields_told : (s : Setting) (kinds : List Kind) (u : TypeTree) (c : ConId) (n : ℕ) (it : Constructor) (args : List TypeTree) (j : Kind) (r : Option (Vec TypeTree Global)) → IsSound s → HasKind s kinds u j → con_at s.datas c.number ≡ Some it → u ≡ data_of it.of (trees_of args) → length it.decl.fields ≡ n → MatchOption r (NoneSettled s kinds it.decl.fields args) (λ b. AreSettled s kinds it.decl.fields args b.items) → MatchOption r (BindsNothing s kinds u (OfCon c n)) (λ b. BindsFound s kinds u (OfCon c n) b.items)
+fields_told s kinds u c n it args j (Some b) h d e is names each = con_binds s kinds u c n it args b.items j h d e is names each
 fields_told s kinds u c n it args j None h d e is names none = con_unsettled s kinds u c n it args h e is none
 
 pub literal_same : (u t : TypeTree) (r : Scalar) (bits : List Bool) (b : Bool) → (length bits ≤ widest) × (t ≡ literal_type r bits) → (IsTrue b ↔ SameTypes u t) → (IsTrue b ↔ IsLiteralOf u r bits)

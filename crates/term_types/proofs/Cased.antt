@@ -18,10 +18,14 @@ use Rattle.chw_typing.specs.Typing.{Binds, HasType, h_case, AllGive, none_give, 
 use Rattle.chw_typing.proofs.OneType.{one_type}
 use Rattle.chw_typing.proofs.Patterns.{binds_same, one_binding, looked_at_same}
 use Rattle.chw_typing.proofs.SameScopes.{are_same_self, same_more}
+use Rattle.found_types.specs.Finding.{f_case}
 use Rattle.term_types.specs.Answers.{HasNoType, IsTyped, IsAnswer, IsReady}
+use Rattle.term_types.specs.Binding.{BindsFound}
 use Rattle.term_types.specs.Cases.{Gives, GivesNothing, GiveTogether, IsJoined}
 use Rattle.term_types.specs.declared.found.Found.{Found}
+use Rattle.term_types.proofs.Bound.{binds}
 use Rattle.term_types.proofs.EachItem.{next_taken}
+use Rattle.found_types.proofs.FoundTyped.{found_is_type}
 use Rattle.term_types.proofs.Ready.{one, kept, ready_more}
 
 -- what a derivation for a case says of one alternative
@@ -98,7 +102,7 @@ pub case_on : {s : Setting} {kinds : List Kind} {vars : List TypeTree} {e : Term
 case_on alts never t d = let p = case_at alts d in never p.on p.head
 
 pub case_looked : {s : Setting} {kinds : List Kind} {vars : List TypeTree} {e : TermTree} (alts : List Alt) (on : Found) → IsReady s kinds vars → IsTyped s kinds vars e on → (IsLookedAt on.ty → ⊥) → HasNoType s kinds vars (case_of e (alts_of alts))
-case_looked alts on h d never t other = let p = case_at alts other in never (looked_at_same p.on on.ty p.looked (one h p.head d.0))
+case_looked alts on h d never t other = let p = case_at alts other in never (looked_at_same p.on on.ty p.looked (one h p.head (found_is_type d.0)))
 
 pub case_hidden : {s : Setting} {kinds : List Kind} {vars : List TypeTree} {e : TermTree} (alts : List Alt) → (NoneHidden (alts_of alts) → ⊥) → HasNoType s kinds vars (case_of e (alts_of alts))
 case_hidden alts never t d = never (case_at alts d).hidden
@@ -111,16 +115,16 @@ pub case_alt : {s : Setting} {kinds : List Kind} {vars : List TypeTree} {e : Ter
 case_alt alts on i a b h d l is never t other =
     let p = case_at alts other in
     let at = p.each i a b l is in
-    never at.bound at.given (binds_same at.binds h.0 p.j on.ty p.kind (one h p.head d.0)) at.body
+    never at.bound at.given (binds_same at.binds h.0 p.j on.ty p.kind (one h p.head (found_is_type d.0))) at.body
 
 -- an alternative's type is the same, whatever was found first
 alt_type : {s : Setting} {kinds : List Kind} {vars : List TypeTree} {e : TermTree} {t : TypeTree} (alts : List Alt) (on : Found) (i : ℕ) (a d : Alt) (f : Found) → IsReady s kinds vars → IsTyped s kinds vars e on → i < length alts → a ≡ get_or alts i d → Gives s kinds vars on.ty a f → CaseAt s kinds vars e alts t → SameTypes t f.ty
 alt_type {s} {kinds} {vars} alts on i a b f h d l is g p =
     let at = p.each i a b l is in
-    let bound = one_binding at.binds g.binds h.0 p.j p.kind (one h p.head d.0) in
+    let bound = one_binding at.binds (binds g.binds) h.0 p.j p.kind (one h p.head (found_is_type d.0)) in
     let left = ready_more s kinds vars at.bound h at.binds.typed in
     let right = ready_more s kinds vars g.bound h g.binds.typed in
-    same_through at.same (one_type at.body g.typed.0 h.0 left.1 right.1 (same_more at.bound g.bound vars vars bound (are_same_self vars)))
+    same_through at.same (one_type at.body (found_is_type g.typed.0) h.0 left.1 right.1 (same_more at.bound g.bound vars vars bound (are_same_self vars)))
 
 -- two alternatives of different types
 pub case_differs : {s : Setting} {kinds : List Kind} {vars : List TypeTree} {e : TermTree} (alts : List Alt) (on : Found) (i : ℕ) (b d : Alt) (f g : Found) → IsReady s kinds vars → IsTyped s kinds vars e on → (0 < length alts) × Gives s kinds vars on.ty (get_or alts 0 d) f → i < length alts → b ≡ get_or alts i d → Gives s kinds vars on.ty b g → (SameTypes f.ty g.ty → ⊥) → HasNoType s kinds vars (case_of e (alts_of alts))
@@ -132,7 +136,7 @@ case_differs alts on i b d f g h t first m at y never w other =
 pub case_kinds : {s : Setting} {kinds : List Kind} {vars : List TypeTree} {e : TermTree} (alts : List Alt) (on : Found) (i : ℕ) (a d : Alt) (f : Found) → IsReady s kinds vars → IsTyped s kinds vars e on → i < length alts → a ≡ get_or alts i d → Gives s kinds vars on.ty a f → (HasFunctions on.kind f.kind → ⊥) → HasNoType s kinds vars (case_of e (alts_of alts))
 case_kinds alts on i a b f h d l is g never t other =
     let p = case_at alts other in
-    let from : p.j ≡ on.kind = same_kind (one h p.head d.0) p.kind d.1 in
+    let from : p.j ≡ on.kind = same_kind (one h p.head (found_is_type d.0)) p.kind d.1 in
     let to : p.k ≡ f.kind = same_kind (alt_type alts on i a b f h d l is g p) p.result g.typed.1 in
     never (subst (HasFunctions on.kind) to (subst (λ j. HasFunctions j p.k) from p.goes))
 
@@ -151,7 +155,7 @@ give_last {s} {kinds} {vars} u t (b ∷ more) a h g =
 
 next_together : {s : Setting} {kinds : List Kind} {vars : List TypeTree} (on : Found) (xs : List Alt) (a : Alt) (f g : Found) → GiveTogether s kinds vars on xs (Some f) → Gives s kinds vars on.ty a g → SameTypes f.ty g.ty → GiveTogether s kinds vars on (xs ++ a ∷ []) (Some f)
 next_together on [] a f g h x e = absurd h
-next_together on (b ∷ more) a f g h x e = (h.0, h.1, give_last on.ty f.ty more a h.2 (record { bound = x.bound; given = g.ty; binds = x.binds; body = x.typed.0; same = e }))
+next_together on (b ∷ more) a f g h x e = (h.0, h.1, give_last on.ty f.ty more a h.2 (record { bound = x.bound; given = g.ty; binds = binds x.binds; body = found_is_type x.typed.0; same = e }))
 
 pub together_next : {s : Setting} {kinds : List Kind} {vars : List TypeTree} (on : Found) (alts : List Alt) (i : ℕ) (a d : Alt) (f g : Found) → i < length alts → a ≡ get_or alts i d → GiveTogether s kinds vars on (take i alts) (Some f) → Gives s kinds vars on.ty a g → SameTypes f.ty g.ty → GiveTogether s kinds vars on (take (i + 1) alts) (Some f)
 together_next {s} {kinds} {vars} on alts i a d f g l is h x e =
@@ -171,7 +175,7 @@ together_none on (a ∷ more) h = absurd h
 
 pub together_typed : {s : Setting} {kinds : List Kind} {vars : List TypeTree} (on : Found) {e : TermTree} (alts : List Alt) (f : Found) → GiveTogether s kinds vars on alts (Some f) → IsTyped s kinds vars e on → IsLookedAt on.ty → NoneHidden (alts_of alts) → IsTyped s kinds vars (case_of e (alts_of alts)) f
 together_typed on [] f h d l n = absurd h
-together_typed on (a ∷ more) f h d l n = (h_case d.0 l d.1 h.0.binds h.0.typed.0 h.0.typed.1 h.1 h.2 n, h.0.typed.1)
+together_typed on (a ∷ more) f h d l n = (f_case d.0 l d.1 h.0.binds.pattern h.0.binds.are h.0.binds.typed h.0.typed.0 h.0.typed.1 h.1 h.2 n, h.0.typed.1)
 
 -- one more that is joined with those so far
 pub joined_next : {s : Setting} {kinds : List Kind} {vars : List TypeTree} (on : Found) (alts : List Alt) (i : ℕ) (a d : Alt) (given : Option Found) (next f : Found) → i < length alts → a ≡ get_or alts i d → GiveTogether s kinds vars on (take i alts) given → Gives s kinds vars on.ty a next → IsJoined on given next (Some f) → GiveTogether s kinds vars on (take (i + 1) alts) (Some f)
@@ -196,9 +200,9 @@ nothing_joined on given next None never h = h
 nothing_joined on given next (Some f) never h = absurd (never f refl)
 
 -- what an alternative gives, by what its body is found to have
-pub gives_told : (s : Setting) (kinds : List Kind) (vars : List TypeTree) (u : TypeTree) (a : Alt) (bound : List TypeTree) (j : Kind) (r : Option Found) → IsReady s kinds vars → HasKind s kinds u j → Binds s kinds u a.pattern bound → IsAnswer s kinds (with_more bound vars) a.body r → MatchOption r (GivesNothing s kinds vars u a) (λ f. Gives s kinds vars u a f)
+pub gives_told : (s : Setting) (kinds : List Kind) (vars : List TypeTree) (u : TypeTree) (a : Alt) (bound : List TypeTree) (j : Kind) (r : Option Found) → IsReady s kinds vars → HasKind s kinds u j → BindsFound s kinds u a.pattern bound → IsAnswer s kinds (with_more bound vars) a.body r → MatchOption r (GivesNothing s kinds vars u a) (λ f. Gives s kinds vars u a f)
 gives_told s kinds vars u a bound j (Some f) h k b t = record { bound = bound; binds = b; typed = t }
 gives_told s kinds vars u a bound j None h k b never = λ other t c d.
-    let same = one_binding c b h.0 j k (same_self u) in
+    let same = one_binding c (binds b) h.0 j k (same_self u) in
     let up = kept (ready_more s kinds vars other h c.typed) (ready_more s kinds vars bound h b.typed) (same_more other bound vars vars same (are_same_self vars)) d in
     never up.type up.has

@@ -9,10 +9,12 @@ use Rattle.type_laws.proofs.OneKind.{same_kind}
 use Rattle.chw_terms.specs.TermTree.{TermTree, lam, ty_lam}
 use Rattle.chw_typing.specs.Scopes.{Setting, HasKind, IsTermType, under_binder}
 use Rattle.chw_typing.specs.Typing.{HasType, h_lam, h_ty_lam}
+use Rattle.found_types.specs.Finding.{Finds, f_lam, f_ty_lam}
 use Rattle.chw_typing.proofs.Kinded.{term_type, function_parts, function_takes}
 use Rattle.term_types.specs.Answers.{HasNoType, IsTyped, IsReady}
 use Rattle.term_types.specs.Kinding.{has_functions}
 use Rattle.term_types.specs.declared.found.Found.{Found}
+use Rattle.found_types.proofs.FoundTyped.{found_is_type}
 use Rattle.term_types.proofs.Ready.{one, of_terms}
 
 pub functions_found : (j k : Kind) → has_functions j k ≡ true → HasFunctions j k
@@ -55,7 +57,7 @@ lam_ready s kinds vars a j h g = (h.0, (term_type s kinds a j g.0 g.1, h.1))
 pub lam_typed : {s : Setting} {kinds : List Kind} {vars : List TypeTree} {e : TermTree} (a : TypeTree) (j : Kind) (f r : Found) → HasKind s kinds a j → IsTyped s kinds (a ∷ vars) e f → has_functions j f.kind ≡ true → r.ty ≡ fun a f.ty → r.kind ≡ f.kind → IsTyped s kinds vars (lam a e) r
 lam_typed {s} {kinds} {vars} {e} a j f r d t g is same =
     let whole : HasKind s kinds (fun a f.ty) f.kind = kind_fun d t.1 (functions_found j f.kind g) in
-    (subst (HasType s kinds vars (lam a e)) (sym is) (h_lam t.0 whole), subst (λ k. HasKind s kinds r.ty k) (sym same) (subst (λ w. HasKind s kinds w f.kind) (sym is) whole))
+    (subst (Finds s kinds vars (lam a e)) (sym is) (f_lam t.0 whole), subst (λ k. HasKind s kinds r.ty k) (sym same) (subst (λ w. HasKind s kinds w f.kind) (sym is) whole))
 
 pub lam_parameter : {s : Setting} {kinds : List Kind} {vars : List TypeTree} {e : TermTree} (a : TypeTree) → (IsTermType s kinds a → ⊥) → HasNoType s kinds vars (lam a e)
 lam_parameter {s} {kinds} a never t d = let p = lam_parts d in never (function_takes s kinds a p.to p.k p.kind)
@@ -68,7 +70,7 @@ lam_kinds a j f h d b never t other =
     let p = lam_parts other in
     let q = function_parts p.kind in
     let from : q.0 ≡ j = one_kind q.1 d in
-    let to : p.k ≡ f.kind = same_kind (one h p.body b.0) q.2 b.1 in
+    let to : p.k ≡ f.kind = same_kind (one h p.body (found_is_type b.0)) q.2 b.1 in
     functions_none j f.kind never (subst (HasFunctions j) to (subst (λ i. HasFunctions i p.k) from q.3))
 
 pub record TyLamParts (s : Setting) (kinds : List Kind) (vars : List TypeTree) (j : Kind) (e : TermTree) (t : TypeTree) : Type 0 where
@@ -82,7 +84,7 @@ ty_lam_parts (h_ty_lam {t = t} d) = record { of = t; is = refl; body = d }
 pub ty_lam_typed : {s : Setting} {kinds : List Kind} {vars : List TypeTree} {e : TermTree} (j : Kind) (f r : Found) → IsReady s (j ∷ kinds) (under_binder vars) → IsTyped s (j ∷ kinds) (under_binder vars) e f → r.ty ≡ for_all j f.ty → r.kind ≡ f.kind → IsTyped s kinds vars (ty_lam j e) r
 ty_lam_typed {s} {kinds} {vars} {e} j f r h t is same =
     let whole : HasKind s kinds (for_all j f.ty) f.kind = kind_for_all t.1 (of_terms f h t) in
-    (subst (HasType s kinds vars (ty_lam j e)) (sym is) (h_ty_lam t.0), subst (λ k. HasKind s kinds r.ty k) (sym same) (subst (λ w. HasKind s kinds w f.kind) (sym is) whole))
+    (subst (Finds s kinds vars (ty_lam j e)) (sym is) (f_ty_lam t.0), subst (λ k. HasKind s kinds r.ty k) (sym same) (subst (λ w. HasKind s kinds w f.kind) (sym is) whole))
 
 pub ty_lam_body : {s : Setting} {kinds : List Kind} {vars : List TypeTree} {e : TermTree} (j : Kind) → HasNoType s (j ∷ kinds) (under_binder vars) e → HasNoType s kinds vars (ty_lam j e)
 ty_lam_body j never t d = let p = ty_lam_parts d in never p.of p.body

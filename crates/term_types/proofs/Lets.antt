@@ -13,12 +13,14 @@ use Rattle.chw_terms.specs.TermView.{group_of, terms_of}
 use Rattle.chw_typing.specs.Scopes.{Setting, HasKind, IsTermType, AreTermTypes, with_more, declared}
 use Rattle.chw_typing.specs.Typing.{count, HasType, HasTypeUpTo, h_letrec, h_vec, AreBound, none_bound, bound_and, AllHave, none_have, have_and}
 use Rattle.chw_typing.proofs.Kinded.{term_type, typed_append, bound_typed}
+use Rattle.found_types.specs.Finding.{Finds, f_letrec, f_vec}
 use Rattle.term_types.specs.Answers.{HasNoType, IsTyped, IsReady}
 use Rattle.term_types.specs.Each.{Each}
 use Rattle.term_types.specs.Groups.{AreOfTerms, NotAllOfTerms, GoesWith, GoWith, IsGroupKind, HaveTheirTypes, together}
 use Rattle.term_types.specs.Kinding.{has_functions}
 use Rattle.term_types.specs.declared.found.Found.{Found}
 use Rattle.term_types.proofs.EachItem.{each_append, next_taken}
+use Rattle.found_types.proofs.FoundTyped.{found_is_type}
 use Rattle.term_types.proofs.Lambdas.{functions_found, functions_none}
 use Rattle.term_types.proofs.Ready.{one, of_terms}
 use Rattle.term_types.proofs.VarsFound.{types_of}
@@ -63,7 +65,7 @@ let_parts {s} {kinds} {vars} bs {g} {e} {t} is (h_letrec {k = k} d l b) =
 pub let_typed : {s : Setting} {kinds : List Kind} {vars : List TypeTree} {e : TermTree} (bs : List Binding) (all : Kind) (f : Found) → IsGroupKind s kinds bs all → IsTyped s kinds (with_more (types_of bs) vars) e f → has_functions all f.kind ≡ true → HaveTheirTypes s kinds (with_more (types_of bs) vars) bs → IsTyped s kinds vars (letrec (group_of bs) e) f
 let_typed {s} {kinds} {vars} {e} bs all f g d goes have =
     let at = sym (declared_of bs) in (
-      h_letrec (subst (λ ts. HasType s kinds (with_more ts vars) e f.ty) at d.0) d.1
+      f_letrec (subst (λ ts. Finds s kinds (with_more ts vars) e f.ty) at d.0) d.1
           (subst (λ ts. AreBound s kinds (with_more ts vars) f.kind (group_of bs)) at (all_bound f.kind bs (g.go f.kind (functions_found all f.kind goes)) have)),
       d.1,
     )
@@ -77,7 +79,7 @@ let_body bs never t d = never t (let_parts bs refl d).body
 pub let_kind : {s : Setting} {kinds : List Kind} {vars : List TypeTree} {e : TermTree} (bs : List Binding) (all : Kind) (f : Found) → IsReady s kinds (with_more (types_of bs) vars) → IsGroupKind s kinds bs all → IsTyped s kinds (with_more (types_of bs) vars) e f → has_functions all f.kind ≡ false → HasNoType s kinds vars (letrec (group_of bs) e)
 let_kind {s} {kinds} bs all f h g d never t other =
     let p = let_parts bs refl other in
-    let same : p.k ≡ f.kind = same_kind (one h p.body d.0) p.kind d.1 in
+    let same : p.k ≡ f.kind = same_kind (one h p.body (found_is_type d.0)) p.kind d.1 in
     functions_none all f.kind never (g.goes f.kind (of_terms f h d) (subst (λ k. GoWith s kinds k bs) same p.go))
 
 pub let_types : {s : Setting} {kinds : List Kind} {vars : List TypeTree} {e : TermTree} (bs : List Binding) → (HaveTheirTypes s kinds (with_more (types_of bs) vars) bs → ⊥) → HasNoType s kinds vars (letrec (group_of bs) e)
@@ -180,6 +182,6 @@ vec_elements t es never u d = never (all_have es (vec_parts d).1)
 pub vec_typed : {s : Setting} {kinds : List Kind} {vars : List TypeTree} (t : TypeTree) (k : Kind) (es : List TermTree) (n : ℕ) (r : Found) → HasKind s kinds t k × IsOfTerms k → Each (λ e. HasTypeUpTo s kinds vars e t) es → n ≡ length es → r.ty ≡ vector (nat_lit n) t → r.kind ≡ k → IsTyped s kinds vars (vec_lit t (terms_of es)) r
 vec_typed {s} {kinds} {vars} t k es n r d h l is same =
     let at : vector (nat_lit (count (terms_of es))) t ≡ r.ty = ap (λ m. vector (nat_lit m) t) (count_of es ∙ sym l) ∙ sym is in (
-      subst (HasType s kinds vars (vec_lit t (terms_of es))) at (h_vec (term_type s kinds t k d.0 d.1) (have_all t es h)),
+      subst (Finds s kinds vars (vec_lit t (terms_of es))) at (f_vec (term_type s kinds t k d.0 d.1) (have_all t es h)),
       subst (HasKind s kinds r.ty) (sym same) (subst (λ w. HasKind s kinds w k) (sym is) (kind_vector kind_nat d.0 d.1)),
     )

@@ -16,6 +16,7 @@ use Rattle.chw_terms.specs.Constructors.{Constructor, con_at}
 use Rattle.chw_typing.specs.Scopes.{Setting, HasKind}
 use Rattle.chw_typing.specs.HeadTypes.{con_type, widest, literal_type}
 use Rattle.chw_typing.specs.Typing.{HasType, h_var, h_global, h_made, h_con, h_prim, h_lit}
+use Rattle.found_types.specs.Finding.{Finds, f_var, f_global, f_made, f_con, f_prim, f_lit}
 use Rattle.term_types.specs.Answers.{HasNoType, IsTyped, IsAnswer, IsReady}
 use Rattle.term_types.specs.Kinding.{LacksKind, IsWithKind}
 use Rattle.term_types.specs.declared.found.Found.{Found}
@@ -33,8 +34,8 @@ missing_in_map f (a ∷ xs) (suc x) e = missing_in_map f xs x e
 found_is : {A : Type 0} (xs : List A) (x : ℕ) (a b : A) → slice_get xs x ≡ Some a → slice_get xs x ≡ Some b → b ≡ a
 found_is xs x a b e f = cc
 
-pub typed_as : {s : Setting} {kinds : List Kind} {vars : List TypeTree} {e : TermTree} (t : TypeTree) (f : Found) → HasType s kinds vars e t → IsWithKind s kinds t f → IsTyped s kinds vars e f
-typed_as {s} {kinds} {vars} {e} t f d w = (subst (HasType s kinds vars e) (sym w.0) d, subst (λ u. HasKind s kinds u f.kind) (sym w.0) w.1)
+pub typed_as : {s : Setting} {kinds : List Kind} {vars : List TypeTree} {e : TermTree} (t : TypeTree) (f : Found) → Finds s kinds vars e t → IsWithKind s kinds t f → IsTyped s kinds vars e f
+typed_as {s} {kinds} {vars} {e} t f d w = (subst (Finds s kinds vars e) (sym w.0) d, subst (λ u. HasKind s kinds u f.kind) (sym w.0) w.1)
 
 var_at : {s : Setting} {kinds : List Kind} {vars : List TypeTree} {x : ℕ} {t : TypeTree} → HasType s kinds vars (var x) t → slice_get vars x ≡ Some t
 var_at (h_var e) = e
@@ -55,7 +56,7 @@ lit_is : {s : Setting} {kinds : List Kind} {vars : List TypeTree} {r : Scalar} {
 lit_is (h_lit l) = l
 
 pub var_typed : {s : Setting} {kinds : List Kind} {vars : List TypeTree} (x : ℕ) (t : TypeTree) (f : Found) → slice_get vars x ≡ Some t → IsWithKind s kinds t f → IsTyped s kinds vars (var x) f
-var_typed x t f e w = typed_as t f (h_var e) w
+var_typed x t f e w = typed_as t f (f_var e) w
 
 pub var_unkinded : {s : Setting} {kinds : List Kind} {vars : List TypeTree} (x : ℕ) (t : TypeTree) → IsReady s kinds vars → slice_get vars x ≡ Some t → LacksKind s kinds t → HasNoType s kinds vars (var x)
 var_unkinded {vars = vars} x t h e never = without_kind t h (λ u d. found_is vars x t u e (var_at d)) never
@@ -64,7 +65,7 @@ pub var_missing : {s : Setting} {kinds : List Kind} {vars : List TypeTree} (x : 
 var_missing x e t d = let f = var_at d in absurd (cc)
 
 pub global_typed : {s : Setting} {kinds : List Kind} {vars : List TypeTree} (x : ℕ) (t : TypeTree) (f : Found) → slice_get s.defs x ≡ Some t → IsWithKind s kinds t f → IsTyped s kinds vars (global x) f
-global_typed x t f e w = typed_as t f (h_global e) w
+global_typed x t f e w = typed_as t f (f_global e) w
 
 pub global_unkinded : {s : Setting} {kinds : List Kind} {vars : List TypeTree} (x : ℕ) (t : TypeTree) → IsReady s kinds vars → slice_get s.defs x ≡ Some t → LacksKind s kinds t → HasNoType s kinds vars (global x)
 global_unkinded {s} x t h e never = without_kind t h (λ u d. found_is s.defs x t u e (global_at d)) never
@@ -73,7 +74,7 @@ pub global_missing : {s : Setting} {kinds : List Kind} {vars : List TypeTree} (x
 global_missing x e t d = let f = global_at d in absurd (cc)
 
 pub made_typed : {s : Setting} {kinds : List Kind} {vars : List TypeTree} (x : ℕ) (t : TypeTree) (f : Found) → slice_get s.made x ≡ Some t → IsWithKind s kinds t f → IsTyped s kinds vars (made x) f
-made_typed x t f e w = typed_as t f (h_made e) w
+made_typed x t f e w = typed_as t f (f_made e) w
 
 pub made_unkinded : {s : Setting} {kinds : List Kind} {vars : List TypeTree} (x : ℕ) (t : TypeTree) → IsReady s kinds vars → slice_get s.made x ≡ Some t → LacksKind s kinds t → HasNoType s kinds vars (made x)
 made_unkinded {s} x t h e never = without_kind t h (λ u d. found_is s.made x t u e (made_at d)) never
@@ -82,7 +83,7 @@ pub made_missing : {s : Setting} {kinds : List Kind} {vars : List TypeTree} (x :
 made_missing x e t d = let f = made_at d in absurd (cc)
 
 pub con_typed : {s : Setting} {kinds : List Kind} {vars : List TypeTree} (c : ℕ) (it : Constructor) (t : TypeTree) (f : Found) → con_at s.datas c ≡ Some it → t ≡ con_type it → IsWithKind s kinds t f → IsTyped s kinds vars (con c) f
-con_typed {s} {kinds} {vars} c it t f e is w = typed_as t f (subst (HasType s kinds vars (con c)) (sym is) (h_con e)) w
+con_typed {s} {kinds} {vars} c it t f e is w = typed_as t f (subst (Finds s kinds vars (con c)) (sym is) (f_con e)) w
 
 pub con_unkinded : {s : Setting} {kinds : List Kind} {vars : List TypeTree} (c : ℕ) (it : Constructor) (t : TypeTree) → IsReady s kinds vars → con_at s.datas c ≡ Some it → t ≡ con_type it → LacksKind s kinds t → HasNoType s kinds vars (con c)
 con_unkinded {s} {kinds} {vars} c it t h e is never = without_kind t h here never
@@ -98,7 +99,7 @@ pub con_missing : {s : Setting} {kinds : List Kind} {vars : List TypeTree} (c : 
 con_missing c e t d = let at = con_at_of d in let f = at.1 in absurd (cc)
 
 pub prim_typed : {s : Setting} {kinds : List Kind} {vars : List TypeTree} (p : Primitive) (t : TypeTree) (f : Found) → t ≡ schema_type p → IsWithKind s kinds t f → IsTyped s kinds vars (prim p) f
-prim_typed {s} {kinds} {vars} p t f is w = typed_as t f (subst (HasType s kinds vars (prim p)) (sym is) h_prim) w
+prim_typed {s} {kinds} {vars} p t f is w = typed_as t f (subst (Finds s kinds vars (prim p)) (sym is) f_prim) w
 
 pub prim_unkinded : {s : Setting} {kinds : List Kind} {vars : List TypeTree} (p : Primitive) (t : TypeTree) → IsReady s kinds vars → t ≡ schema_type p → LacksKind s kinds t → HasNoType s kinds vars (prim p)
 prim_unkinded p t h is never = without_kind t h (λ u d. prim_is d ∙ sym is) never
@@ -128,7 +129,7 @@ prim_told s kinds vars p t (Some f) h is k = prim_typed p t f is k
 prim_told s kinds vars p t None h is k = prim_unkinded p t h is k
 
 pub lit_typed : {s : Setting} {kinds : List Kind} {vars : List TypeTree} (r : Scalar) (bits : List Bool) (t : TypeTree) → length bits ≤ widest → t ≡ literal_type r bits → IsTyped s kinds vars (lit r bits) (record { ty = t; kind = Val })
-lit_typed {s} {kinds} {vars} r bits t l is = (subst (HasType s kinds vars (lit r bits)) (sym is) (h_lit l), subst (λ u. HasKind s kinds u Val) (sym is) (kind_scalar kind_nat))
+lit_typed {s} {kinds} {vars} r bits t l is = (subst (Finds s kinds vars (lit r bits)) (sym is) (f_lit l), subst (λ u. HasKind s kinds u Val) (sym is) (kind_scalar kind_nat))
 
 pub lit_wide : {s : Setting} {kinds : List Kind} {vars : List TypeTree} (r : Scalar) (bits : List Bool) → widest < length bits → HasNoType s kinds vars (lit r bits)
 lit_wide r bits l t d = let m = lit_is d in absurd (omega arith)

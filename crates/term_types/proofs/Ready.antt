@@ -17,6 +17,7 @@ use Rattle.chw_typing.proofs.TermsPut.{term_put, puts_same}
 use Rattle.term_types.specs.Answers.{HasNoType, IsTyped, IsReady}
 use Rattle.term_types.specs.Kinding.{LacksKind}
 use Rattle.term_types.specs.declared.found.Found.{Found}
+use Rattle.found_types.proofs.FoundTyped.{found_is_type}
 
 pub one : {s : Setting} {kinds : List Kind} {vars : List TypeTree} {e : TermTree} {t u : TypeTree} → IsReady s kinds vars → HasType s kinds vars e t → HasType s kinds vars e u → SameTypes t u
 one {vars = vars} h d g = one_type d g h.0 h.1 h.1 (are_same_self vars)
@@ -26,7 +27,7 @@ kinded h d = type_kinded d h.0 h.1
 
 -- the kind of a term's type is one of terms
 pub of_terms : {s : Setting} {kinds : List Kind} {vars : List TypeTree} {e : TermTree} (f : Found) → IsReady s kinds vars → IsTyped s kinds vars e f → IsOfTerms f.kind
-of_terms f h d = let at = kinded h d.0 in subst IsOfTerms (one_kind at.has d.1) at.of_terms
+of_terms f h d = let at = kinded h (found_is_type d.0) in subst IsOfTerms (one_kind at.has d.1) at.of_terms
 
 -- under one more type binder
 pub ready_under : (s : Setting) (kinds : List Kind) (vars : List TypeTree) (k : Kind) → IsReady s kinds vars → IsReady s (k ∷ kinds) (under_binder vars)

@@ -6,17 +6,18 @@ use Rattle.chw_terms.specs.TermTree.{TermTree}
 use Rattle.chw_typing.specs.Scopes.{Setting, HasKind, AreTermTypes}
 use Rattle.chw_typing.specs.Programs.{IsSound}
 use Rattle.chw_typing.specs.Typing.{HasType}
+use Rattle.found_types.specs.Finding.{Finds}
 use Rattle.term_types.specs.declared.found.Found.{Found}
 
 -- the term has no type
 abbrev pub HasNoType : Setting → List Kind → List TypeTree → TermTree → Type 0
 HasNoType s kinds vars e = (t : TypeTree) → HasType s kinds vars e t → ⊥
 
--- what was found is a type of the term, with its kind
+-- this is the type that is found for the term, with its kind
 abbrev pub IsTyped : Setting → List Kind → List TypeTree → TermTree → Found → Type 0
-IsTyped s kinds vars e f = HasType s kinds vars e f.ty × HasKind s kinds f.ty f.kind
+IsTyped s kinds vars e f = Finds s kinds vars e f.ty × HasKind s kinds f.ty f.kind
 
--- a type of the term with its kind, or nothing where it has no type
+-- the type that is found for the term with its kind, or nothing where it has no type
 abbrev pub IsAnswer : Setting → List Kind → List TypeTree → TermTree → Option Found → Type 0
 IsAnswer s kinds vars e r = MatchOption r (HasNoType s kinds vars e) (λ f. IsTyped s kinds vars e f)
 

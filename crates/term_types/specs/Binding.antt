@@ -1,5 +1,5 @@
 -- What patterns bind.
-use Rattle.std.specs.Prelude.{◌≡◌, ℕ, ◌≤◌, Bool, true, false, List, [], ◌∷◌, length, Some}
+use Rattle.std.specs.Prelude.{◌≡◌, ℕ, ◌≤◌, Bool, true, false, List, [], ◌∷◌, map, length, Some}
 use Rattle.std.specs.List.{slice_get}
 use Rattle.chw_types.specs.declared.kind.Kind.{Kind}
 use Rattle.chw_types.specs.declared.kind.Scalar.{Scalar}
@@ -9,23 +9,31 @@ use Rattle.chw_types.specs.TypeMoves.{sub}
 use Rattle.chw_types.specs.Arguments.{arguments}
 use Rattle.chw_types.specs.SameTypes.{SameTypes}
 use Rattle.chw_terms.specs.declared.term.Pattern.{Pattern}
-use Rattle.chw_typing.specs.Scopes.{Setting, HasKind}
-use Rattle.chw_typing.specs.HeadTypes.{widest, literal_type}
+use Rattle.chw_typing.specs.Scopes.{Setting, HasKind, AreTermTypes}
+use Rattle.chw_typing.specs.HeadTypes.{widest, literal_type, PatternOf}
 use Rattle.chw_typing.specs.Typing.{Binds}
+use Rattle.found_types.specs.Finding.{settled}
 use Rattle.term_types.specs.Kinding.{LacksKindUpTo}
 
 -- the pattern is none for values of the type, or a field has no kind
 abbrev pub BindsNothing : Setting → List Kind → TypeTree → Pattern → Type 0
 BindsNothing s kinds u q = (bound : List TypeTree) → Binds s kinds u q bound → ⊥
 
+-- the pattern is one for values of the type, and binds variables of the types of its fields, each settled
+pub record BindsFound (s : Setting) (kinds : List Kind) (u : TypeTree) (q : Pattern) (bound : List TypeTree) : Type 0 where
+  pub fields : List TypeTree
+  pub pattern : PatternOf s.datas u q fields
+  pub are : map (λ a. settled s kinds a) fields ≡ bound
+  pub typed : AreTermTypes s kinds bound
+
 -- the literal isn't too wide, and its type is the same as this one
 abbrev pub IsLiteralOf : TypeTree → Scalar → List Bool → Type 0
 IsLiteralOf u r bits = (length bits ≤ widest) × SameTypes u (literal_type r bits)
 
--- for each field a type with a kind that is the same as the field at these arguments
+-- for each field its type at these arguments, settled, with a kind
 abbrev pub AreSettled : Setting → List Kind → List TypeTree → List TypeTree → List TypeTree → Type 0
 AreSettled s kinds [] args [] = Unit {0}
-AreSettled s kinds (f ∷ fs) args (t ∷ ts) = (SameTypes (sub f (arguments (trees_of args))) t × ((k : Kind) × HasKind s kinds t k)) × AreSettled s kinds fs args ts
+AreSettled s kinds (f ∷ fs) args (t ∷ ts) = ((settled s kinds (sub f (arguments (trees_of args))) ≡ t) × ((k : Kind) × HasKind s kinds t k)) × AreSettled s kinds fs args ts
 AreSettled s kinds _ args _ = ⊥
 
 -- there is none for some field

@@ -10,11 +10,12 @@ use Rattle.chw_typing.specs.Scopes.{Setting, with_more}
 use Rattle.chw_typing.specs.Typing.{Binds, HasType, AllGive}
 use Rattle.term_types.specs.declared.found.Found.{Found}
 use Rattle.term_types.specs.Answers.{IsTyped}
+use Rattle.term_types.specs.Binding.{BindsFound}
 
 -- the alternative is one for values of the type u, and this is found for what it gives
 pub record Gives (s : Setting) (kinds : List Kind) (vars : List TypeTree) (u : TypeTree) (a : Alt) (f : Found) : Type 0 where
   pub bound : List TypeTree
-  pub binds : Binds s kinds u a.pattern bound
+  pub binds : BindsFound s kinds u a.pattern bound
   pub typed : IsTyped s kinds (with_more bound vars) a.body f
 
 -- it is none, or it has no type

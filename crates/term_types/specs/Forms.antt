@@ -6,6 +6,7 @@ use Rattle.chw_types.specs.TypeMoves.{put}
 use Rattle.chw_types.specs.SameTypes.{SameTypes}
 use Rattle.type_laws.specs.KindsKept.{AreOfTerms}
 use Rattle.chw_typing.specs.Scopes.{Setting, HasKind}
+use Rattle.found_types.specs.Finding.{settled}
 use Rattle.term_types.specs.declared.found.Found.{Found}
 
 abbrev pub function_parts : TypeTree → Option (TypeTree × TypeTree)
@@ -27,13 +28,13 @@ pub record Takes (f : Found) (arg : TypeTree) (r : Found) : Type 0 where
 abbrev pub TakesNot : TypeTree → TypeTree → Type 0
 TakesNot t arg = (a b : TypeTree) → t ≡ fun a b → SameTypes a arg → ⊥
 
--- the type has a parameter of the argument's kind, and what is found is the same as the type with the argument put in
+-- the type has a parameter of the argument's kind, and what is found is the type with the argument put in, settled
 pub record TakesType (s : Setting) (kinds : List Kind) (t arg : TypeTree) (r : Found) : Type 0 where
   pub j : Kind
   pub of : TypeTree
   pub is : t ≡ for_all j of
   pub kind : HasKind s kinds arg j
-  pub same : SameTypes (put of 0 arg) r.ty
+  pub settled : settled s kinds (put of 0 arg) ≡ r.ty
   pub kinded : HasKind s kinds r.ty r.kind
 
 -- it has no such parameter, or nothing with a kind is the same

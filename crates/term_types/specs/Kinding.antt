@@ -6,6 +6,7 @@ use Rattle.chw_types.specs.TypeTree.{TypeTree}
 use Rattle.chw_types.specs.SameTypes.{SameTypes}
 use Rattle.type_laws.specs.KindsKept.{AreOfTerms}
 use Rattle.chw_typing.specs.Scopes.{Setting, HasKind}
+use Rattle.found_types.specs.Finding.{settled}
 use Rattle.term_types.specs.declared.found.Found.{Found}
 
 -- the type has no kind
@@ -19,6 +20,10 @@ LacksKindUpTo s kinds t = (u : TypeTree) (k : Kind) → AreOfTerms s.datas → S
 -- what was found is the type, with its kind
 abbrev pub IsWithKind : Setting → List Kind → TypeTree → Found → Type 0
 IsWithKind s kinds t f = (f.ty ≡ t) × HasKind s kinds t f.kind
+
+-- what was found is the type settled, with its kind
+abbrev pub IsSettled : Setting → List Kind → TypeTree → Found → Type 0
+IsSettled s kinds t f = (settled s kinds t ≡ f.ty) × HasKind s kinds f.ty f.kind
 
 -- there are functions from types of the first kind to types of the second
 abbrev pub has_functions : Kind → Kind → Bool

@@ -1,9 +1,8 @@
 //! Types with their kinds.
 ghost use Rattle.std.specs.Prelude.{◌≡◌, reverse, IfOk, MatchOption};
-ghost use Rattle.chw_types.specs.SameTypes.{SameTypes};
 ghost use Rattle.chw_types.specs.Kinds.{IsOfTerms};
 ghost use Rattle.chw_typing.specs.Scopes.{HasKind, IsTermType, setting_in};
-ghost use Rattle.term_types.specs.Kinding.{has_functions, LacksKind, LacksKindUpTo, IsWithKind};
+ghost use Rattle.term_types.specs.Kinding.{has_functions, LacksKind, LacksKindUpTo, IsWithKind, IsSettled};
 
 use chw_base::NoMemory;
 use chw_terms::Scene;
@@ -49,13 +48,13 @@ pub(crate) fn settled(
     ty: Ty,
 ) -> Result<Option<Found>, NoMemory>
     ensures { IfOk result (λ r. MatchOption r (LacksKindUpTo (setting_in scene.now) (reverse kinds.now) ty)
-        (λ f. SameTypes ty f.ty × HasKind (setting_in scene.now) (reverse kinds.now) f.ty f.kind)) }
+        (λ f. IsSettled (setting_in scene.now) (reverse kinds.now) ty f)) }
 {
-    if let Some(kind) = kind_in(scene, kinds, &ty) {
-        return Ok(Some(Found { ty, kind }));
-    }
-    let less = without_zeros(alloc, &ty)?;
-    Ok(with_kind(scene, kinds, less))
+    let Some(kind) = kind_in(scene, kinds, &ty) else {
+        let less = without_zeros(alloc, &ty)?;
+        return Ok(with_kind(scene, kinds, less));
+    };
+    Ok(Some(Found { ty, kind }))
 }
 
 /// Whether there are functions from types of the first kind to types of the second.

@@ -15,4 +15,4 @@ pub mod typing;
 mod vars;
 mod walk;
 
-pub use typing::type_of;
+pub use typing::{type_of, type_of_in};

@@ -4,8 +4,7 @@ ghost use Rattle.chw_types.specs.TypeTree.{data_of};
 ghost use Rattle.chw_types.specs.TypeView.{trees_of};
 ghost use Rattle.chw_typing.specs.Scopes.{HasKind, setting_in};
 ghost use Rattle.chw_typing.specs.Programs.{IsSound};
-ghost use Rattle.chw_typing.specs.Typing.{Binds};
-ghost use Rattle.term_types.specs.Binding.{BindsNothing, IsLiteralOf, AreSettled, NoneSettled, is_looked_at};
+ghost use Rattle.term_types.specs.Binding.{BindsFound, BindsNothing, IsLiteralOf, AreSettled, NoneSettled, is_looked_at};
 ghost use Rattle.chw_terms.specs.declared.term.Pattern.TheVariants.{OfCon};
 
 use crate::found::settled;
@@ -29,7 +28,7 @@ pub(crate) fn bound_types(
     requires sound { IsSound (setting_in scene.now) }
     requires table { constructors.now ≡ scene.now.program.now.datas }
     requires kinded { (k : _) × HasKind (setting_in scene.now) (reverse kinds.now) of.now k }
-    ensures { IfOk result (λ r. MatchOption r (BindsNothing (setting_in scene.now) (reverse kinds.now) of.now pattern.now) (λ bound. Binds (setting_in scene.now) (reverse kinds.now) of.now pattern.now bound.items)) }
+    ensures { IfOk result (λ r. MatchOption r (BindsNothing (setting_in scene.now) (reverse kinds.now) of.now pattern.now) (λ bound. BindsFound (setting_in scene.now) (reverse kinds.now) of.now pattern.now bound.items)) }
 {
     match pattern {
         Pattern::OfCon(at, names) => { fields(alloc, scene, constructors, kinds, of, *at, *names) }
@@ -81,7 +80,7 @@ fn fields(
     requires sound { IsSound (setting_in scene.now) }
     requires table { constructors.now ≡ scene.now.program.now.datas }
     requires kinded { (k : _) × HasKind (setting_in scene.now) (reverse kinds.now) of.now k }
-    ensures { IfOk result (λ r. MatchOption r (BindsNothing (setting_in scene.now) (reverse kinds.now) of.now (OfCon at names)) (λ bound. Binds (setting_in scene.now) (reverse kinds.now) of.now (OfCon at names) bound.items)) }
+    ensures { IfOk result (λ r. MatchOption r (BindsNothing (setting_in scene.now) (reverse kinds.now) of.now (OfCon at names)) (λ bound. BindsFound (setting_in scene.now) (reverse kinds.now) of.now (OfCon at names) bound.items)) }
 {
     let Some(con) = constructors.at(at) else {
         return Ok(None);

@@ -1,7 +1,7 @@
 //! The type of a term.
-ghost use Rattle.std.specs.Prelude.{◌≡◌, reverse, IfOk, IfSome, IfNone};
-ghost use Rattle.chw_typing.specs.Typing.{HasType};
+ghost use Rattle.std.specs.Prelude.{◌≡◌, [], reverse, IfOk, IfSome, IfNone};
 ghost use Rattle.chw_typing.specs.Scopes.{setting_in};
+ghost use Rattle.found_types.specs.Finding.{Finds};
 ghost use Rattle.term_types.specs.Answers.{HasNoType, IsReady};
 
 use crate::vars::Vars;
@@ -12,15 +12,32 @@ use chw_types::{Kind, Ty};
 use con_places::Constructors;
 use std::alloc::Global;
 
+/// The type of a term, with variables of these types in scope, the outermost first, and no type variables. Nothing comes exactly where the
+/// term has no type.
+///
+/// The scene is sound, as that of every typed program is, and terms have the types of the variables.
+/// Where a number would pass 32 bits, the answer is want of memory.
+pub fn type_of(
+    alloc: Global,
+    scene: &Scene,
+    vars: &[Ty],
+    term: &Term,
+) -> Result<Option<Ty>, NoMemory>
+    requires ready { IsReady (setting_in scene.now) [] (reverse vars.now) }
+    ensures some { IfOk result (λ r. IfSome r (λ t. Finds (setting_in scene.now) [] (reverse vars.now) term.now t)) }
+    ensures none { IfOk result (λ r. IfNone r (HasNoType (setting_in scene.now) [] (reverse vars.now) term.now)) }
+{
+    let constructors = Constructors::of(alloc, scene.program.datas.as_slice())?;
+    let found = type_of_in(alloc, scene, &constructors, &[], vars, term);
+    drop(constructors);
+    found
+}
+
 /// The type of a term, with type variables of these kinds and variables of these types in scope, the outermost first, each type seen from
 /// the place of the term. Nothing comes exactly where the term has no type.
 ///
-/// It is the type that the rule of the term gives: a case has that of its first alternative, and where types are put into another, the
-/// result stays as it is if it has a kind.
-///
-/// The scene is sound, as that of every typed program is, the table has the constructors of its program, and terms have the types of the
-/// variables. Where a number would pass 32 bits, the answer is want of memory.
-pub fn type_of(
+/// The table has the constructors of the scene's program, so that it is made once for many terms. The rest is as at `type_of`.
+pub fn type_of_in(
     alloc: Global,
     scene: &Scene,
     constructors: &Constructors,
@@ -30,7 +47,7 @@ pub fn type_of(
 ) -> Result<Option<Ty>, NoMemory>
     requires ready { IsReady (setting_in scene.now) (reverse kinds.now) (reverse vars.now) }
     requires table { constructors.now ≡ scene.now.program.now.datas }
-    ensures some { IfOk result (λ r. IfSome r (λ t. HasType (setting_in scene.now) (reverse kinds.now) (reverse vars.now) term.now t)) }
+    ensures some { IfOk result (λ r. IfSome r (λ t. Finds (setting_in scene.now) (reverse kinds.now) (reverse vars.now) term.now t)) }
     ensures none { IfOk result (λ r. IfNone r (HasNoType (setting_in scene.now) (reverse kinds.now) (reverse vars.now) term.now)) }
 {
     let vars = Vars::outside(vars);

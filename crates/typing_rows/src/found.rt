@@ -12,7 +12,7 @@ use chw_terms::{Def, Program, Scene};
 use chw_types::{Ty, type_text};
 use con_places::Constructors;
 use std::alloc::{AllocError, Global};
-use term_types::type_of;
+use term_types::type_of_in;
 
 /// The program of a text, where it has one.
 fn program(alloc: Global, text: &[u8]) -> Option<Program>
@@ -71,7 +71,7 @@ fn add_type(
     requires table { constructors.now ≡ program.now.datas }
 {
     let scene = Scene { program, made: &[] };
-    let found = type_of(alloc, &scene, constructors, &[], &[], &it.body);
+    let found = type_of_in(alloc, &scene, constructors, &[], &[], &it.body);
     let Scene {
         program: _,
         made: _,

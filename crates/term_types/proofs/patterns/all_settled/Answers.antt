@@ -1,8 +1,7 @@
 use Rattle.std.proofs.Common.{arith}
 use Rattle.std.specs.Prelude.{reverse}
-use Rattle.chw_types.specs.SameTypes.{SameTypes}
-use Rattle.chw_typing.specs.Scopes.{HasKind, setting_in}
-use Rattle.term_types.specs.Kinding.{LacksKindUpTo}
+use Rattle.chw_typing.specs.Scopes.{setting_in}
+use Rattle.term_types.specs.Kinding.{LacksKindUpTo, IsSettled}
 use Rattle.term_types.specs.declared.found.Found.{Found}
 use Rattle.term_types.proofs.Bound.{settled_more, settled_all, unsettled_at}
 use Rattle.term_types.proofs.Matched.{of_some, is_none}
@@ -15,7 +14,7 @@ loop-field-preserved c =
     let l = c.loop-field in
     let u = c.in_ok-ty.ty in
     let found = c.in-Some.found in
-    let settled = of_some (LacksKindUpTo s kinds u) (λ (f : Found). SameTypes u f.ty × HasKind s kinds f.ty f.kind) c.in_ok-found.field-0 found c.in-Some.is c.in_ok-found.ensures in
+    let settled = of_some (LacksKindUpTo s kinds u) (λ (f : Found). IsSettled s kinds u f) c.in_ok-found.field-0 found c.in-Some.is c.in_ok-found.ensures in
     settled_more s kinds c.args.fields.now c.args.args.now l.bound.items c.push.new.self.items l.field-index c.field-item.result _ found.ty u found.kind c.loop-field-test.true c.field-item.is c.in_ok-ty.ensures.is settled c.in_ok-push-in-Some.ensures.items l.invariant
 
 pub returns-in-None : goal.returns-in-None
@@ -24,7 +23,7 @@ returns-in-None c =
     let kinds = reverse c.args.kinds.now in
     let l = c.loop-field in
     let u = c.in_ok-ty.ty in
-    let none = is_none (LacksKindUpTo s kinds u) (λ (f : Found). SameTypes u f.ty × HasKind s kinds f.ty f.kind) c.in_ok-found.field-0 c.in-None.is c.in_ok-found.ensures in
+    let none = is_none (LacksKindUpTo s kinds u) (λ (f : Found). IsSettled s kinds u f) c.in_ok-found.field-0 c.in-None.is c.in_ok-found.ensures in
     unsettled_at s kinds c.args.fields.now c.args.args.now l.field-index c.field-item.result _ u c.loop-field-test.true c.field-item.is c.in_ok-ty.ensures.is none
 
 pub returns : goal.returns

@@ -11,9 +11,9 @@ use Rattle.chw_terms.specs.TermView.{tree_of, applied_to, applied, terms_of, gro
 use Rattle.chw_typing.specs.Alternatives.{NoneHidden}
 use Rattle.chw_typing.specs.HeadTypes.{IsLookedAt}
 use Rattle.chw_typing.specs.Scopes.{with_more, setting_in}
-use Rattle.chw_typing.specs.Typing.{HasType, HasTypeUpTo, Binds}
+use Rattle.chw_typing.specs.Typing.{HasType, HasTypeUpTo}
 use Rattle.term_types.specs.Answers.{HasNoType, IsTyped, IsAnswer, IsReady}
-use Rattle.term_types.specs.Binding.{BindsNothing}
+use Rattle.term_types.specs.Binding.{BindsFound, BindsNothing}
 use Rattle.term_types.specs.Cases.{Gives, GivesNothing, IsJoined}
 use Rattle.term_types.specs.Groups.{HaveTheirTypes}
 use Rattle.term_types.proofs.Applied.{applied_none, app_argument_untyped}
@@ -512,7 +512,7 @@ infer_alt-returns-in_default t c bound u b d =
     let kinds = reverse c.args.kinds.now in
     let on = c.args.on.now in
     let q = c.args.alt.now.pattern in
-    of_none (BindsNothing s kinds on.ty q) (λ (bound : Vec TypeTree Global). Binds s kinds on.ty q bound.items) c.in_ok-bound.field-0 c.in_default.not-Some c.in_ok-bound.ensures bound b
+    of_none (BindsNothing s kinds on.ty q) (λ (bound : Vec TypeTree Global). BindsFound s kinds on.ty q bound.items) c.in_ok-bound.field-0 c.in_default.not-Some c.in_ok-bound.ensures bound b
 
 pub infer_alt-infer-requires : goal.infer_alt-infer-requires
 infer_alt-infer-requires t c =
@@ -522,7 +522,7 @@ infer_alt-infer-requires t c =
     let on = c.args.on.now in
     let q = c.args.alt.now.pattern in
     let bound = c.in-Some.bound.items in
-    let binds = of_some (BindsNothing s kinds on.ty q) (λ (bound : Vec TypeTree Global). Binds s kinds on.ty q bound.items) c.in_ok-bound.field-0 c.in-Some.bound c.in-Some.is c.in_ok-bound.ensures in
+    let binds = of_some (BindsNothing s kinds on.ty q) (λ (bound : Vec TypeTree Global). BindsFound s kinds on.ty q bound.items) c.in_ok-bound.field-0 c.in-Some.bound c.in-Some.is c.in_ok-bound.ensures in
     let inner = c.with_fields-inner.ensures ∙ ap (λ ts. with_more ts vars) c.deref.ensures.value in
     (omega (arith, c.decreases), (subst (IsReady s kinds) (sym inner) (ready_more s kinds vars bound c.requires.ready binds.typed), c.requires.table))
 
@@ -534,7 +534,7 @@ infer_alt-returns t c =
     let on = c.args.on.now in
     let a = c.args.alt.now in
     let bound = c.in-Some.bound.items in
-    let binds = of_some (BindsNothing s kinds on.ty a.pattern) (λ (bound : Vec TypeTree Global). Binds s kinds on.ty a.pattern bound.items) c.in_ok-bound.field-0 c.in-Some.bound c.in-Some.is c.in_ok-bound.ensures in
+    let binds = of_some (BindsNothing s kinds on.ty a.pattern) (λ (bound : Vec TypeTree Global). BindsFound s kinds on.ty a.pattern bound.items) c.in_ok-bound.field-0 c.in-Some.bound c.in-Some.is c.in_ok-bound.ensures in
     let inner = c.with_fields-inner.ensures ∙ ap (λ ts. with_more ts vars) c.deref.ensures.value in
     ok_more c.infer.result (IsAnswer s kinds c.with_fields-inner.result.vars a.body) (λ r. MatchOption r (GivesNothing s kinds vars on.ty a) (λ f. Gives s kinds vars on.ty a f))
     (λ r h. gives_told s kinds vars on.ty a bound on.kind r c.requires.ready c.requires.on binds (subst (λ vars. IsAnswer s kinds vars a.body r) inner h)) c.infer.ensures
