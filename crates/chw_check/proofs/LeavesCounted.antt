@@ -3,39 +3,19 @@ use Rattle.std.proofs.Common.{◌≡◌, ℕ, ◌+◌, ◌<◌, inl, inr, refl, 
 use Rattle.chw_check.specs.Counting.{CountsOn, HasLeaves, HasMoreLeaves}
 use Rattle.chw_types.specs.declared.declarations.Data.{Data}
 use Rattle.chw_types.specs.declared.ports.Leaf.{Leaf}
-use Rattle.chw_types.specs.declared.ty.TyNode.{TyNode}
-use Rattle.chw_types.specs.declared.ty.TyNode.TheVariants.{Var, NatLit, Sum, Times, DomOf, Unsigned, Signed, BitVector, Vec as VecNode, DataOf, Fun, Signal, Forall}
-use Rattle.chw_types.specs.TypeView.{tree_of}
+use Rattle.chw_base.specs.declared.index.DomId.{DomId}
 use Rattle.chw_types.specs.References.{HasNoCycle}
-use Rattle.chw_types.specs.TypeTree.{TypeTree, TypeTrees, data_of}
-use Rattle.chw_types.specs.Ports.{Leaves, one_leaf, leaves_of_fields, IsNoPort}
-use Rattle.chw_types.specs.PortsFound.{LeafFound, ProductOpened}
+use Rattle.chw_types.specs.TypeTree.{TypeTree, domain, signal}
+use Rattle.chw_types.specs.Ports.{leaf_of, IsNoPort}
+use Rattle.chw_types.specs.Representable.{Representable}
+use Rattle.chw_types.specs.PortsFound.{ProductOpened}
 use Rattle.chw_types.proofs.LeavesFound.{Searching, search_begins, search_goes_on, search_fails, search_ends, search_shrinks}
 use Rattle.chw_types.proofs.Weights.{all_whole}
 
--- what has no form of data is none
-pub no_data : (node : TyNode) → ((a b : _) → node ≡ DataOf a b → ⊥) → (d : ℕ) (ts : TypeTrees) → tree_of node ≡ data_of d ts → ⊥
-no_data (DataOf at args) h d ts e = h at args refl
-no_data (Var x) h d ts e = absurd (cc)
-no_data (NatLit n) h d ts e = absurd (cc)
-no_data (Sum l r) h d ts e = absurd (cc)
-no_data (Times l r) h d ts e = absurd (cc)
-no_data (DomOf c) h d ts e = absurd (cc)
-no_data (Unsigned v) h d ts e = absurd (cc)
-no_data (Signed v) h d ts e = absurd (cc)
-no_data (BitVector v) h d ts e = absurd (cc)
-no_data (VecNode n t) h d ts e = absurd (cc)
-no_data (Fun f t) h d ts e = absurd (cc)
-no_data (Signal c t) h d ts e = absurd (cc)
-no_data (Forall k t) h d ts e = absurd (cc)
-
--- the leaves of what is no data are one more
-one_more : {datas : List Data} {t : TypeTree} {ls : List Leaf} (found : List Leaf) → ((d : ℕ) (ts : TypeTrees) → t ≡ data_of d ts → ⊥) → Leaves datas t ls → LeafFound datas t found (found ++ ls)
-one_more found other (one_leaf {dom = dom} {t = payload} fits) = record { dom = dom; payload = payload; is = refl; fits = fits; found = refl }
-one_more found other (leaves_of_fields {d = d} {ts = ts} known n one are all) = absurd (other d ts refl)
-
-pub one_counts : (datas : List Data) (t : TypeTree) (ls : List Leaf) (n : ℕ) (todo : List TypeTree) → ((d : ℕ) (ts : TypeTrees) → t ≡ data_of d ts → ⊥) → Leaves datas t ls → n ≡ length ls → CountsOn datas t n todo todo
-one_counts datas t ls n todo other l count found = (found ++ ls, omega (arith, length-append found ls, count), inl (one_more found other l, refl))
+pub single_counts : (datas : List Data) (t : TypeTree) (dom : DomId) (payload : TypeTree) (todo todo' : List TypeTree) → t ≡ signal (domain dom.number) payload → Representable datas payload → todo' ≡ todo → CountsOn datas t 1 todo todo'
+single_counts datas t dom payload todo todo' is fits rest found =
+    let leaf = leaf_of dom payload ∷ [] in
+    (found ++ leaf, length-append found leaf, inl (record { dom = dom; payload = payload; is = is; fits = fits; found = refl }, rest))
 
 pub fields_count : (datas : List Data) (t : TypeTree) (todo todo' : List TypeTree) → ProductOpened datas t todo todo' → CountsOn datas t 0 todo todo'
 fields_count datas t todo todo' opened found = (found, omega arith, inr (opened, refl))
