@@ -1,6 +1,6 @@
 use Rattle.std.proofs.Common.{IfOk, ◌≡◌, Bool, List, subst, rules}
 use Rattle.prim_bits.specs.Words.{integer_of}
-use Rattle.prim_bits.proofs.Machine.{difference_bits}
+use Rattle.chw_bits.proofs.WordResults.{difference_bits}
 use Rattle.prim_bits.proofs.arithmetic.difference.Goals as goal
 
 pub returns : goal.returns

@@ -1,4 +1,4 @@
-use Rattle.prim_bits.proofs.Machine.{down_past}
+use Rattle.chw_bits.proofs.WordResults.{down_past}
 use Rattle.prim_bits.proofs.shifts.down.Goals as goal
 
 pub returns-else-places-lt128 : goal.returns-else-places-lt128

@@ -3,7 +3,7 @@ use lib.IntN.{pos}
 use Rattle.std.specs.Int.{int_div_euclid}
 use Rattle.chw_bits.specs.Integers.{word_of}
 use Rattle.prim_bits.specs.Words.{integer_of}
-use Rattle.prim_bits.proofs.Machine.{extended_bits}
+use Rattle.chw_bits.proofs.WordResults.{extended_bits}
 use Rattle.prim_bits.proofs.shifts.lowered.Goals as goal
 
 pub returns : goal.returns

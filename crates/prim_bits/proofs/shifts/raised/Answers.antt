@@ -3,7 +3,7 @@ use lib.IntN.{pos, ◌*ℤ◌}
 use Rattle.chw_bits.specs.Bits.{bits_of}
 use Rattle.chw_bits.specs.Integers.{word_of}
 use Rattle.prim_bits.specs.Words.{integer_of}
-use Rattle.prim_bits.proofs.Machine.{raised_bits}
+use Rattle.chw_bits.proofs.WordResults.{raised_bits}
 use Rattle.prim_bits.proofs.shifts.raised.Goals as goal
 
 pub returns : goal.returns

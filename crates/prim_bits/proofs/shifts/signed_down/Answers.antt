@@ -1,5 +1,5 @@
 use Rattle.std.proofs.Common.{arith}
-use Rattle.prim_bits.proofs.Machine.{lowered_is}
+use Rattle.chw_bits.proofs.WordResults.{lowered_is}
 use Rattle.prim_bits.proofs.shifts.signed_down.Goals as goal
 
 pub returns : goal.returns

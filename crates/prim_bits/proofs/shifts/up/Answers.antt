@@ -1,4 +1,4 @@
-use Rattle.prim_bits.proofs.Machine.{up_past}
+use Rattle.chw_bits.proofs.WordResults.{up_past}
 use Rattle.prim_bits.proofs.shifts.up.Goals as goal
 
 pub returns-else-places-lt128 : goal.returns-else-places-lt128

@@ -1,4 +1,4 @@
-use Rattle.prim_bits.proofs.Machine.{low_past}
+use Rattle.chw_bits.proofs.WordResults.{low_past}
 use Rattle.prim_bits.proofs.words.low.Goals as goal
 
 pub returns-else-width-lt128 : goal.returns-else-width-lt128

@@ -3,7 +3,7 @@ use lib.IntN.{pos, negsuc}
 use mir.Syntax.{w128}
 use Rattle.std.proofs.lemmas.Int.{to_z_pos}
 use Rattle.chw_bits.specs.Integers.{signed}
-use Rattle.prim_bits.proofs.Signs.{negative_is, negative_small, positive_is, positive_small, complement_is}
+use Rattle.chw_bits.proofs.Signs.{negative_is, negative_small, positive_is, positive_small, complement_is}
 use Rattle.prim_bits.proofs.words.signed_number.Goals as goal
 
 pub overflow_cast-result : goal.overflow_cast-result

@@ -9,13 +9,11 @@ use Rattle.std.proofs.lemmas.Nat.{pow_pos, pow-add, mod_low}
 use Rattle.std.proofs.lemmas.Int.{to_z-of_z}
 use Rattle.chw_bits.specs.Bits.{number_of, bits_of}
 use Rattle.chw_bits.proofs.Numbers.{lt-pow, number_of_lt}
-use Rattle.chw_types.specs.declared.kind.Scalar.TheVariants.{U, S}
-use Rattle.prim_bits.specs.Results.{sum_of, difference_of, product_of}
 use Rattle.chw_bits.specs.Integers.{signed}
-use Rattle.prim_bits.proofs.Residues.{Alike, alike_same, alike_narrow, alike_sum, alike_difference, alike_product, same_residue}
+use Rattle.chw_bits.proofs.Residues.{Alike, alike_same, alike_narrow}
 
 -- the low part of a number's complement is its complement at that width
-complement_low : (w v n : ℕ) → w ≤ v → n < 2 ^ w → (2 ^ v - 1 - n) % 2 ^ w ≡ 2 ^ w - 1 - n
+pub complement_low : (w v n : ℕ) → w ≤ v → n < 2 ^ w → (2 ^ v - 1 - n) % 2 ^ w ≡ 2 ^ w - 1 - n
 complement_low w v n le below =
     let rest = v - w in
     let split : v ≡ rest + w = omega arith in
@@ -35,16 +33,6 @@ signed_alike (false ∷ bits) = record { over = 0; under = 0; is = omega (arith,
 
 pub alike_at : (w : ℕ) (bits : List Bool) → w ≤ length bits → Alike (2 ^ w) (signed bits) (pos (number_of bits))
 alike_at w bits le = alike_narrow w (length bits) (signed bits) (pos (number_of bits)) le (signed_alike bits)
-
--- up to the width of its words, signed arithmetic has the bits of unsigned arithmetic
-pub same_sum : (w : ℕ) (a b : List Bool) → w ≤ length a → w ≤ length b → sum_of S w a b ≡ sum_of U w a b
-same_sum w a b p q = ap (bits_of w) (same_residue w _ _ (alike_sum (2 ^ w) (signed a) (pos (number_of a)) (signed b) (pos (number_of b)) (alike_at w a p) (alike_at w b q)))
-
-pub same_difference : (w : ℕ) (a b : List Bool) → w ≤ length a → w ≤ length b → difference_of S w a b ≡ difference_of U w a b
-same_difference w a b p q = ap (bits_of w) (same_residue w _ _ (alike_difference (2 ^ w) (signed a) (pos (number_of a)) (signed b) (pos (number_of b)) (alike_at w a p) (alike_at w b q)))
-
-pub same_product : (w : ℕ) (a b : List Bool) → w ≤ length a → w ≤ length b → product_of S w a b ≡ product_of U w a b
-same_product w a b p q = ap (bits_of w) (same_residue w _ _ (alike_product (2 ^ w) (signed a) (pos (number_of a)) (signed b) (pos (number_of b)) (alike_at w a p) (alike_at w b q)))
 
 -- a word whose first bit is set
 pub negative_is : (bits : List Bool) (v : ℕ) → length bits ≤ v → get_or bits 0 false ≡ true → signed bits ≡ negsuc ((2 ^ v - 1 - number_of bits) % 2 ^ length bits)
