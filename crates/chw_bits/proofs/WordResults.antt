@@ -94,8 +94,11 @@ word_of_sum w y z = ap (bits_of w) (same_residue w _ _ (alike_sum (2 ^ w) (pos (
 pub word_of_difference : (w : ℕ) (y z : ℤ) → word_of w (pos (number_of (word_of w y)) -ℤ pos (number_of (word_of w z))) ≡ word_of w (y -ℤ z)
 word_of_difference w y z = ap (bits_of w) (same_residue w _ _ (alike_difference (2 ^ w) (pos (number_of (word_of w y))) y (pos (number_of (word_of w z))) z (word_number_alike w y) (word_number_alike w z)))
 
-pub word_of_product : (w : ℕ) (y z : ℤ) → word_of w (pos (number_of (word_of w y)) *ℤ z) ≡ word_of w (y *ℤ z)
-word_of_product w y z = ap (bits_of w) (same_residue w _ _ (alike_product (2 ^ w) (pos (number_of (word_of w y))) y z z (word_number_alike w y) (alike_same (2 ^ w) z)))
+pub word_of_product : (w : ℕ) (y z : ℤ) → word_of w (pos (number_of (word_of w y)) *ℤ pos (number_of (word_of w z))) ≡ word_of w (y *ℤ z)
+word_of_product w y z = ap (bits_of w) (same_residue w _ _ (alike_product (2 ^ w) (pos (number_of (word_of w y))) y (pos (number_of (word_of w z))) z (word_number_alike w y) (word_number_alike w z)))
+
+pub word_of_multiple : (w : ℕ) (y z : ℤ) → word_of w (pos (number_of (word_of w y)) *ℤ z) ≡ word_of w (y *ℤ z)
+word_of_multiple w y z = ap (bits_of w) (same_residue w _ _ (alike_product (2 ^ w) (pos (number_of (word_of w y))) y z z (word_number_alike w y) (alike_same (2 ^ w) z)))
 
 pub extended_bits : (v w m : ℕ) (y : ℤ) → w ≤ v → m ≡ residue_of v y → bits_of w m ≡ word_of w y
 extended_bits v w m y le e = word_of_alike w v m y le (alike_from v m y e)

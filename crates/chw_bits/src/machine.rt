@@ -104,7 +104,7 @@ pub fn signed_number(width: u32, a: u128) -> i128
 }
 
 /// The greatest integer that is at most a quotient by 2 to a number of places.
-pub fn quotient(n: i128, places: u128) -> i128
+pub fn signed_quotient(n: i128, places: u128) -> i128
     ensures { result ≡ int_div_euclid n (pos (2 ^ places)) }
 {
     // From 127 places on only the sign is left.
@@ -119,7 +119,7 @@ pub fn signed_down(width: u32, a: u128, places: u128) -> u128
         ≡ word_of width (int_div_euclid (signed (bits_of width a)) (pos (2 ^ places))) }
     ensures below { result < 2 ^ width }
 {
-    low(quotient(signed_number(width, a), places).cast_unsigned(), width)
+    low(signed_quotient(signed_number(width, a), places).cast_unsigned(), width)
 }
 
 /// Whether a word means a smaller integer than another in two's complement.
