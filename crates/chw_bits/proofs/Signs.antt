@@ -7,7 +7,7 @@ use borrow.Author.Differences.{same_in, sum_is_lem, neg_is}
 use Rattle.std.proofs.Math.Nat.{pow-suc, pow-le-pow_right}
 use Rattle.std.proofs.lemmas.Nat.{pow_pos, pow-add, mod_low}
 use Rattle.std.proofs.lemmas.Int.{to_z-of_z}
-use Rattle.chw_bits.specs.Bits.{number_of, bits_of}
+use Rattle.chw_bits.specs.Bits.{number_of}
 use Rattle.chw_bits.proofs.Numbers.{lt-pow, number_of_lt}
 use Rattle.chw_bits.specs.Integers.{signed}
 use Rattle.chw_bits.proofs.Residues.{Alike, alike_same, alike_narrow}

@@ -4,7 +4,7 @@ use lib.Count.{ones_step}
 use mir.Syntax.{w128}
 use Rattle.std.specs.Int.{bit_at}
 use Rattle.std.specs.List.{list_all, list_any}
-use Rattle.std.proofs.Math.Nat.{pow-suc, mod-eq_of_lt, mod-mod}
+use Rattle.std.proofs.Math.Nat.{pow-suc, mod-eq_of_lt}
 use Rattle.std.proofs.lemmas.Nat.{pow_pos, pow-add, mod-pow-add, mod_below, field_of, shr_high, mod_low, mul-add-lt, shl_whole, ones-le, ones_cat}
 use Rattle.std.proofs.lemmas.Nat.Bits.{bit_at_and, bit_at_or, bit_at_xor, bit_at_not}
 use Rattle.std.proofs.lemmas.List.Sums.{sum_by-cons}

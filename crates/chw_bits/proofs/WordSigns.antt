@@ -1,5 +1,5 @@
 -- The integers of words, by their first bit.
-use Rattle.std.proofs.Common.{◌≡◌, ℕ, suc, ◌-◌, ◌%◌, ◌^◌, ◌<◌, ◌≤◌, true, false, length, get_or, subst, sym, ap, ◌∙◌, arith}
+use Rattle.std.proofs.Common.{◌≡◌, ℕ, suc, ◌-◌, ◌%◌, ◌^◌, ◌<◌, ◌≤◌, true, false, length, get_or, subst, ap, ◌∙◌, arith}
 use lib.IntN.{pos, negsuc}
 use Rattle.chw_bits.specs.Bits.{number_of, bits_of}
 use Rattle.chw_bits.specs.Integers.{signed}

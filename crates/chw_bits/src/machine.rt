@@ -119,7 +119,10 @@ pub fn signed_down(width: u32, a: u128, places: u128) -> u128
         ≡ word_of width (int_div_euclid (signed (bits_of width a)) (pos (2 ^ places))) }
     ensures below { result < 2 ^ width }
 {
-    low(signed_quotient(signed_number(width, a), places).cast_unsigned(), width)
+    low(
+        signed_quotient(signed_number(width, a), places).cast_unsigned(),
+        width,
+    )
 }
 
 /// Whether a word means a smaller integer than another in two's complement.

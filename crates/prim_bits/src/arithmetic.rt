@@ -21,7 +21,11 @@ pub(crate) fn sum(
     requires whole { width ≤ 128 }
     ensures { IfOk result (λ r. r ≡ sum_of x width a.now b.now) }
 {
-    word(alloc, width, machine::sum(width, residue(x, a), residue(x, b)))
+    word(
+        alloc,
+        width,
+        machine::sum(width, residue(x, a), residue(x, b)),
+    )
 }
 
 /// The difference of two words at a width.
@@ -37,7 +41,11 @@ pub(crate) fn difference(
     requires whole { width ≤ 128 }
     ensures { IfOk result (λ r. r ≡ difference_of x width a.now b.now) }
 {
-    word(alloc, width, machine::difference(width, residue(x, a), residue(x, b)))
+    word(
+        alloc,
+        width,
+        machine::difference(width, residue(x, a), residue(x, b)),
+    )
 }
 
 /// The product of two words at a width.
@@ -53,5 +61,9 @@ pub(crate) fn product(
     requires whole { width ≤ 128 }
     ensures { IfOk result (λ r. r ≡ product_of x width a.now b.now) }
 {
-    word(alloc, width, machine::product(width, residue(x, a), residue(x, b)))
+    word(
+        alloc,
+        width,
+        machine::product(width, residue(x, a), residue(x, b)),
+    )
 }

@@ -35,7 +35,11 @@ pub(crate) fn raised(
     requires whole { width ≤ 128 }
     ensures { IfOk result (λ r. r ≡ raised_of x width a.now places.now) }
 {
-    word(alloc, width, machine::up(width, residue(x, a), number(places)))
+    word(
+        alloc,
+        width,
+        machine::up(width, residue(x, a), number(places)),
+    )
 }
 
 /// A word moved down by as many places as another word's number, with zeros above, or copies of the sign where it is signed.

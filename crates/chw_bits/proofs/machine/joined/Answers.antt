@@ -1,4 +1,4 @@
-use Rattle.std.proofs.Common.{◌≡◌, ◌+◌, ◌*◌, ◌^◌, ◌<◌, ap, sym, subst, ◌∙◌}
+use Rattle.std.proofs.Common.{◌+◌, ◌^◌, ◌<◌, ap, sym, subst, ◌∙◌}
 use Rattle.chw_bits.specs.Bits.{bits_of}
 use Rattle.chw_bits.proofs.WordBits.{joined_bits, joined_below, joined_number, joined_fits}
 use Rattle.chw_bits.proofs.machine.joined.Goals as goal

@@ -1,4 +1,4 @@
-use Rattle.std.proofs.Common.{◌%◌, eqb, ap, ◌∙◌}
+use Rattle.std.proofs.Common.{◌%◌, eqb, ap}
 use Rattle.chw_bits.proofs.WordBits.{count_bits_of}
 use Rattle.chw_bits.proofs.machine.odd_set.Goals as goal
 

@@ -1,5 +1,5 @@
-use Rattle.std.proofs.Common.{◌≡◌, ◌<◌, get_or, false, true, ap, sym, ◌∙◌, ◌^◌, ◌-◌, ◌%◌}
-use lib.IntN.{pos, negsuc}
+use Rattle.std.proofs.Common.{◌≡◌, ◌<◌, get_or, false, true, ap, sym, ◌∙◌, ◌^◌}
+use lib.IntN.{negsuc}
 use mir.Syntax.{w128}
 use Rattle.std.proofs.lemmas.Int.{to_z_pos}
 use Rattle.chw_bits.specs.Bits.{bits_of}
