@@ -1,4 +1,9 @@
 pub mod Digits
 pub mod HexText
 pub mod Numbers
+pub mod Residues
 pub mod RoundTrips
+pub mod Signs
+pub mod WordBits
+pub mod WordResults
+pub mod WordSigns

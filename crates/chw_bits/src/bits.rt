@@ -85,6 +85,16 @@ impl Bits {
         Ok(Bits { bits })
     }
 
+    /// Makes these the lowest bits of a number, as many as they are. It takes no memory.
+    pub fn put_number(&mut self, n: u128)
+        ensures { self.new ≡ bits_of (length self.old) n }
+    {
+        let width = self.len();
+        for i in 0..width {
+            self.bits[i as usize] = bit_at(n, width - 1 - i);
+        }
+    }
+
     /// The number that these bits mean, where there are at most 128.
     pub fn number(&self) -> Option<u128>
         ensures { SomeIff result (length self.now ≤ 128) (number_of self.now) }

@@ -1,5 +1,5 @@
 //! Hexadecimal text of bits.
-ghost use Rattle.std.specs.Prelude.{◌≡◌, ◌<◌, ◌≤◌, ◌*◌, ◌%◌, ◌/◌, ◌^◌, length, IfOk};
+ghost use Rattle.std.specs.Prelude.{◌≡◌, ◌<◌, ◌≤◌, ◌*◌, ◌%◌, ◌/◌, ◌^◌, length, ◌+◌, ◌++◌, IfOk, OnOk, OnErr, vec_len, vec_capacity};
 ghost use Rattle.chw_bits.specs.Bits.{number_of};
 ghost use Rattle.chw_bits.specs.Hex.{hex_digit, hex_digits, digits_at};
 
@@ -46,17 +46,41 @@ fn digit_at(bits: &[bool], place: u32) -> u8
     digit_of(nibble(&bits[from..end]))
 }
 
+/// Appends the digits of a number of bits to a text that has room for them.
+fn put_digits(bits: &[bool], count: u32, into: &mut Vec<u8>)
+    requires fits { length bits.now < 2 ^ 32 }
+    requires all { count ≡ digits_at (length bits.now) }
+    requires room { vec_len into.old + count ≤ vec_capacity into.old }
+    ensures { into.new.items ≡ into.old.items ++ hex_digits bits.now }
+{
+    for i in 0..count {
+        match into.push(digit_at(bits, count - 1 - i)) {
+            Ok(()) => {}
+            Err(_) => unreachable!(),
+        }
+    }
+}
+
 impl Bits {
+    /// Appends the lower-case hexadecimal digits of the bits' number to a text, as many as their length takes.
+    ///
+    /// `NoMemory` comes where the text can't grow so far. It is then as before.
+    pub fn put_hex(&self, into: &mut Vec<u8>) -> Result<(), NoMemory>
+        ensures digits { OnOk result (into.new.items ≡ into.old.items ++ hex_digits self.now) }
+        ensures unchanged { OnErr result (into.new.items ≡ into.old.items) }
+    {
+        let count = digit_count(self.len());
+        into.reserve(count as usize)?;
+        put_digits(self.as_slice(), count, into);
+        Ok(())
+    }
+
     /// The lower-case hexadecimal digits of the bits' number, as many as their length takes.
     pub fn hex(&self, alloc: Global) -> Result<Name, NoMemory>
         ensures { IfOk result (λ text. text ≡ hex_digits self.now) }
     {
-        let bits = self.as_slice();
-        let count = digit_count(self.len());
         let mut text = Vec::new(alloc);
-        for i in 0..count {
-            text.push(digit_at(bits, count - 1 - i))?;
-        }
+        self.put_hex(&mut text)?;
         Ok(Name::from(text))
     }
 }

@@ -1,9 +1,10 @@
 //! The laws of bits, their numbers and their digits. Each is a function that does nothing, and says its law of all bits.
-ghost use Rattle.std.specs.Prelude.{◌≡◌, ℕ, ◌+◌, ◌-◌, ◌*◌, ◌/◌, ◌%◌, ◌^◌, ◌<◌, ◌≤◌, Bool, List, ◌++◌, length, map};
+ghost use Rattle.std.specs.Prelude.{◌≡◌, ℕ, ◌+◌, ◌-◌, ◌*◌, ◌/◌, ◌%◌, ◌^◌, ◌<◌, ◌≤◌, Bool, List, ◌++◌, length, map, ℤ, pos, ◌+ℤ◌, ◌-ℤ◌, ◌*ℤ◌};
 ghost use Rattle.std.specs.Char.{to_ascii_lowercase};
 ghost use Rattle.std.specs.Str.Parse.{digits_value, AllDigits};
 ghost use Rattle.chw_bits.specs.Bits.{number_of, bits_of, cut_of};
 ghost use Rattle.chw_bits.specs.Hex.{hex_digits, HasWidth};
+ghost use Rattle.chw_bits.specs.Integers.{residue_of, word_of};
 
 /// As many bits are made of a number as the width says.
 pub fn length_of_made_bits()
@@ -61,4 +62,26 @@ pub fn digits_read_back()
 pub fn digits_written_back()
     ensures { (width : ℕ) (text : List ℕ) → AllDigits 16 text → HasWidth width text →
         hex_digits (bits_of width (digits_value 16 text)) ≡ map to_ascii_lowercase text }
+{}
+
+/// The word of a number has its lowest bits, and a residue at a width has the word of its integer at each smaller width.
+pub fn words_of_residues()
+    ensures number { (width n : ℕ) → word_of width (pos n) ≡ bits_of width n }
+    ensures residue { (width whole : ℕ) (z : ℤ) → width ≤ whole →
+        bits_of width (residue_of whole z) ≡ word_of width z }
+{}
+
+/// The word of a sum, a difference and a product of integers is made of their words at the same width.
+pub fn words_of_results()
+    ensures sum { (width : ℕ) (y z : ℤ) →
+        word_of width (pos (number_of (word_of width y)) +ℤ pos (number_of (word_of width z)))
+        ≡ word_of width (y +ℤ z) }
+    ensures difference { (width : ℕ) (y z : ℤ) →
+        word_of width (pos (number_of (word_of width y)) -ℤ pos (number_of (word_of width z)))
+        ≡ word_of width (y -ℤ z) }
+    ensures product { (width : ℕ) (y z : ℤ) →
+        word_of width (pos (number_of (word_of width y)) *ℤ pos (number_of (word_of width z)))
+        ≡ word_of width (y *ℤ z) }
+    ensures multiple { (width : ℕ) (y z : ℤ) →
+        word_of width (pos (number_of (word_of width y)) *ℤ z) ≡ word_of width (y *ℤ z) }
 {}

@@ -4,6 +4,7 @@
 pub mod bits;
 pub mod hex;
 pub mod laws;
+pub mod machine;
 mod places;
 pub mod read_hex;
 

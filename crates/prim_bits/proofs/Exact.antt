@@ -14,8 +14,8 @@ use Rattle.chw_types.specs.declared.kind.Scalar.TheVariants.{U, S, B}
 use Rattle.prim_bits.specs.Results.{sum_of, product_of}
 use Rattle.chw_bits.specs.Integers.{signed, residue_of, word_of}
 use Rattle.prim_bits.specs.Words.{integer_of}
-use Rattle.prim_bits.proofs.Residues.{Alike, alike_along, alike_low, alike_residue}
-use Rattle.prim_bits.proofs.Signs.{alike_at}
+use Rattle.chw_bits.proofs.Residues.{Alike, alike_along, alike_low, alike_residue}
+use Rattle.chw_bits.proofs.Signs.{alike_at}
 
 -- from minus half a whole on, and below half of it
 pub record Within (whole : ℕ) (z : ℤ) : Type 0 where

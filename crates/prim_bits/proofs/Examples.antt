@@ -1,9 +1,8 @@
 -- Values worked by hand.
-use Rattle.std.proofs.Common.{◌≡◌, ℕ, Bool, true, false, List, [], ◌∷◌, Some, None, refl}
+use Rattle.std.proofs.Common.{◌≡◌, true, [], ◌∷◌, Some, None, refl}
 use Rattle.chw_bits.specs.Bits.{bits_of}
-use Rattle.chw_prims.specs.declared.prim.Primitive.TheVariants.{XaddU, MulS, ShrS, Slice, ExtS, AddU, RedAnd, Join, Fmap}
+use Rattle.chw_prims.specs.declared.prim.Primitive.TheVariants.{XaddU, MulS, ShrS, Slice, ExtS, AddU, RedAnd, Fmap}
 use Rattle.prim_bits.specs.Values.{value_of}
-use Rattle.prim_bits.specs.Widths.{TakesNumbers}
 
 exact_sum : value_of XaddU (8 ∷ []) (bits_of 8 255 ∷ bits_of 8 255 ∷ []) ≡ Some (bits_of 9 510)
 exact_sum = refl

@@ -1,8 +1,6 @@
 pub mod Exact
 mod Examples
 pub mod Lengths
-pub mod Machine
-pub mod Residues
 pub mod ResultWidths
-pub mod Signs
+pub mod SignedResults
 pub mod Taken

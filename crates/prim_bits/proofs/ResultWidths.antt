@@ -1,5 +1,5 @@
 -- The widths of results.
-use Rattle.std.proofs.Common.{◌≡◌, ℕ, zero, suc, ◌+◌, ◌&&◌, ◌||◌, Bool, true, false, cond, eqb, not, List, [], ◌∷◌, ◌++◌, length, map, get_or, Option, Some, None, refl, sym, ap, ◌∙◌, arith, length-append}
+use Rattle.std.proofs.Common.{◌≡◌, ℕ, ◌+◌, ◌&&◌, ◌||◌, Bool, not, List, [], ◌∷◌, ◌++◌, length, map, get_or, Some, None, refl, sym, ap, ◌∙◌, arith, length-append}
 use Rattle.std.proofs.lemmas.List.{length-map}
 use Rattle.chw_bits.proofs.Numbers.{length-bits_of}
 use Rattle.chw_types.specs.declared.kind.Scalar.{Scalar}
@@ -12,7 +12,6 @@ use Rattle.chw_prims.specs.declared.row.Row.TheVariants.{Binary, Unary, Joined, 
 use Rattle.chw_bits.specs.Bitwise.{bit_by_bit, differ}
 use Rattle.prim_bits.specs.Values.{result_of, value_of}
 use Rattle.prim_bits.specs.Widths.{argument_widths, width_of}
-use Rattle.chw_bits.specs.Integers.{residue_of}
 use Rattle.prim_bits.proofs.Taken.{taken_from_value}
 use Rattle.prim_bits.proofs.Lengths.{length-bit_by_bit}
 

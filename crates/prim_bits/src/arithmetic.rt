@@ -4,7 +4,7 @@ ghost use Rattle.prim_bits.specs.Results.{sum_of, difference_of, product_of};
 
 use crate::words::{residue, word};
 use chw_base::NoMemory;
-use chw_bits::Bits;
+use chw_bits::{Bits, machine};
 use chw_types::Scalar;
 use std::alloc::Global;
 
@@ -21,7 +21,11 @@ pub(crate) fn sum(
     requires whole { width ≤ 128 }
     ensures { IfOk result (λ r. r ≡ sum_of x width a.now b.now) }
 {
-    word(alloc, width, residue(x, a).wrapping_add(residue(x, b)))
+    word(
+        alloc,
+        width,
+        machine::sum(width, residue(x, a), residue(x, b)),
+    )
 }
 
 /// The difference of two words at a width.
@@ -37,7 +41,11 @@ pub(crate) fn difference(
     requires whole { width ≤ 128 }
     ensures { IfOk result (λ r. r ≡ difference_of x width a.now b.now) }
 {
-    word(alloc, width, residue(x, a).wrapping_sub(residue(x, b)))
+    word(
+        alloc,
+        width,
+        machine::difference(width, residue(x, a), residue(x, b)),
+    )
 }
 
 /// The product of two words at a width.
@@ -53,5 +61,9 @@ pub(crate) fn product(
     requires whole { width ≤ 128 }
     ensures { IfOk result (λ r. r ≡ product_of x width a.now b.now) }
 {
-    word(alloc, width, residue(x, a).wrapping_mul(residue(x, b)))
+    word(
+        alloc,
+        width,
+        machine::product(width, residue(x, a), residue(x, b)),
+    )
 }

@@ -1,9 +1,10 @@
 //! Words bit by bit.
-ghost use Rattle.std.specs.Prelude.{◌≡◌, ◌<◌, ◌^◌, ◌&&◌, ◌||◌, not, map, length, IfOk};
+ghost use Rattle.std.specs.Prelude.{◌≡◌, ◌≤◌, ◌&&◌, ◌||◌, not, map, length, IfOk};
 ghost use Rattle.chw_bits.specs.Bitwise.{bit_by_bit, differ};
 
+use crate::words::{number, word};
 use chw_base::NoMemory;
-use chw_bits::Bits;
+use chw_bits::{Bits, machine};
 use std::alloc::{AllocError, Global};
 
 /// The bits that are set in both words.
@@ -51,16 +52,11 @@ fn each_differing(alloc: Global, a: &[bool], b: &[bool]) -> Result<Vec<bool>, Al
         .collect(alloc)
 }
 
-/// The bits that aren't set.
+/// The bits of a word that aren't set.
 pub(crate) fn flipped(alloc: Global, a: &Bits) -> Result<Bits, NoMemory>
+    requires { length a.now ≤ 128 }
     ensures { IfOk result (λ r. r ≡ map not a.now) }
 {
-    let bits = each_flipped(alloc, a.as_slice())?;
-    Ok(Bits::of_list(bits))
-}
-
-fn each_flipped(alloc: Global, a: &[bool]) -> Result<Vec<bool>, AllocError>
-    ensures { IfOk result (λ v. v.items ≡ map not a.now) }
-{
-    a.iter().map(|x| !*x).collect(alloc)
+    let width = a.len();
+    word(alloc, width, machine::flipped(width, number(a)))
 }

@@ -4,10 +4,10 @@ ghost use Rattle.chw_bits.specs.Bits.{number_of, bits_of};
 ghost use Rattle.chw_bits.specs.Integers.{word_of};
 ghost use Rattle.prim_bits.specs.Words.{integer_of};
 
-use crate::shifts::down;
 use crate::words::{number, residue, word};
 use chw_base::NoMemory;
 use chw_bits::Bits;
+use chw_bits::machine::down;
 use chw_types::Scalar;
 use std::alloc::Global;
 

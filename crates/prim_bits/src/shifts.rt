@@ -1,5 +1,5 @@
 //! Shifts by a number of places of any size.
-ghost use Rattle.std.specs.Prelude.{◌≡◌, ◌≤◌, ◌*◌, ◌/◌, ◌%◌, ◌^◌, length, pos, IfOk};
+ghost use Rattle.std.specs.Prelude.{◌≡◌, ◌≤◌, ◌^◌, length, pos, IfOk};
 ghost use Rattle.std.specs.Int.{int_div_euclid};
 ghost use Rattle.prim_bits.specs.Results.{raised_of, lowered_of};
 ghost use Rattle.chw_bits.specs.Integers.{residue_of};
@@ -7,31 +7,9 @@ ghost use Rattle.prim_bits.specs.Words.{integer_of};
 
 use crate::words::{number, residue, signed_number, word};
 use chw_base::NoMemory;
-use chw_bits::Bits;
+use chw_bits::{Bits, machine};
 use chw_types::Scalar;
 use std::alloc::Global;
-
-/// A number times 2 to a number of places, modulo 2 to the 128.
-fn up(n: u128, places: u128) -> u128
-    ensures { result ≡ n * 2 ^ places % 2 ^ 128 }
-{
-    if places < 128 { n << places } else { 0 }
-}
-
-/// A number without as many of its lowest bits as there are places.
-pub(crate) fn down(n: u128, places: u128) -> u128
-    ensures { result ≡ n / 2 ^ places }
-{
-    if places < 128 { n >> places } else { 0 }
-}
-
-/// The greatest integer that is at most a quotient by 2 to a number of places.
-fn signed_down(n: i128, places: u128) -> i128
-    ensures { result ≡ int_div_euclid n (pos (2 ^ places)) }
-{
-    // From 127 places on only the sign is left.
-    n >> places.min(127)
-}
 
 /// The greatest integer that is at most a word's quotient by 2 to a number of places, modulo 2 to the 128.
 fn quotient(x: Scalar, a: &Bits, places: u128) -> u128
@@ -39,8 +17,8 @@ fn quotient(x: Scalar, a: &Bits, places: u128) -> u128
     ensures { result ≡ residue_of 128 (int_div_euclid (integer_of x a.now) (pos (2 ^ places))) }
 {
     match x {
-        Scalar::U | Scalar::B => down(number(a), places),
-        Scalar::S => signed_down(signed_number(a), places).cast_unsigned(),
+        Scalar::U | Scalar::B => machine::down(number(a), places),
+        Scalar::S => machine::signed_quotient(signed_number(a), places).cast_unsigned(),
     }
 }
 
@@ -57,7 +35,11 @@ pub(crate) fn raised(
     requires whole { width ≤ 128 }
     ensures { IfOk result (λ r. r ≡ raised_of x width a.now places.now) }
 {
-    word(alloc, width, up(residue(x, a), number(places)))
+    word(
+        alloc,
+        width,
+        machine::up(width, residue(x, a), number(places)),
+    )
 }
 
 /// A word moved down by as many places as another word's number, with zeros above, or copies of the sign where it is signed.

@@ -1,19 +1,21 @@
 //! Words as numbers of the machine, and back.
-ghost use Rattle.std.specs.Prelude.{◌≡◌, ◌≤◌, ◌%◌, ◌^◌, length, slice_index_or, false, IfOk};
+ghost use Rattle.std.specs.Prelude.{◌≡◌, ◌<◌, ◌≤◌, ◌^◌, length, IfOk};
 ghost use Rattle.chw_bits.specs.Bits.{number_of, bits_of};
 ghost use Rattle.chw_bits.specs.Bitwise.{one_bit};
 ghost use Rattle.chw_bits.specs.Integers.{signed, residue_of};
 ghost use Rattle.prim_bits.specs.Words.{integer_of};
 
 use chw_base::{NoMemory, Or};
-use chw_bits::Bits;
+use chw_bits::{Bits, machine};
 use chw_types::Scalar;
 use std::alloc::Global;
 
 /// The number of a word of at most 128 bits.
 pub(crate) fn number(word: &Bits) -> u128
     requires { length word.now ≤ 128 }
-    ensures { result ≡ number_of word.now }
+    ensures value { result ≡ number_of word.now }
+    ensures below { result < 2 ^ length word.now }
+    ensures bits { bits_of (length word.now) result ≡ word.now }
 {
     match word.number() {
         Some(n) => n,
@@ -21,32 +23,12 @@ pub(crate) fn number(word: &Bits) -> u128
     }
 }
 
-/// A number without the bits from a width up.
-pub(crate) fn low(n: u128, width: u32) -> u128
-    ensures { result ≡ n % 2 ^ width }
-{
-    if width < 128 { n % (1 << width) } else { n }
-}
-
-/// Whether the first bit of a word is set.
-fn is_negative(word: &Bits) -> bool
-    ensures { result ≡ slice_index_or word.now 0 false }
-{
-    word.as_slice().first().copied().unwrap_or(false)
-}
-
 /// The integer of a word of at most 128 bits in two's complement.
 pub(crate) fn signed_number(word: &Bits) -> i128
     requires { length word.now ≤ 128 }
     ensures { result ≡ signed word.now }
 {
-    let n = number(word);
-    if is_negative(word) {
-        // The bits above the word are set, so the others are the complement's.
-        !(low(!n, word.len()) as i128)
-    } else {
-        n as i128
-    }
+    machine::signed_number(word.len(), number(word))
 }
 
 /// The integer of a word of at most 128 bits at its sort, modulo 2 to the 128.
@@ -64,7 +46,7 @@ pub(crate) fn residue(x: Scalar, word: &Bits) -> u128
 pub(crate) fn word(alloc: Global, width: u32, n: u128) -> Result<Bits, NoMemory>
     ensures { IfOk result (λ r. r ≡ bits_of width n) }
 {
-    match Bits::of_number(alloc, width, low(n, width)) {
+    match Bits::of_number(alloc, width, machine::low(n, width)) {
         Ok(bits) => Ok(bits),
         Err(Or::Memory) => Err(NoMemory),
         Err(Or::Fault(_)) => unreachable!(),

@@ -1,4 +1,4 @@
-use Rattle.prim_bits.proofs.Signs.{same_sum, same_difference, same_product}
+use Rattle.prim_bits.proofs.SignedResults.{same_sum, same_difference, same_product}
 use Rattle.prim_bits.proofs.laws.signed_arithmetic.Goals as goal
 
 pub returns : goal.returns

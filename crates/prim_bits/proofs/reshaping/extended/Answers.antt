@@ -1,6 +1,6 @@
 use Rattle.std.proofs.Common.{IfOk, ◌≡◌, Bool, List, subst}
 use Rattle.prim_bits.specs.Words.{integer_of}
-use Rattle.prim_bits.proofs.Machine.{extended_bits}
+use Rattle.chw_bits.proofs.WordResults.{extended_bits}
 use Rattle.prim_bits.proofs.reshaping.extended.Goals as goal
 
 pub returns : goal.returns

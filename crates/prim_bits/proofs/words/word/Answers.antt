@@ -1,6 +1,6 @@
 use Rattle.std.proofs.Common.{ap, ◌∙◌, sym}
 use Rattle.chw_bits.specs.Bits.{bits_of}
-use Rattle.prim_bits.proofs.Residues.{word_of_number}
+use Rattle.chw_bits.proofs.Residues.{word_of_number}
 use Rattle.prim_bits.proofs.words.word.Goals as goal
 
 pub returns-in-Ok : goal.returns-in-Ok

@@ -1,6 +1,0 @@
-use Rattle.std.proofs.Common.{arith}
-use Rattle.prim_bits.proofs.Machine.{lowered_is}
-use Rattle.prim_bits.proofs.shifts.signed_down.Goals as goal
-
-pub returns : goal.returns
-returns c = lowered_is c.args.n c.args.places c.min.result c.ranges.n (λ l. omega arith) (λ g. omega arith)

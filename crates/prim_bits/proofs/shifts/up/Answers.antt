@@ -1,5 +1,0 @@
-use Rattle.prim_bits.proofs.Machine.{up_past}
-use Rattle.prim_bits.proofs.shifts.up.Goals as goal
-
-pub returns-else-places-lt128 : goal.returns-else-places-lt128
-returns-else-places-lt128 c = up_past c.args.n 128 c.args.places c.if-places-lt128.false

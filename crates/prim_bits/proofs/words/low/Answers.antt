@@ -1,5 +1,0 @@
-use Rattle.prim_bits.proofs.Machine.{low_past}
-use Rattle.prim_bits.proofs.words.low.Goals as goal
-
-pub returns-else-width-lt128 : goal.returns-else-width-lt128
-returns-else-width-lt128 c = low_past c.args.n 128 c.args.width c.ranges.n.fits c.if-width-lt128.false
