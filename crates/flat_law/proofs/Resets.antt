@@ -9,7 +9,7 @@ use Rattle.chw_clock.specs.declared.event.Event.{Event}
 use Rattle.chw_clock.specs.declared.event.Ports.{Ports}
 
 -- no event asserts a reset
-abbrev pub NoResets : List Event → Type 0
+abbrev NoResets : List Event → Type 0
 NoResets h = AllByRecursion (λ (event : Event). event.resets ≡ []) h
 
 none_of : (ports : Ports) (event : Event) (rs : List DomId) → ports.resets ≡ []
@@ -21,24 +21,25 @@ each_none : (ports : Ports) (h : List Event) → ports.resets ≡ [] → AllByRe
 each_none ports [] none fits = tt
 each_none ports (event ∷ past) none fits = (none_of ports event event.resets none fits.0.resets, each_none ports past none fits.1)
 
-pub no_resets : (ports : Ports) (h : List Event) → ports.resets ≡ [] → FitsPorts ports h → NoResets h
+no_resets : (ports : Ports) (h : List Event) → ports.resets ≡ [] → FitsPorts ports h → NoResets h
 no_resets ports [] none fits = absurd fits
 no_resets ports (event ∷ past) none fits = each_none ports (event ∷ past) none fits
 
-by_tick : (event : Event) (events past : List Event) (d : DomId) (b : Bool) → NoResets (event ∷ events)
-    → (up_to_tick events d ≡ Some past → NoResets past)
-    → (if b then Some (event ∷ events) else up_to_tick events d) ≡ Some past → NoResets past
-by_tick event events past d true none rest e = let is : event ∷ events ≡ past = cc in subst NoResets is none
-by_tick event events past d false none rest e = rest e
+by_tick : (ports : Ports) (event : Event) (events past : List Event) (d : DomId) (b : Bool) → FitsPorts ports (event ∷ events)
+    → (up_to_tick events d ≡ Some past → FitsPorts ports past)
+    → (if b then Some (event ∷ events) else up_to_tick events d) ≡ Some past → FitsPorts ports past
+by_tick ports event events past d true fits rest e = let is : event ∷ events ≡ past = cc in subst (FitsPorts ports) is fits
+by_tick ports event events past d false fits rest e = rest e
 
-up_to : (events past : List Event) (d : DomId) → NoResets events → up_to_tick events d ≡ Some past → NoResets past
-up_to [] past d none e = absurd (cc)
-up_to (event ∷ events) past d none e = by_tick event events past d (ticks event d) none (λ e. up_to events past d none.1 e) e
+up_to : (ports : Ports) (events past : List Event) (d : DomId) → AllByRecursion (FitsEvent ports) events → up_to_tick events d ≡ Some past → FitsPorts ports past
+up_to ports [] past d fits e = absurd (cc)
+up_to ports (event ∷ events) past d fits e =
+    by_tick ports event events past d (ticks event d) fits (λ e. up_to ports events past d fits.1 e) e
 
--- nor does one of the history before the last tick
-pub before_none : (h past : List Event) (d : DomId) → NoResets h → before h d ≡ Some past → NoResets past
-before_none [] past d none e = absurd (cc)
-before_none (present ∷ events) past d none e = up_to events past d none.1 e
+-- the history before the last tick is one of the same ports
+pub before_fits : (ports : Ports) (h past : List Event) (d : DomId) → FitsPorts ports h → before h d ≡ Some past → FitsPorts ports past
+before_fits ports [] past d fits e = absurd fits
+before_fits ports (present ∷ events) past d fits e = up_to ports events past d fits.1 e
 
 not_reset : (past : List Event) (d : DomId) → NoResets past → is_reset past d ≡ false
 not_reset [] d none = refl
@@ -48,6 +49,7 @@ unless_none : (tick : Option (List Event)) (d : DomId) → ((past : List Event) 
 unless_none None d none = refl
 unless_none (Some past) d none = ap (λ b. if b then None else Some past) (not_reset past d (none past refl))
 
--- so a register took its input at each tick
-pub taken_is_before : (h : List Event) (d : DomId) → NoResets h → taken h d ≡ before h d
-taken_is_before h d none = unless_none (before h d) d (λ past e. before_none h past d none e)
+-- a register of ports without resets took its input at each tick
+pub taken_is_before : (ports : Ports) (h : List Event) (d : DomId) → ports.resets ≡ [] → FitsPorts ports h → taken h d ≡ before h d
+taken_is_before ports h d none fits =
+    unless_none (before h d) d (λ past e. no_resets ports past none (before_fits ports h past d fits e))

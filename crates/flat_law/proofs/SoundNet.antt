@@ -1,7 +1,6 @@
 -- The net of a flat description is sound.
 use Rattle.std.proofs.Common.{◌≡◌, ℕ, ◌+◌, ◌-◌, ◌<◌, ◌≤◌, List, [], ◌∷◌, ◌++◌, length, take, Some, None, slice_get, inl, inr, refl, ap, sym, subst, ◌∙◌, arith, length-append}
 use Rattle.std.specs.Prelude.{map, option_and_then}
-use Rattle.std.specs.List.{AllByRecursion}
 use Rattle.std.proofs.lemmas.Option.{slice_get_cases}
 use Rattle.chw_base.specs.declared.limits.TheConstants.{FLAT_WIRES}
 use Rattle.chw_clock.specs.declared.event.Port.{Port}
@@ -17,7 +16,6 @@ use Rattle.flat_law.proofs.Cells.{cell_at, binding_at}
 use Rattle.flat_law.proofs.Lists.{all_from_get, recursion_at, get_exists, length_mapped}
 use Rattle.flat_law.proofs.Signals.{stands, binding_signal, width_at, widths_of_signals}
 use Rattle.netlist.specs.Feeds.{target, target_at}
-use Rattle.netlist.specs.NetValue.{IsValued}
 use Rattle.netlist.specs.Sound.{Sound, FitsCell, HasWidth}
 use Rattle.netlist.specs.declared.net.Cell.{Cell}
 
@@ -38,7 +36,7 @@ first_widths [] bs = refl
 first_widths (p ∷ ps) bs = ap (λ ws. p.width ∷ ws) (first_widths ps bs)
 
 -- the wire of a name that is a signal of this width has this width
-reads_width : (f : FlatText) (y : List ℕ) (n : ℕ) → width_of (signals f) y ≡ Some n
+pub reads_width : (f : FlatText) (y : List ℕ) (n : ℕ) → width_of (signals f) y ≡ Some n
     → HasWidth (widths_of_signals f) (wire_of (names_of (signals f)) y) n
 reads_width f y n w =
     let s = stands (signals f) y n w in
@@ -51,11 +49,6 @@ fits f k n (Same y) le width reads = (n, width, reads_width f y n reads)
 fits f k n (Register bits y) le width reads =
     (omega arith, width ∙ ap Some (sym reads.0), reads_width f y n reads.1 ∙ ap Some (sym reads.0))
 fits f k n (Sum y z) le width reads = (n, le, width, reads_width f y n reads.0, reads_width f z n reads.1)
-
-valued : (names : List (List ℕ)) (k : ℕ) (right : Right) → IsValued (cell_of names k right)
-valued names k (Same y) = tt
-valued names k (Register bits y) = tt
-valued names k (Sum y z) = tt
 
 -- what stands at a place that drives a wire
 cell_there : (cells : List Cell) (place w : ℕ) → target_at cells place ≡ Some w → (cell : Cell) × (slice_get cells place ≡ Some cell) × (target cell ≡ Some w)
@@ -100,14 +93,6 @@ module _ (f : FlatText) (holds : Holds f) (few : length (signals f) ≤ FLAT_WIR
       let bounds = recursion_at (λ width. (1 ≤ width) × (width ≤ 128)) (widths_of_signals f) (length f.parameters + k) b.0.width holds.signals_hold.widths width in
       let reads = recursion_at (λ (b : Binding). Reads (signals f) b.width b.right) f.bindings k b.0 holds.signals_hold.rights b.1 in
       subst (FitsCell 1 (widths_of_signals f)) (sym b.2) (fits f (length f.parameters + k) b.0.width b.0.right bounds.1 width reads)
-
-  valued_place : (k : ℕ) (cell : Cell) → slice_get (flat_of f).cells k ≡ Some cell → IsValued cell
-  valued_place k cell e =
-      let b = cell_at names (length f.parameters) f.bindings k cell e in
-      subst IsValued (sym b.2) (valued names (length f.parameters + k) b.0.right)
-
-  pub all_valued : AllByRecursion IsValued (flat_of f).cells
-  all_valued = all_from_get IsValued (flat_of f).cells valued_place
 
   bounded : (k n : ℕ) → slice_get (widths_of_signals f) k ≡ Some n → (1 ≤ n) × (n ≤ 4096)
   bounded k n e =

@@ -1,9 +1,9 @@
 -- A wire's bits are bits of its name.
-use Rattle.std.proofs.Common.{◌≡◌, ℕ, ◌+◌, ◌%◌, ◌^◌, ◌<◌, Bool, List, ◌∷◌, length, Some, None, slice_get, refl, ap, sym, subst, ◌∙◌, arith}
+use Rattle.std.proofs.Common.{◌≡◌, ℕ, ◌+◌, ◌%◌, ◌^◌, ◌<◌, Bool, List, [], ◌∷◌, length, Some, None, slice_get, refl, ap, sym, subst, ◌∙◌, arith}
 use Rattle.chw_base.specs.declared.index.DomId.{DomId}
 use Rattle.chw_base.specs.declared.index.WireId.{WireId}
 use Rattle.chw_bits.specs.Bits.{bits_of, number_of}
-use Rattle.chw_clock.specs.Histories.{before}
+use Rattle.chw_clock.specs.Histories.{FitsPorts, before}
 use Rattle.chw_clock.specs.declared.event.Event.{Event}
 use Rattle.flat_form.specs.FlatNet.{cell_of, domain, place_of, wire_of}
 use Rattle.flat_form.specs.FlatValue.{Binds, FlatValue}
@@ -17,14 +17,17 @@ use Rattle.flat_form.specs.declared.flat.Right.TheVariants.{Same, Register, Sum}
 use Rattle.flat_law.specs.FlatOf.{flat_of}
 use Rattle.flat_law.proofs.Cells.{cell_at}
 use Rattle.flat_law.proofs.Lists.{get_exists, get_mapped, recursion_at}
-use Rattle.flat_law.proofs.Resets.{NoResets, before_none, taken_is_before}
-use Rattle.flat_law.proofs.Signals.{stands, binding_signal, parameter_signal, width_at, widths_of_signals}
-use Rattle.flat_law.proofs.SoundNet.{ports_count}
-use Rattle.netlist.specs.NetValue.{HasCell, NetValue}
-use Rattle.netlist.specs.NetValue.NetValue.{input, copy, first, later, sum}
+use Rattle.flat_law.proofs.Resets.{before_fits, taken_is_before}
+use Rattle.flat_law.proofs.Signals.{stands, binding_signal, parameter_signal, widths_of_signals}
+use Rattle.flat_law.proofs.SoundNet.{ports_count, reads_width}
+use Rattle.netlist.specs.Feeds.{target}
+use Rattle.netlist.specs.NetValue.{HasCell, HasRam, Memory, NetValue, ReadValues, zeros}
+use Rattle.netlist.specs.NetValue.NetValue.{input, operated, first, later, unread, outside, shown}
+use Rattle.netlist.specs.NetValue.ReadValues.{read_none, read_and}
+use Rattle.netlist.specs.Operators.{KeepsNothing, operator}
+use Rattle.netlist.specs.Wires.{read_by}
 use Rattle.netlist.specs.declared.net.Cell.{Cell}
-use Rattle.netlist.specs.declared.net.Cell.TheVariants.{Copy, Reg, Bin}
-use Rattle.netlist.specs.declared.net.Op2.TheVariants.{Add}
+use Rattle.netlist.specs.declared.net.Cell.TheVariants.{Reg, Ram}
 
 module _ (f : FlatText) (holds : Holds f) where
   abbrev names : List (List ℕ)
@@ -69,16 +72,35 @@ module _ (f : FlatText) (holds : Holds f) where
       → Binds f (record { name = name; width = b.width; right = right })
   binds_as place b name right e n r = (place, e ∙ ap Some (λ i. record { name = n i; width = b.width; right = r i }))
 
-  copied : (x a : WireId) (h : List Event) (bits : List Bool) (name : List ℕ) (b : Binding) (place : ℕ) (right : Right)
-      → slice_get f.bindings place ≡ Some b → b.right ≡ right → Copy x a ≡ cell_of names (length f.parameters + place) right → Reads (signals f) b.width right
-      → Names x.number name → ((y : List ℕ) → Names a.number y → FlatValue f h y bits) → FlatValue f h name bits
-  copied x a h bits name b place (Same y) e r is reads n rest =
-      let wx : x.number ≡ length f.parameters + place = cc in
-      let wa : a.number ≡ (wire_of names y).number = cc in
-      meant_same name y b.width h bits (binds_as place b name (Same y) e (named place x.number b name e wx n) r)
-      (rest y (ap (slice_get names) wa ∙ reads_name y b.width reads))
-  copied x a h bits name b place (Register initial y) e r is reads n rest = absurd (cc)
-  copied x a h bits name b place (Sum y z) e r is reads n rest = absurd (cc)
+  -- the wires have bits of their names, as wide as the wires
+  abbrev Meant : List Event → List WireId → List (List Bool) → Type 0
+  Meant h [] [] = Unit {0}
+  Meant h (w ∷ wires) (bits ∷ values) =
+      (((y : List ℕ) → Names w.number y → FlatValue f h y bits) × (slice_get (widths_of_signals f) w.number ≡ Some (length bits))) × Meant h wires values
+  Meant h _ _ = ⊥
+
+  -- what the cell of a copy or a sum gives is meant by the name
+  gives : (h : List Event) (w : ℕ) (values : List (List Bool)) (name : List ℕ) (b : Binding) (place : ℕ) (right : Right)
+      → slice_get f.bindings place ≡ Some b → b.right ≡ right → Reads (signals f) b.width right → Names w name
+      → KeepsNothing (cell_of names (length f.parameters + place) right) → target (cell_of names (length f.parameters + place) right) ≡ Some w
+      → Meant h (read_by (cell_of names (length f.parameters + place) right)) values
+      → FlatValue f h name (operator (cell_of names (length f.parameters + place) right) values)
+  gives h w [] name b place (Same y) e r reads n keeps t m = absurd m
+  gives h w (bits ∷ []) name b place (Same y) e r reads n keeps t m =
+      let is : w ≡ length f.parameters + place = cc in
+      meant_same name y b.width h bits (binds_as place b name (Same y) e (named place w b name e is n) r) (m.0.0 y (reads_name y b.width reads))
+  gives h w (bits ∷ more ∷ values) name b place (Same y) e r reads n keeps t m = absurd m.1
+  gives h w values name b place (Register initial y) e r reads n keeps t m = absurd keeps
+  gives h w [] name b place (Sum y z) e r reads n keeps t m = absurd m
+  gives h w (u ∷ []) name b place (Sum y z) e r reads n keeps t m = absurd m.1
+  gives h w (u ∷ v ∷ []) name b place (Sum y z) e r reads n keeps t m =
+      let is : w ≡ length f.parameters + place = cc in
+      let wide : Some b.width ≡ Some (length u) = sym (reads_width f y b.width reads.0) ∙ m.0.1 in
+      let same : b.width ≡ length u = cc in
+      subst (λ k. FlatValue f h name (bits_of k ((number_of u + number_of v) % 2 ^ k))) same
+      (meant_sum name y z b.width h u v (binds_as place b name (Sum y z) e (named place w b name e is n) r)
+      (m.0.0 y (reads_name y b.width reads.0)) (m.1.0.0 z (reads_name z b.width reads.1)))
+  gives h w (u ∷ v ∷ more ∷ values) name b place (Sum y z) e r reads n keeps t m = absurd m.1.1
 
   initial_bits : (x a : WireId) (d : DomId) (initial : List Bool) (h : List Event) (name : List ℕ) (b : Binding) (place : ℕ) (right : Right)
       → slice_get f.bindings place ≡ Some b → b.right ≡ right → Reg x d initial a ≡ cell_of names (length f.parameters + place) right
@@ -106,22 +128,15 @@ module _ (f : FlatText) (holds : Holds f) where
   moved x a d initial bits h past name b place (Same y) e r is reads n tick rest = absurd (cc)
   moved x a d initial bits h past name b place (Sum y z) e r is reads n tick rest = absurd (cc)
 
-  added : (x a c : WireId) (n : ℕ) (h : List Event) (u v : List Bool) (name : List ℕ) (b : Binding) (place : ℕ) (right : Right)
-      → slice_get f.bindings place ≡ Some b → b.right ≡ right → Bin x Add a c ≡ cell_of names (length f.parameters + place) right
-      → Reads (signals f) b.width right → slice_get (widths_of_signals f) x.number ≡ Some n → Names x.number name
-      → ((y : List ℕ) → Names a.number y → FlatValue f h y u) → ((z : List ℕ) → Names c.number z → FlatValue f h z v)
-      → FlatValue f h name (bits_of n ((number_of u + number_of v) % 2 ^ n))
-  added x a c n h u v name b place (Sum y z) e r is reads width at left right =
-      let wx : x.number ≡ length f.parameters + place = cc in
-      let wa : a.number ≡ (wire_of names y).number = cc in
-      let wc : c.number ≡ (wire_of names z).number = cc in
-      let own = width_at f (length f.parameters + place) (signal_of b) (binding_signal f place b e) in
-      let wide : b.width ≡ n = (let s : slice_get (widths_of_signals f) (length f.parameters + place) ≡ Some n = sym (ap (slice_get (widths_of_signals f)) wx) ∙ width in cc) in
-      subst (λ n. FlatValue f h name (bits_of n ((number_of u + number_of v) % 2 ^ n))) wide
-      (meant_sum name y z b.width h u v (binds_as place b name (Sum y z) e (named place x.number b name e wx at) r)
-      (left y (ap (slice_get names) wa ∙ reads_name y b.width reads.0)) (right z (ap (slice_get names) wc ∙ reads_name z b.width reads.1)))
-  added x a c n h u v name b place (Same y) e r is reads width at left right = absurd (cc)
-  added x a c n h u v name b place (Register bits y) e r is reads width at left right = absurd (cc)
+  no_ram : (w : WireId) (ram : Memory) (k : ℕ) (right : Right) → Ram w ram.domain ram.words ram.inputs ≡ cell_of names k right → ⊥
+  no_ram w ram k (Same y) is = cc
+  no_ram w ram k (Register bits y) is = cc
+  no_ram w ram k (Sum y z) is = cc
+
+  no_value : (w : WireId) (ram : Memory) (h : List Event) (name : List ℕ) (bits : List Bool) → HasRam (flat_of f) w ram → FlatValue f h name bits
+  no_value w ram h name bits has =
+      let b = bound_to w.number (Ram w ram.domain ram.words ram.inputs) has in
+      absurd (no_ram w ram (length f.parameters + b.place) b.binding.right b.cell_is)
 
   -- a parameter's bits
   given : (w : ℕ) (present : Event) (past : List Event) (bits : List Bool) (name : List ℕ) → w < length f.parameters → slice_get present.inputs w ≡ Some bits
@@ -132,22 +147,34 @@ module _ (f : FlatText) (holds : Holds f) where
       let same : p.0.name ≡ name = cc in
       subst (λ name. FlatValue f (present ∷ past) name bits) same (meant_input w p.0 present past bits p.1 e)
 
-  pub translated : (h : List Event) (w : ℕ) (bits : List Bool) → NoResets h → NetValue (flat_of f) h w bits → (name : List ℕ) → Names w name
-      → FlatValue f h name bits
-  translated _ _ _ none (input w present past bits lt e) name n =
-      given w present past bits name (omega (arith, ports_count f.parameters f.inputs holds.inputs)) e n
-  translated _ _ _ none (copy x a h bits has v) name n =
-      let b = bound_to x.number (Copy x a) has in
-      copied x a h bits name b.binding b.place b.binding.right b.binds refl b.cell_is b.reads n (λ y m. translated h a.number bits none v y m)
-  translated _ _ _ none (first x a d initial h has e) name n =
-      let b = bound_to x.number (Reg x d initial a) has in
-      initial_bits x a d initial h name b.binding b.place b.binding.right b.binds refl b.cell_is n (sym (taken_is_before h d none) ∙ e)
-  translated _ _ _ none (later x a d initial bits h past has e v) name n =
-      let tick = sym (taken_is_before h d none) ∙ e in
-      let b = bound_to x.number (Reg x d initial a) has in
-      moved x a d initial bits h past name b.binding b.place b.binding.right b.binds refl b.cell_is b.reads n tick
-      (λ y m. translated past a.number bits (before_none h past d none tick) v y m)
-  translated _ _ _ none (sum x a c k h u v has e s t) name n =
-      let b = bound_to x.number (Bin x Add a c) has in
-      added x a c k h u v name b.binding b.place b.binding.right b.binds refl b.cell_is b.reads e n
-      (λ y m. translated h a.number u none s y m) (λ z m. translated h c.number v none t z m)
+  -- the history is one of the ports
+  abbrev pub Fits : List Event → Type 0
+  Fits h = FitsPorts (flat_of f).ports h
+
+  module _ (wide : (h : List Event) (w : ℕ) (bits : List Bool) → Fits h → NetValue (flat_of f) h w bits → slice_get (widths_of_signals f) w ≡ Some (length bits)) where
+    mutual
+      pub translated : (h : List Event) (w : ℕ) (bits : List Bool) → Fits h → NetValue (flat_of f) h w bits → (name : List ℕ) → Names w name
+          → FlatValue f h name bits
+      translated _ _ _ fits (input w present past bits lt e) name n =
+          given w present past bits name (omega (arith, ports_count f.parameters f.inputs holds.inputs)) e n
+      translated _ _ _ fits (operated cell w h values has keeps t reads) name n =
+          let b = bound_to w cell has in
+          subst (λ c. KeepsNothing c → target c ≡ Some w → Meant h (read_by c) values → FlatValue f h name (operator c values)) (sym b.cell_is)
+          (λ k t m. gives h w values name b.binding b.place b.binding.right b.binds refl b.reads n k t m) keeps t
+          (translated_reads h (read_by cell) values fits reads)
+      translated _ _ _ fits (first x a d initial h has e) name n =
+          let b = bound_to x.number (Reg x d initial a) has in
+          initial_bits x a d initial h name b.binding b.place b.binding.right b.binds refl b.cell_is n (sym (taken_is_before (flat_of f).ports h d refl fits) ∙ e)
+      translated _ _ _ fits (later x a d initial bits h past has e v) name n =
+          let tick = sym (taken_is_before (flat_of f).ports h d refl fits) ∙ e in
+          let b = bound_to x.number (Reg x d initial a) has in
+          moved x a d initial bits h past name b.binding b.place b.binding.right b.binds refl b.cell_is b.reads n tick
+          (λ y m. translated past a.number bits (before_fits (flat_of f).ports h past d fits tick) v y m)
+      translated _ _ _ fits (unread w ram width h has known e) name n = no_value w ram h name (zeros width) has
+      translated _ _ _ fits (outside w ram width h past address has known e v le) name n = no_value w ram h name (zeros width) has
+      translated _ _ _ fits (shown w ram h past address bits has e v lt word) name n = no_value w ram h name bits has
+
+      translated_reads : (h : List Event) (wires : List WireId) (values : List (List Bool)) → Fits h → ReadValues (flat_of f) h wires values → Meant h wires values
+      translated_reads _ _ _ fits (read_none h) = tt
+      translated_reads _ _ _ fits (read_and h w wires bits values v vs) =
+          ((λ y m. translated h w.number bits fits v y m, wide h w.number bits fits v), translated_reads h wires values fits vs)

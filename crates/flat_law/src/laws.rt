@@ -9,7 +9,7 @@ ghost use Rattle.flat_law.specs.FlatOf.{flat_of, SameBits};
 ghost use Rattle.netlist.specs.Orders.{IsOrder};
 ghost use Rattle.netlist.specs.Sound.{Sound};
 
-use netlist::laws::every_wire_has_a_value;
+use netlist::laws::{a_value_has_its_width, every_wire_has_a_value};
 
 /// The net of a flat description, with no more wires than the limit, is sound.
 pub fn net_is_sound()
@@ -22,4 +22,5 @@ pub fn net_has_the_bits()
         → FitsPorts (flat_of f).ports h → SameBits f h }
 {
     every_wire_has_a_value();
+    a_value_has_its_width();
 }

@@ -1,5 +1,5 @@
 -- The history before the last tick, and the one at whose last event a register took its input.
-use Rattle.std.proofs.Common.{◌≡◌, ℕ, ◌+◌, ◌<◌, ◌≤◌, Bool, true, false, List, [], ◌∷◌, length, Option, Some, None, subst, arith, if◌then◌else◌}
+use Rattle.std.proofs.Common.{◌≡◌, ℕ, ◌<◌, ◌≤◌, Bool, true, false, List, [], ◌∷◌, length, Option, Some, None, subst, arith, if◌then◌else◌}
 use Rattle.std.specs.List.{AllByRecursion}
 use Rattle.chw_base.specs.declared.index.DomId.{DomId}
 use Rattle.chw_clock.specs.Histories.{FitsEvent, FitsPorts, is_reset, taken, ticks, unless_reset, up_to_tick, before}
@@ -28,7 +28,7 @@ up_to : (ports : Ports) (events : List Event) (d : DomId) (past : List Event) �
 up_to ports [] d past f e = absurd (cc)
 up_to ports (event ∷ events) d past f e = chosen ports event events past d (ticks event d) f (λ e. up_to ports events d past f.1 e) e
 
-before_is_past : (ports : Ports) (present : Event) (events past : List Event) (d : DomId) → FitsPorts ports (present ∷ events)
+pub before_is_past : (ports : Ports) (present : Event) (events past : List Event) (d : DomId) → FitsPorts ports (present ∷ events)
     → before (present ∷ events) d ≡ Some past → IsPast ports (length events) past
 before_is_past ports present events past d f e = up_to ports events d past f.1 e
 
@@ -45,3 +45,23 @@ pub taken_is_past : (ports : Ports) (present : Event) (events past : List Event)
     → taken (present ∷ events) d ≡ Some past → IsPast ports (length events) past
 taken_is_past ports present events past d f e =
     kept ports (length events) d (before (present ∷ events) d) past (λ past e. before_is_past ports present events past d f e) e
+
+-- both are histories of the same ports
+pub before_fits : (ports : Ports) (h past : List Event) (d : DomId) → FitsPorts ports h → before h d ≡ Some past → FitsPorts ports past
+before_fits ports [] past d f e = absurd f
+before_fits ports (present ∷ events) past d f e = (before_is_past ports present events past d f e).fits
+
+pub taken_fits : (ports : Ports) (h past : List Event) (d : DomId) → FitsPorts ports h → taken h d ≡ Some past → FitsPorts ports past
+taken_fits ports [] past d f e = absurd f
+taken_fits ports (present ∷ events) past d f e = (taken_is_past ports present events past d f e).fits
+
+-- the history before the last tick is shorter
+pub before_shorter : (ports : Ports) (h past : List Event) (d : DomId) → FitsPorts ports h → before h d ≡ Some past → length past < length h
+before_shorter ports [] past d f e = absurd f
+before_shorter ports (present ∷ events) past d f e =
+    let is = before_is_past ports present events past d f e in omega (arith, is.shorter)
+
+pub taken_shorter : (ports : Ports) (h past : List Event) (d : DomId) → FitsPorts ports h → taken h d ≡ Some past → length past < length h
+taken_shorter ports [] past d f e = absurd f
+taken_shorter ports (present ∷ events) past d f e =
+    let is = taken_is_past ports present events past d f e in omega (arith, is.shorter)

@@ -1,10 +1,13 @@
 pub mod Before
 pub mod Chains
 pub mod Exclusion
+pub mod Lengths
 pub mod Lists
 pub mod OneValue
+pub mod Places
 pub mod Placing
 pub mod Rounds
 pub mod Tables
 pub mod Values
 pub mod Waiting
+pub mod Widths

@@ -3,6 +3,7 @@ pub mod Feeds
 pub mod Flattened
 pub mod Names
 pub mod NetValue
+pub mod Operators
 pub mod Orders
 pub mod Sound
 pub mod Text

@@ -1,10 +1,9 @@
 //! The laws of flat nets, their orders and their loops. Each is a function that does nothing, and says its law of all of them.
-ghost use Rattle.std.specs.Prelude.{◌≡◌, ◌<◌, ℕ, ◌+◌, Bool, List, length};
-ghost use Rattle.std.specs.List.{AllByRecursion};
+ghost use Rattle.std.specs.Prelude.{◌≡◌, ◌<◌, ℕ, ◌+◌, Bool, List, length, Some, slice_get};
 ghost use Rattle.chw_base.specs.declared.index.WireId.{WireId};
 ghost use Rattle.chw_clock.specs.Histories.{FitsPorts};
 ghost use Rattle.chw_clock.specs.declared.event.Event.{Event};
-ghost use Rattle.netlist.specs.NetValue.{HasValue, IsValued, NetValue};
+ghost use Rattle.netlist.specs.NetValue.{HasValue, NetValue};
 ghost use Rattle.netlist.specs.Orders.{IsLoop, IsOrder};
 ghost use Rattle.netlist.specs.Sound.{DrivenOnce, DrivesFrom, Sound};
 ghost use Rattle.netlist.specs.declared.net.Cell.{Cell};
@@ -24,8 +23,14 @@ pub fn cells_in_order_drive_once()
 
 /// In a sound flat net with an order, each wire has a value of its width at each history of the net's ports.
 pub fn every_wire_has_a_value()
-    ensures { (flat : Flat) (places : List ℕ) (h : List Event) (w : ℕ) → Sound flat → IsOrder flat places → AllByRecursion IsValued flat.cells
+    ensures { (flat : Flat) (places : List ℕ) (h : List Event) (w : ℕ) → Sound flat → IsOrder flat places
         → FitsPorts flat.ports h → w < length flat.widths → HasValue flat h w }
+{}
+
+/// A value of a wire of a sound flat net has the wire's width, at each history of the net's ports.
+pub fn a_value_has_its_width()
+    ensures { (flat : Flat) (h : List Event) (w : ℕ) (bits : List Bool) → Sound flat → FitsPorts flat.ports h → NetValue flat h w bits
+        → slice_get flat.widths w ≡ Some (length bits) }
 {}
 
 /// A wire of a sound flat net has at most one value at a history.
