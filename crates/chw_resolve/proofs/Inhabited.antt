@@ -32,10 +32,10 @@ each_inhabited : {xs : List Declaration} {a b : List Lexeme} → DeclarationsAt 
 each_inhabited no_declaration g = tt
 each_inhabited (declared {xs = xs} b one more) g = one_inhabited one g (flat_map (datas_in g) xs) (each_inhabited more g)
 
-all_inhabited : (tree : Tree) → WasRead tree → AreInhabited (data_types_of tree)
+all_inhabited : {text : List ℕ} (tree : Tree) → WasRead text tree → AreInhabited (data_types_of tree)
 all_inhabited tree read = (omega arith, (omega arith, (omega arith, each_inhabited read.reads.declared (globals_of tree.declarations))))
 
-pub inhabited : (tree : Tree) (datas : List Data) → WasRead tree → map without_kind datas ≡ data_types_of tree → (d : ℕ) (it : Data) → slice_get datas d ≡ Some it → 0 < length it.cons
+pub inhabited : {text : List ℕ} (tree : Tree) (datas : List Data) → WasRead text tree → map without_kind datas ≡ data_types_of tree → (d : ℕ) (it : Data) → slice_get datas d ≡ Some it → 0 < length it.cons
 inhabited tree datas read same d it h =
     inhabited_at (data_types_of tree) d (without_kind it) (all_inhabited tree read)
     (subst (λ (its : List Data). slice_get its d ≡ Some (without_kind it)) same (slice_get-map without_kind datas d ∙ ap (option_map without_kind) h))

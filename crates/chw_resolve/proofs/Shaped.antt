@@ -53,10 +53,10 @@ pub record NamesFormed (tree : Tree) : Type 0 where
   pub inputs : HaveForm IsLower tree.top.inputs
   pub outputs : HaveForm IsLower tree.top.outputs
 
-pub names_formed : (tree : Tree) → WasRead tree → NamesFormed tree
-names_formed tree read =
-    let tokens = formed_tokens read.text read.tokens (forms read.text read.tokens read.split) in
-    let formed = tree_formed (lexemes_of read.text read.tokens) tree read.reads tokens in
+pub names_formed : {text : List ℕ} (tree : Tree) → WasRead text tree → NamesFormed tree
+names_formed {text} tree read =
+    let tokens = formed_tokens text read.tokens (forms text read.tokens read.split) in
+    let formed = tree_formed (lexemes_of text read.tokens) tree read.reads tokens in
     let outs : List Lexeme = ports_lexemes tree.top.outputs ++ sign the.Semicolon ∷ [] in
     let last = formed_right (ports_lexemes tree.top.inputs) outs formed.1.1.1 in
     record {

@@ -74,7 +74,7 @@ module _ (tree : Tree) (before after : Program) (names : HasNames tree) (bare : 
   made : IsProgramOf tree after
   made = program_kept tree before after bare got
 
-  pub tidied : WasRead tree → IsTidy after
+  pub tidied : {text : List ℕ} → WasRead text tree → IsTidy after
   tidied read =
       let formed = names_formed tree read in
       let once = declared_once tree names.once in

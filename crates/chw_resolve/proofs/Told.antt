@@ -27,7 +27,7 @@ pub unknown_told : (tree : Tree) (w : Word) (name : List ℕ) → name ≡ w.byt
 unknown_told tree w name same within once least = subst (λ (n : List ℕ). IsNameFault tree (Unknown n w.at)) (sym same) (unknown w within once least)
 
 module _ (tree : Tree) (bare : Program) (names : HasNames tree) (made : IsProgramOf tree bare) where
-  pub if_tidy : (r : Result Program (Or NameFault)) → WasRead tree → IfOk r (GetsKinds bare) → IfOk r IsTidy
+  pub if_tidy : {text : List ℕ} (r : Result Program (Or NameFault)) → WasRead text tree → IfOk r (GetsKinds bare) → IfOk r IsTidy
   if_tidy (Ok p) read got = tidied tree bare p names made got read
   if_tidy (Err e) read got = tt
 

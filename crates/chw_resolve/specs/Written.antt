@@ -6,9 +6,8 @@ use Rattle.chw_grammar.specs.declared.program.Tree.{Tree}
 use Rattle.chw_lexer.specs.Tokens.{Tokens}
 use Rattle.chw_lexer.specs.declared.token.Token.{Token}
 
--- the tokens of some text are read as this tree
-pub record WasRead (tree : Tree) : Type 0 where
-  pub text : List ℕ
+-- the tokens of the text are read as this tree
+pub record WasRead (text : List ℕ) (tree : Tree) : Type 0 where
   pub tokens : List Token
   pub split : Tokens text tokens
   pub reads : Reads (lexemes_of text tokens) tree

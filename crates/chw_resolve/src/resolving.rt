@@ -23,8 +23,10 @@ use std::alloc::Global;
 ///
 /// A type that is applied to too many or too few types, and a literal that is out of its range, have their places in the program; but
 /// they have no kind and no type.
-pub fn resolve(alloc: Global, tree: &Tree) -> Result<Program, Or<NameFault>>
-    requires { WasRead tree.now }
+///
+/// The tree is the one that was read from the text; it holds its words itself.
+pub fn resolve(alloc: Global, text: &[u8], tree: &Tree) -> Result<Program, Or<NameFault>>
+    requires { WasRead text.now tree.now }
     ensures program { IfOk result (IsProgramOf tree.now) }
     ensures tidy { IfOk result IsTidy }
     ensures well_named { IfOk result (λ _. IsWellNamed tree.now) }

@@ -1,4 +1,5 @@
 pub mod FoundOnce
 pub mod FoundTyped
 pub mod Settling
+pub mod Shown
 pub mod TypedFound

@@ -12,18 +12,25 @@ use Rattle.found_types.specs.Finding.{settled, Finds}
 
 -- at most one type is found for a term
 abbrev pub OneFound : Type 0
-OneFound = (s : Setting) (kinds : List Kind) (vars : List TypeTree) (e : TermTree) (t u : TypeTree) → Finds s kinds vars e t → Finds s kinds vars e u → t ≡ u
+OneFound =
+    (s : Setting) (kinds : List Kind) (vars : List TypeTree) (e : TermTree) (t u : TypeTree)
+    → Finds s kinds vars e t → Finds s kinds vars e u → t ≡ u
 
 -- what is found is a type of the term
 abbrev pub FoundIsType : Type 0
-FoundIsType = (s : Setting) (kinds : List Kind) (vars : List TypeTree) (e : TermTree) (t : TypeTree) → Finds s kinds vars e t → HasType s kinds vars e t
+FoundIsType =
+    (s : Setting) (kinds : List Kind) (vars : List TypeTree) (e : TermTree) (t : TypeTree)
+    → Finds s kinds vars e t → HasType s kinds vars e t
 
 -- for a term that has a type one is found, which is the same up to naturals
 abbrev pub TypedIsFound : Type 0
 TypedIsFound =
-    (s : Setting) (kinds : List Kind) (vars : List TypeTree) (e : TermTree) (t : TypeTree) → IsSound s → AreTermTypes s kinds vars → HasType s kinds vars e t
+    (s : Setting) (kinds : List Kind) (vars : List TypeTree) (e : TermTree) (t : TypeTree)
+    → IsSound s → AreTermTypes s kinds vars → HasType s kinds vars e t
     → (u : TypeTree) × Finds s kinds vars e u × SameTypes t u
 
 -- a type of one variable into which a closed type of its kind is put stays as it is
 abbrev pub ClosedSettles : Type 0
-ClosedSettles = (s : Setting) (j k : Kind) (t a : TypeTree) → HasKind s (j ∷ []) t k → HasKind s [] a j → settled s [] (put t 0 a) ≡ put t 0 a
+ClosedSettles =
+    (s : Setting) (j k : Kind) (t a : TypeTree) → HasKind s (j ∷ []) t k → HasKind s [] a j
+    → settled s [] (put t 0 a) ≡ put t 0 a
