@@ -1,10 +1,14 @@
 pub mod CeilingLaws
+pub mod EqualTrees
+pub mod FactorsInOrder
 pub mod Filled
 pub mod KindsFound
 pub mod KindsInLists
 pub mod KindsKept
 pub mod LeavesFound
 pub mod NoCycles
+pub mod NormalForms
+pub mod ProductsTurned
 pub mod RowLoops
 pub mod RowMade
 pub mod RowsTell
@@ -12,6 +16,7 @@ pub mod SameLaws
 pub mod SameTypesFound
 pub mod Sums
 pub mod Settling
+pub mod SummandsTaken
 pub mod SumsFound
 pub mod TypeLaws
 pub mod TypeMoved
