@@ -1,5 +1,5 @@
 -- The function that the code computes is the relation.
-use Rattle.std.proofs.Common.{◌≡◌, ℕ, suc, ◌+◌, ◌<◌, ◌≤◌, Bool, true, false, ◌&&◌, refl, sym, ap, ◌∙◌, subst, List, [], ◌∷◌, length, eqb, drop, get_or, arith, ◌⊎◌, inl, inr}
+use Rattle.std.proofs.Common.{◌≡◌, ℕ, suc, ◌+◌, ◌<◌, ◌≤◌, Bool, true, false, ◌&&◌, refl, sym, ap, ◌∙◌, subst, List, [], ◌∷◌, length, eqb, drop, get_or, arith, ◌⊎◌, inl, inr, IsTrue, ◌↔◌}
 use Rattle.std.proofs.lemmas.Bool.{and_parts, and_from, eqb-true, eq-eqb}
 use Rattle.chw_types.specs.declared.kind.Kind.{Kind}
 use Rattle.chw_types.specs.declared.kind.Kind.TheVariants.{Nat, Dom, Val, Cir}
@@ -193,13 +193,6 @@ pub all_done : (ts us : List TypeTree) (i : ℕ) → length ts ≤ i → length 
 unfolding same_parts
 all_done ts us i h g inv = sym inv ∙ (λ j. same_all (trees_of (drop_all i ts h j)) (trees_of (drop_all i us (omega arith) j)))
 
--- sums that agree with two naturals' agree where those do
-pub naturals_by_sums : (p q : Summands) (a b : TypeTree) → Agrees p (multiplied a) → Agrees q (multiplied b) → same_sums p q ≡ same_sums (multiplied a) (multiplied b)
-naturals_by_sums p q a b h g =
-    same_from_decides (same_sums p q) (same_sums (multiplied a) (multiplied b))
-    ((λ e. λ m. sym (h m) ∙ sums_agree p q e m ∙ g m), (λ e. agreeing_sums p q (λ m. h m ∙ e m ∙ sym (g m))))
-    (sums_agree (multiplied a) (multiplied b), agreeing_sums (multiplied a) (multiplied b))
-
 pub data_lengths : (d e : ℕ) (ts us : List TypeTree) (x y : TypeTree) → data_of d (trees_of ts) ≡ x → data_of e (trees_of us) ≡ y → (length ts ≡ length us → ⊥) → false ≡ same_found x y
 data_lengths d e ts us x y f g h =
     data_same d e (trees_of ts) (trees_of us) false x y f g (ap (λ b. eqb d e && b) (all_lengths ts us h) ∙ and_no (eqb d e))
@@ -207,3 +200,7 @@ data_lengths d e ts us x y f g h =
     and_no : (b : Bool) → (b && false) ≡ false
     and_no true = refl
     and_no false = refl
+
+-- what is true exactly where two sums agree is the test of them
+pub sums_decided : (b : Bool) (p q : Summands) → (IsTrue b ↔ Agrees p q) → b ≡ same_sums p q
+sums_decided b p q h = same_from_decides b (same_sums p q) h (sums_agree p q, agreeing_sums p q)

@@ -164,6 +164,10 @@ pub over_by_each : (p q : Summands) (f : Monomial → ℕ) → over (by_each p q
 over_by_each [] q f = refl
 over_by_each (s ∷ p) q f = over_append (by_one s q) (by_each p q) f ∙ (λ i. over_by_one s q f i + over_by_each p q f i)
 
+pub coefficient_append : (p q : Summands) (m : Monomial) → coefficient (p ++ q) m ≡ coefficient p m + coefficient q m
+coefficient_append [] q m = sym (zero-add (coefficient q m))
+coefficient_append (s ∷ p) q m = ap (λ r. counted (same_factors s.1 m) s.0 + r) (coefficient_append p q m) ∙ sym (add_assoc (counted (same_factors s.1 m) s.0) (coefficient p m) (coefficient q m))
+
 -- sums and products of agreeing polynomials agree
 pub agree_append : (c : ℕ) (p p' q q' : Summands) → Agree c p p' → Agree c q q' → Agree c (p ++ q) (p' ++ q')
 agree_append c p p' q q' h g m =
@@ -172,10 +176,6 @@ agree_append c p p' q q' h g m =
     ∙ (λ i. min (h m i + g m i) c)
     ∙ sym (cap_plus c (coefficient p' m) (coefficient q' m))
     ∙ ap (λ n. min n c) (sym (coefficient_append p' q' m))
-  where
-    coefficient_append : (p q : Summands) (m : Monomial) → coefficient (p ++ q) m ≡ coefficient p m + coefficient q m
-    coefficient_append [] q m = sym (zero-add (coefficient q m))
-    coefficient_append (s ∷ p) q m = ap (λ r. counted (same_factors s.1 m) s.0 + r) (coefficient_append p q m) ∙ sym (add_assoc (counted (same_factors s.1 m) s.0) (coefficient p m) (coefficient q m))
 
 pub agree_by_each : (c : ℕ) (p p' q q' : Summands) → Agree c p p' → Agree c q q' → Agree c (by_each p q) (by_each p' q')
 agree_by_each c p p' q q' h g m =

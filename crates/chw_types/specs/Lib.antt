@@ -4,6 +4,7 @@ pub mod BuiltIn
 pub mod Ceiling
 pub mod KindFound
 pub mod Kinds
+pub mod NormalSums
 pub mod Polynomials
 pub mod Ports
 pub mod PortsFound

@@ -1,13 +1,22 @@
 //! Naturals, multiplied out to sums of coefficients times products of variables.
-ghost use Rattle.std.specs.Prelude.{◌≡◌, ◌∷◌, ◌++◌, [], ◌<◌, ◌≤◌, length, drop, insert, IfOk, OnOk, IfSome, IfNone};
-ghost use Rattle.chw_types.specs.Polynomials.{coefficient as coefficient_of, with_factor, times, same_factors, by_one, by_each, ended, multiplied};
+//!
+//! A sum is a list in normal form: each product of variables once, in order, none with the coefficient 0. So sums are merged in one
+//! pass, and two sums are one polynomial exactly if their lists are equal.
+ghost use Rattle.std.specs.Prelude.{◌≡◌, ◌↔◌, ◌+◌, ◌*◌, ◌≤◌, ◌⊎◌, ◌∷◌, ◌++◌, [], length, IfOk, IfSome, IfNone, IsTrue};
+ghost use Rattle.chw_types.specs.Polynomials.{times, by_each, ended, multiplied};
 ghost use Rattle.chw_types.specs.Agreement.{Agrees};
-ghost use Rattle.chw_types.specs.SameFound.{agree_on, same_sums};
-ghost use Rattle.chw_types.specs.SummandView.{summand_of, summands_of, StandsAt};
+ghost use Rattle.chw_types.specs.NormalSums.{order as order_of, IsAscending, IsProper, IsNormal, scaled as scaled_sum, TakesLeast};
+ghost use Rattle.chw_types.specs.SummandView.{summand_of, summands_of};
 
 use crate::ty::{Ty, TyNode};
 use chw_base::NoMemory;
+use chw_base::limits::TYPE_PARTS;
 use std::alloc::Global;
+use std::cmp::Ordering;
+use std::collections::VecDeque;
+
+// The most factors of a sum, all summands together.
+const MOST_FACTORS: u32 = 64_000_000;
 
 // A coefficient, and the variables that are multiplied with it, the least first.
 #[derive(Drop)]
@@ -16,128 +25,180 @@ pub(crate) struct Summand {
     factors: Vec<u32>,
 }
 
-// Where a factor has its place.
-fn place(factors: &[u32], x: u32) -> usize
-    ensures within { result ≤ length factors.now }
-    ensures place { insert factors.now result x ≡ with_factor x factors.now }
-{
-    for (i, y) in factors.iter().enumerate() {
-        if x <= *y {
-            return i;
-        }
-    }
-    factors.len()
-}
-
 // The product of two products of variables.
 fn times(alloc: Global, left: &[u32], right: &[u32]) -> Result<Vec<u32>, NoMemory>
+    requires first { IsAscending left.now }
+    requires second { IsAscending right.now }
     ensures { IfOk result (λ r. r.items ≡ times left.now right.now) }
 {
-    let mut done = Vec::from_slice(alloc, right)?;
-    for x in left {
-        let at = place(&done, *x);
-        done.insert(at, *x)?;
+    let mut done = Vec::with_capacity(alloc, left.len().saturating_add(right.len()))?;
+    let mut first = left;
+    let mut second = right;
+    while let (Some((x, xs)), Some((y, ys))) = (first.split_first(), second.split_first()) {
+        if *x <= *y {
+            done.push(*x)?;
+            first = xs;
+        } else {
+            done.push(*y)?;
+            second = ys;
+        }
+    }
+    done.extend_from_slice(first)?;
+    done.extend_from_slice(second)?;
+    Ok(done)
+}
+
+// Which product of variables comes first.
+fn order(left: &[u32], right: &[u32]) -> Ordering
+    ensures { result ≡ order_of left.now right.now }
+{
+    match left.len().cmp(&right.len()) {
+        Ordering::Equal => left.cmp(right),
+        unequal => unequal,
+    }
+}
+
+// Takes the least summand out of two sums. A product of variables that is first in both is summed.
+fn least(p: &mut VecDeque<Summand>, q: &mut VecDeque<Summand>) -> Option<Summand>
+    ensures taken { IfSome result (λ s. TakesLeast (summands_of p.old.items) (summands_of q.old.items) (summand_of s) (summands_of p.new.items) (summands_of q.new.items)) }
+    ensures first { IfNone result (p.new.items ≡ p.old.items) }
+    ensures second { IfNone result (q.new.items ≡ q.old.items) }
+    ensures none { IfNone result ((p.old.items ≡ []) ⊎ (q.old.items ≡ [])) }
+{
+    let at = order(&p.front()?.factors, &q.front()?.factors);
+    match at {
+        Ordering::Less => p.pop_front(),
+        Ordering::Greater => q.pop_front(),
+        Ordering::Equal => {
+            let first = p.pop_front()?;
+            let second = q.pop_front()?;
+            Some(Summand {
+                coefficient: first.coefficient.saturating_add(second.coefficient),
+                factors: first.factors,
+            })
+        }
+    }
+}
+
+// The sum of two sums.
+fn merged(alloc: Global, p: Vec<Summand>, q: Vec<Summand>) -> Result<Vec<Summand>, NoMemory>
+    requires first { IsNormal (summands_of p.items) }
+    requires second { IsNormal (summands_of q.items) }
+    ensures normal { IfOk result (λ r. IsNormal (summands_of r.items)) }
+    ensures sum { IfOk result (λ r. Agrees (summands_of r.items) (summands_of p.items ++ summands_of q.items)) }
+{
+    let mut done = Vec::with_capacity(alloc, p.len().saturating_add(q.len()))?;
+    let mut first = VecDeque::from_vec(p);
+    let mut second = VecDeque::from_vec(q);
+    while let Some(s) = least(&mut first, &mut second) {
+        done.push(s)?;
+    }
+    done.append(&mut first.into_vec())?;
+    done.append(&mut second.into_vec())?;
+    Ok(done)
+}
+
+// The product of two summands.
+fn product_of(alloc: Global, s: &Summand, t: &Summand) -> Result<Summand, NoMemory>
+    requires first { IsAscending s.now.factors.items }
+    requires second { IsAscending t.now.factors.items }
+    ensures { IfOk result (λ r. summand_of r ≡ (ended (s.now.coefficient * t.now.coefficient), times s.now.factors.items t.now.factors.items)) }
+{
+    Ok(Summand {
+        coefficient: s.coefficient.saturating_mul(t.coefficient),
+        factors: times(alloc, &s.factors, &t.factors)?,
+    })
+}
+
+// Each summand of a sum times this one.
+fn scaled(alloc: Global, by: &Summand, q: &[Summand]) -> Result<Vec<Summand>, NoMemory>
+    requires ascending { IsAscending by.now.factors.items }
+    requires normal { IsNormal (summands_of q.now) }
+    ensures { IfOk result (λ r. summands_of r.items ≡ scaled_sum (summand_of by.now) (summands_of q.now)) }
+{
+    let mut done = Vec::with_capacity(alloc, q.len())?;
+    for s in q {
+        done.push(product_of(alloc, by, s)?)?;
     }
     Ok(done)
 }
 
-// Whether two products of variables are the same.
-fn same_factors(left: &[u32], right: &[u32]) -> bool
-    ensures { result ≡ same_factors left.now right.now }
+// The product of a sum of at most one summand with a sum.
+fn product_by_one(alloc: Global, p: &[Summand], q: &[Summand]) -> Result<Vec<Summand>, NoMemory>
+    requires one { length p.now ≤ 1 }
+    requires first { IsNormal (summands_of p.now) }
+    requires second { IsNormal (summands_of q.now) }
+    ensures normal { IfOk result (λ r. IsNormal (summands_of r.items)) }
+    ensures product { IfOk result (λ r. Agrees (summands_of r.items) (by_each (summands_of p.now) (summands_of q.now))) }
 {
-    left == right
+    match p.first() {
+        None => Ok(Vec::new(alloc)),
+        Some(s) => Ok(scaled(alloc, s, q)?),
+    }
 }
 
-// The coefficient of a product of variables.
-fn coefficient(p: &[Summand], factors: &[u32]) -> u32
-    ensures { result ≡ ended (coefficient_of (summands_of p.now) factors.now) }
+// The product of two sums. The first is split in halves, so that a product is merged no more often than the first can be halved.
+fn product_by_halves(alloc: Global, p: &[Summand], q: &[Summand]) -> Result<Vec<Summand>, NoMemory>
+    requires first { IsNormal (summands_of p.now) }
+    requires second { IsNormal (summands_of q.now) }
+    ensures normal { IfOk result (λ r. IsNormal (summands_of r.items)) }
+    ensures product { IfOk result (λ r. Agrees (summands_of r.items) (by_each (summands_of p.now) (summands_of q.now))) }
 {
-    let mut sum: u32 = 0;
+    if p.len() < 2 {
+        return Ok(product_by_one(alloc, p, q)?);
+    }
+    let (front, back) = p.split_at(p.len() / 2);
+    let left = product_by_halves(alloc, front, q)?;
+    let right = product_by_halves(alloc, back, q)?;
+    Ok(merged(alloc, left, right)?)
+}
+
+// How many factors a sum has in all.
+fn factor_count(p: &[Summand]) -> usize {
+    let mut count: usize = 0;
     for s in p {
-        if same_factors(&s.factors, factors) {
-            sum = sum.saturating_add(s.coefficient);
-        }
+        count = count.saturating_add(s.factors.len());
     }
-    sum
+    count
 }
 
-// The first summand with these factors.
-fn find(p: &[Summand], factors: &[u32]) -> Option<usize>
-    ensures found { IfSome result (λ i. StandsAt p.now i factors.now) }
-{
-    for (i, s) in p.iter().enumerate() {
-        if same_factors(&s.factors, factors) {
-            return Some(i);
-        }
-    }
-    None
-}
-
-// One more summand.
-fn add(p: &mut Vec<Summand>, more: Summand) -> Result<(), NoMemory>
-    ensures { OnOk result (Agrees (summands_of p.new.items) (summand_of more ∷ summands_of p.old.items)) }
-{
-    match find(p, &more.factors) {
-        Some(i) => {
-            let sum = p[i].coefficient.saturating_add(more.coefficient);
-            let factors = more.factors;
-            p[i] = Summand {
-                coefficient: sum,
-                factors,
-            };
-            Ok(())
-        }
-        None => {
-            p.push(more)?;
-            Ok(())
-        }
-    }
-}
-
-// The summands of `q`, each times this one, added to `p`.
-fn add_by_one(
-    alloc: Global,
-    p: &mut Vec<Summand>,
-    by: &Summand,
-    q: &[Summand],
-) -> Result<(), NoMemory>
-    ensures { OnOk result (Agrees (summands_of p.new.items) (by_one (summand_of by.now) (summands_of q.now) ++ summands_of p.old.items)) }
-{
-    for s in q {
-        let coefficient = by.coefficient.saturating_mul(s.coefficient);
-        let factors = times(alloc, &by.factors, &s.factors)?;
-        add(
-            p,
-            Summand {
-                coefficient,
-                factors,
-            },
-        )?;
+// Refuses a sum of so many summands, with so many factors in all, before it is made. So the memory for one sum is bounded.
+fn check_size(summands: usize, factors: usize) -> Result<(), NoMemory> {
+    if summands > TYPE_PARTS as usize || factors > MOST_FACTORS as usize {
+        return Err(NoMemory);
     }
     Ok(())
 }
 
-// The sum of two sums.
-fn plus(alloc: Global, mut p: Vec<Summand>, q: &[Summand]) -> Result<Vec<Summand>, NoMemory>
-    ensures { IfOk result (λ r. Agrees (summands_of r.items) (summands_of p.items ++ summands_of q.now)) }
+// The sum of two sums. A sum of too many summands or factors is want of memory.
+fn plus(alloc: Global, p: Vec<Summand>, q: Vec<Summand>) -> Result<Vec<Summand>, NoMemory>
+    requires first { IsNormal (summands_of p.items) }
+    requires second { IsNormal (summands_of q.items) }
+    ensures normal { IfOk result (λ r. IsNormal (summands_of r.items)) }
+    ensures sum { IfOk result (λ r. Agrees (summands_of r.items) (summands_of p.items ++ summands_of q.items)) }
 {
-    let one = Summand {
-        coefficient: 1,
-        factors: Vec::new(alloc),
-    };
-    add_by_one(alloc, &mut p, &one, q)?;
-    Ok(p)
+    let summands = p.len().saturating_add(q.len());
+    let factors = factor_count(&p).saturating_add(factor_count(&q));
+    check_size(summands, factors)?;
+    Ok(merged(alloc, p, q)?)
 }
 
-// The product of two sums.
+// The product of two sums, of which the shorter is split. A product of too many summands or factors is want of memory.
 fn product(alloc: Global, p: &[Summand], q: &[Summand]) -> Result<Vec<Summand>, NoMemory>
-    ensures { IfOk result (λ r. Agrees (summands_of r.items) (by_each (summands_of p.now) (summands_of q.now))) }
+    requires first { IsNormal (summands_of p.now) }
+    requires second { IsNormal (summands_of q.now) }
+    ensures normal { IfOk result (λ r. IsNormal (summands_of r.items)) }
+    ensures product { IfOk result (λ r. Agrees (summands_of r.items) (by_each (summands_of p.now) (summands_of q.now))) }
 {
-    let mut done = Vec::new(alloc);
-    for s in p {
-        add_by_one(alloc, &mut done, s, q)?;
+    let summands = p.len().saturating_mul(q.len());
+    let factors_of_p = factor_count(p).saturating_mul(q.len());
+    let factors_of_q = factor_count(q).saturating_mul(p.len());
+    check_size(summands, factors_of_p.saturating_add(factors_of_q))?;
+    if p.len() <= q.len() {
+        Ok(product_by_halves(alloc, p, q)?)
+    } else {
+        Ok(product_by_halves(alloc, q, p)?)
     }
-    Ok(done)
 }
 
 // A single summand.
@@ -152,10 +213,22 @@ fn single(alloc: Global, coefficient: u32, factors: Vec<u32>) -> Result<Vec<Summ
     Ok(p)
 }
 
+// A numeral, which is no summand if it is 0.
+fn numeral(alloc: Global, number: u32) -> Result<Vec<Summand>, NoMemory>
+    ensures normal { IfOk result (λ r. IsNormal (summands_of r.items)) }
+    ensures sum { IfOk result (λ r. Agrees (summands_of r.items) ((number, []) ∷ [])) }
+{
+    if number == 0 {
+        return Ok(Vec::new(alloc));
+    }
+    Ok(single(alloc, number, Vec::new(alloc))?)
+}
+
 /// A natural, multiplied out. What is no natural gives the empty sum.
-#[tactic(auto, unfolding(crate::specs::Polynomials::multiplied), using(crate::proofs::SumsFound::agree_sum, crate::proofs::SumsFound::agree_product))]
+#[tactic(auto, unfolding(crate::specs::Polynomials::multiplied))]
 pub(crate) fn multiplied(alloc: Global, t: &Ty) -> Result<Vec<Summand>, NoMemory>
-    ensures { IfOk result (λ r. Agrees (summands_of r.items) (multiplied t.now)) }
+    ensures normal { IfOk result (λ r. IsNormal (summands_of r.items)) }
+    ensures sum { IfOk result (λ r. Agrees (summands_of r.items) (multiplied t.now)) }
 {
     match &t.node {
         TyNode::Var(x) => {
@@ -163,11 +236,11 @@ pub(crate) fn multiplied(alloc: Global, t: &Ty) -> Result<Vec<Summand>, NoMemory
             factors.push(x.number)?;
             Ok(single(alloc, 1, factors)?)
         }
-        TyNode::NatLit(n) => Ok(single(alloc, *n, Vec::new(alloc))?),
+        TyNode::NatLit(n) => Ok(numeral(alloc, *n)?),
         TyNode::Sum(a, b) => {
             let p = multiplied(alloc, a)?;
             let q = multiplied(alloc, b)?;
-            Ok(plus(alloc, p, &q)?)
+            Ok(plus(alloc, p, q)?)
         }
         TyNode::Times(a, b) => {
             let p = multiplied(alloc, a)?;
@@ -178,21 +251,56 @@ pub(crate) fn multiplied(alloc: Global, t: &Ty) -> Result<Vec<Summand>, NoMemory
     }
 }
 
-// Whether two sums have one coefficient at each product of variables of a third.
-fn agree_on(at: &[Summand], p: &[Summand], q: &[Summand]) -> bool
-    ensures { result ≡ agree_on (summands_of at.now) (summands_of p.now) (summands_of q.now) }
+// Whether two summands are equal.
+fn same_summand(s: &Summand, t: &Summand) -> bool
+    ensures { IsTrue result ↔ summand_of s.now ≡ summand_of t.now }
 {
-    for s in at {
-        if coefficient(p, &s.factors) != coefficient(q, &s.factors) {
+    s.coefficient == t.coefficient && s.factors == t.factors
+}
+
+/// Whether two sums are equal lists.
+pub(crate) fn same_sums(p: &[Summand], q: &[Summand]) -> bool
+    ensures { IsTrue result ↔ summands_of p.now ≡ summands_of q.now }
+{
+    if p.len() != q.len() {
+        return false;
+    }
+    for (i, s) in p.iter().enumerate() {
+        if !same_summand(s, &q[i]) {
             return false;
         }
     }
     true
 }
 
-/// Whether two sums are one polynomial.
-pub(crate) fn same_sums(p: &[Summand], q: &[Summand]) -> bool
-    ensures { result ≡ same_sums (summands_of p.now) (summands_of q.now) }
+// Whether the parts of two products are equal, in either order. Then they needn't be multiplied out.
+fn same_parts(p: &[Summand], q: &[Summand], r: &[Summand], s: &[Summand]) -> bool
+    requires first { IsNormal (summands_of p.now) }
+    requires second { IsNormal (summands_of q.now) }
+    ensures { IsTrue result → Agrees (by_each (summands_of p.now) (summands_of q.now)) (by_each (summands_of r.now) (summands_of s.now)) }
 {
-    agree_on(p, p, q) && agree_on(q, p, q)
+    same_sums(p, r) && same_sums(q, s) || same_sums(p, s) && same_sums(q, r)
+}
+
+/// Whether the product of two sums and that of two others are one polynomial. A product that is too long is want of memory, but for
+/// two products of equal parts.
+pub(crate) fn same_products(
+    alloc: Global,
+    p: &[Summand],
+    q: &[Summand],
+    r: &[Summand],
+    s: &[Summand],
+) -> Result<bool, NoMemory>
+    requires first { IsNormal (summands_of p.now) }
+    requires second { IsNormal (summands_of q.now) }
+    requires third { IsNormal (summands_of r.now) }
+    requires fourth { IsNormal (summands_of s.now) }
+    ensures { IfOk result (λ x. IsTrue x ↔ Agrees (by_each (summands_of p.now) (summands_of q.now)) (by_each (summands_of r.now) (summands_of s.now))) }
+{
+    if same_parts(p, q, r, s) {
+        return Ok(true);
+    }
+    let left = product(alloc, p, q)?;
+    let right = product(alloc, r, s)?;
+    Ok(same_sums(&left, &right))
 }

@@ -1,11 +1,12 @@
 //! Whether two types are the same.
 ghost use Rattle.std.specs.Prelude.{◌≡◌, ◌↔◌, IsTrue, IfOk};
-ghost use Rattle.chw_types.specs.Polynomials.{multiplied};
+ghost use Rattle.chw_types.specs.TypeTree.{nat_product};
+ghost use Rattle.chw_types.specs.Polynomials.{multiplied, SameNaturals};
 ghost use Rattle.chw_types.specs.SameFound.{same_sums, same_found, same_kind};
 ghost use Rattle.chw_types.specs.SameTypes.{SameTypes};
 
 use crate::kind::Kind;
-use crate::polynomial::{multiplied, same_sums};
+use crate::polynomial::{multiplied, same_products, same_sums};
 use crate::ty::{Ty, TyNode};
 use chw_base::NoMemory;
 use std::alloc::Global;
@@ -14,16 +15,78 @@ use std::alloc::Global;
 pub fn same(alloc: Global, a: &Ty, b: &Ty) -> Result<bool, NoMemory>
     ensures { IfOk result (λ r. IsTrue r ↔ SameTypes a.now b.now) }
 {
+    if equal(a, b) {
+        return Ok(true);
+    }
     Ok(same_in(alloc, a, b)?)
 }
 
-// Whether two naturals are one polynomial.
-fn same_naturals(alloc: Global, a: &Ty, b: &Ty) -> Result<bool, NoMemory>
-    ensures { IfOk result (λ r. r ≡ same_sums (multiplied a.now) (multiplied b.now)) }
+// Whether two types are equal as trees. This comes first, since most types that are compared are equal.
+fn equal(a: &Ty, b: &Ty) -> bool
+    ensures { IsTrue result ↔ a.now ≡ b.now }
+{
+    match (&a.node, &b.node) {
+        (TyNode::Var(x), TyNode::Var(y)) => x.number == y.number,
+        (TyNode::NatLit(n), TyNode::NatLit(m)) => *n == *m,
+        (TyNode::DomOf(d), TyNode::DomOf(e)) => d.number == e.number,
+        (TyNode::Unsigned(v), TyNode::Unsigned(w))
+        | (TyNode::Signed(v), TyNode::Signed(w))
+        | (TyNode::BitVector(v), TyNode::BitVector(w)) => equal(v, w),
+        (TyNode::Sum(c, d), TyNode::Sum(e, f))
+        | (TyNode::Times(c, d), TyNode::Times(e, f))
+        | (TyNode::Vec(c, d), TyNode::Vec(e, f))
+        | (TyNode::Fun(c, d), TyNode::Fun(e, f))
+        | (TyNode::Signal(c, d), TyNode::Signal(e, f)) => equal(c, e) && equal(d, f),
+        (TyNode::DataOf(d, ts), TyNode::DataOf(e, us)) => {
+            if d.number != e.number {
+                return false;
+            }
+            if ts.len() != us.len() {
+                return false;
+            }
+            for (i, t) in ts.iter().enumerate() {
+                if !equal(t, &us[i]) {
+                    return false;
+                }
+            }
+            true
+        }
+        (TyNode::Forall(k, t), TyNode::Forall(j, u)) => same_kind(*k, *j) && equal(t, u),
+        _ => false,
+    }
+}
+
+// Whether two naturals are one polynomial, by multiplying them out.
+fn same_multiplied(alloc: Global, a: &Ty, b: &Ty) -> Result<bool, NoMemory>
+    ensures { IfOk result (λ r. IsTrue r ↔ SameNaturals a.now b.now) }
 {
     let p = multiplied(alloc, a)?;
     let q = multiplied(alloc, b)?;
     Ok(same_sums(&p, &q))
+}
+
+// Whether two products are one polynomial. Only their parts are multiplied out if these are equal.
+fn same_times(alloc: Global, a: &Ty, b: &Ty, c: &Ty, d: &Ty) -> Result<bool, NoMemory>
+    ensures { IfOk result (λ r. IsTrue r ↔ SameNaturals (nat_product a.now b.now) (nat_product c.now d.now)) }
+{
+    let p = multiplied(alloc, a)?;
+    let q = multiplied(alloc, b)?;
+    let r = multiplied(alloc, c)?;
+    let s = multiplied(alloc, d)?;
+    Ok(same_products(alloc, &p, &q, &r, &s)?)
+}
+
+// Whether two naturals are one polynomial. They aren't multiplied out if they are equal as trees.
+fn same_naturals(alloc: Global, a: &Ty, b: &Ty) -> Result<bool, NoMemory>
+    ensures { IfOk result (λ r. r ≡ same_sums (multiplied a.now) (multiplied b.now)) }
+{
+    if equal(a, b) {
+        return Ok(true);
+    }
+    match (&a.node, &b.node) {
+        (TyNode::Times(c, d), TyNode::Times(e, f)) => Ok(same_times(alloc, c, d, e, f)?),
+        _ => Ok(same_multiplied(alloc, a, b)?),
+    }
 }
 
 fn same_kind(a: Kind, b: Kind) -> bool
