@@ -137,8 +137,8 @@ fn check_cases(
     let name = def_name(alloc, program.defs.as_slice(), found.def)?;
     match found.lacks {
         Lacks::Constructor(at) => {
-            let constructor = con_name(alloc, constructors, at)?;
-            Err(Or::Fault(TypeFault::Missing { name, constructor }))
+            let con = con_name(alloc, constructors, at)?;
+            Err(Or::Fault(TypeFault::Missing { name, con }))
         }
         Lacks::Default => Err(Or::Fault(TypeFault::NoDefault { name })),
     }

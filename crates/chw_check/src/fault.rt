@@ -11,7 +11,7 @@ pub enum TypeFault {
     Typing { name: Name },
     /// In the definition of this name a case without a default lacks this constructor. Of several such cases it is the first, and of
     /// several constructors the first declared.
-    Missing { name: Name, constructor: Name },
+    Missing { name: Name, con: Name },
     /// In the definition of this name a case on a scalar has no default. Of several such cases it is the first.
     NoDefault { name: Name },
     /// This is the type of the top's definition: not all its parameters and its result are ports, or the numbers of names aren't those of

@@ -14,13 +14,13 @@ con_name-requires c =
     subst (λ (datas : List Data). IsSome (con_at datas c.in-Constructor.at.number)) (sym c.requires.table)
     (first_known c.args.program.now c.in-Some.found c.in-Constructor.at first c.in-Constructor.is)
 
-pub returns-in_ok-constructor-in-Constructor-clause-fault : goal.returns-in_ok-constructor-in-Constructor-clause-fault
-returns-in_ok-constructor-in-Constructor-clause-fault c =
+pub returns-in_ok-con-in-Constructor-clause-fault : goal.returns-in_ok-con-in-Constructor-clause-fault
+returns-in_ok-con-in-Constructor-clause-fault c =
     let first = rw c.in-Some.is at c.in_ok-found.ensures in
     missing_told c.args.program.now c.in-Some.found c.requires.fit c.requires.typed first c.in_ok-name.name
     (subst (λ (defs : List Def). IsDefName defs c.in-Some.found.«def».number c.in_ok-name.name) c.as_slice.ensures c.in_ok-name.ensures)
-    c.in-Constructor.at c.in_ok-constructor-in-Constructor.constructor c.in-Constructor.is
-    (subst (λ (datas : List Data). IsConName datas c.in-Constructor.at.number c.in_ok-constructor-in-Constructor.constructor) c.requires.table c.in_ok-constructor-in-Constructor.ensures)
+    c.in-Constructor.at c.in_ok-con-in-Constructor.con c.in-Constructor.is
+    (subst (λ (datas : List Data). IsConName datas c.in-Constructor.at.number c.in_ok-con-in-Constructor.con) c.requires.table c.in_ok-con-in-Constructor.ensures)
 
 pub returns-in-Default-clause-fault : goal.returns-in-Default-clause-fault
 returns-in-Default-clause-fault c =
