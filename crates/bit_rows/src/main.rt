@@ -1,7 +1,8 @@
 //! Rows of bits, each with the bits that a call gives, their number and their digits.
 //!
 //! `number WIDTH NUMBER`, `digits WIDTH DIGITS`, `list BITS`, `copy BITS`, `join BITS BITS` and `cut HIGH LOW BITS` give bits.
-//! `same WIDTH NUMBER BITS` gives whether the bits of the number are these.
+//! `put NUMBER BITS` gives these bits made the lowest of the number, as many as they are.
+//! `same WIDTH NUMBER BITS` gives whether the bits of the number are these, and `hex BITS` their digits alone.
 #![tactic(auto)]
 
 use chw_base::{NoMemory, Or};
@@ -27,6 +28,8 @@ fn answer(alloc: Global, call: &str, text: &str, out: &mut Vec<u8>) -> Result<()
         "copy" => Ok(put_all(alloc, &listed(alloc, text)?.copy(alloc)?, out)?),
         "join" => put_joined(alloc, &listed(alloc, first)?, &listed(alloc, rest)?, out),
         "cut" => put_cut(alloc, number(first)?, rest, out),
+        "put" => put_lowest(alloc, number(first)?, rest, out),
+        "hex" => Ok(listed(alloc, text)?.put_hex(out)?),
         "same" => put_same(alloc, number(first)?, rest, out),
         _ => Err(Or::Fault(Unread)),
     }
@@ -88,6 +91,12 @@ fn put_cut(alloc: Global, high: u32, text: &str, out: &mut Vec<u8>) -> Result<()
         return Err(Or::Fault(Unread));
     }
     Ok(put_all(alloc, &bits.cut(alloc, high, low)?, out)?)
+}
+
+fn put_lowest(alloc: Global, number: u32, text: &str, out: &mut Vec<u8>) -> Result<(), Or<Unread>> {
+    let mut bits = listed(alloc, text)?;
+    bits.put_number(u128::from(number));
+    Ok(put_all(alloc, &bits, out)?)
 }
 
 fn put_same(alloc: Global, width: u32, text: &str, out: &mut Vec<u8>) -> Result<(), Or<Unread>> {

@@ -12,7 +12,7 @@ ghost use Rattle.chw_bits.specs.Integers.{signed, word_of};
 use crate::places::bit_at;
 
 /// A number without the bits from a width up.
-pub fn low(n: u128, width: u32) -> u128
+pub fn lowest(width: u32, n: u128) -> u128
     ensures { result ≡ n % 2 ^ width }
 {
     if width < 128 { n % (1 << width) } else { n }
@@ -25,7 +25,7 @@ pub fn sum(width: u32, a: u128, b: u128) -> u128
         ≡ word_of width (pos (number_of (bits_of width a)) +ℤ pos (number_of (bits_of width b))) }
     ensures below { result < 2 ^ width }
 {
-    low(a.wrapping_add(b), width)
+    lowest(width, a.wrapping_add(b))
 }
 
 /// The difference of two words at a width.
@@ -35,7 +35,7 @@ pub fn difference(width: u32, a: u128, b: u128) -> u128
         ≡ word_of width (pos (number_of (bits_of width a)) -ℤ pos (number_of (bits_of width b))) }
     ensures below { result < 2 ^ width }
 {
-    low(a.wrapping_sub(b), width)
+    lowest(width, a.wrapping_sub(b))
 }
 
 /// The product of two words at a width.
@@ -45,7 +45,7 @@ pub fn product(width: u32, a: u128, b: u128) -> u128
         ≡ word_of width (pos (number_of (bits_of width a)) *ℤ pos (number_of (bits_of width b))) }
     ensures below { result < 2 ^ width }
 {
-    low(a.wrapping_mul(b), width)
+    lowest(width, a.wrapping_mul(b))
 }
 
 /// A number times 2 to a number of places, modulo 2 to the 128.
@@ -62,7 +62,7 @@ pub fn up(width: u32, a: u128, places: u128) -> u128
         ≡ word_of width (pos (number_of (bits_of width a)) *ℤ pos (2 ^ places)) }
     ensures below { result < 2 ^ width }
 {
-    low(raised(a, places), width)
+    lowest(width, raised(a, places))
 }
 
 /// The quotient of a number by 2 to a number of places.
@@ -97,7 +97,7 @@ pub fn signed_number(width: u32, a: u128) -> i128
 {
     if is_negative(width, a) {
         // The bits above the word are set, so the others are the complement's.
-        !(low(!a, width) as i128)
+        !(lowest(width, !a) as i128)
     } else {
         a as i128
     }
@@ -119,10 +119,8 @@ pub fn signed_down(width: u32, a: u128, places: u128) -> u128
         ≡ word_of width (int_div_euclid (signed (bits_of width a)) (pos (2 ^ places))) }
     ensures below { result < 2 ^ width }
 {
-    low(
-        signed_quotient(signed_number(width, a), places).cast_unsigned(),
-        width,
-    )
+    let quotient = signed_quotient(signed_number(width, a), places);
+    lowest(width, quotient.cast_unsigned())
 }
 
 /// Whether a word means a smaller integer than another in two's complement.
@@ -168,7 +166,7 @@ pub fn flipped(width: u32, a: u128) -> u128
     ensures bits { bits_of width result ≡ map not (bits_of width a) }
     ensures below { result < 2 ^ width }
 {
-    low(!a, width)
+    lowest(width, !a)
 }
 
 /// Whether all bits of a word are set.
@@ -177,7 +175,7 @@ pub fn all_set(width: u32, a: u128) -> bool
     requires word { a < 2 ^ width }
     ensures { result ≡ list_all (λ bit. bit) (bits_of width a) }
 {
-    a == low(u128::MAX, width)
+    a == lowest(width, u128::MAX)
 }
 
 /// Whether a bit of a word is set.
@@ -215,5 +213,5 @@ pub fn middle(a: u128, high: u32, low: u32) -> u128
         bits_of (high + 1 - low) result ≡ cut_of high low (bits_of width a) }
     ensures below { result < 2 ^ (high + 1 - low) }
 {
-    self::low(lowered(a, u128::from(low)), high - low + 1)
+    lowest(high - low + 1, lowered(a, u128::from(low)))
 }

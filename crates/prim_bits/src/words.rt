@@ -46,7 +46,7 @@ pub(crate) fn residue(x: Scalar, word: &Bits) -> u128
 pub(crate) fn word(alloc: Global, width: u32, n: u128) -> Result<Bits, NoMemory>
     ensures { IfOk result (λ r. r ≡ bits_of width n) }
 {
-    match Bits::of_number(alloc, width, machine::low(n, width)) {
+    match Bits::of_number(alloc, width, machine::lowest(width, n)) {
         Ok(bits) => Ok(bits),
         Err(Or::Memory) => Err(NoMemory),
         Err(Or::Fault(_)) => unreachable!(),
