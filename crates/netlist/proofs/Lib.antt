@@ -1,6 +1,8 @@
 pub mod Before
 pub mod Chains
+pub mod ExamplesShown
 pub mod Exclusion
+pub mod Found
 pub mod Lengths
 pub mod Lists
 pub mod OneValue

@@ -1,4 +1,5 @@
 pub mod Drivers
+pub mod Examples
 pub mod Feeds
 pub mod Flattened
 pub mod Names

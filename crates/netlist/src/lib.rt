@@ -4,6 +4,7 @@
 pub mod cell;
 mod copies;
 mod drivers;
+pub mod examples;
 pub mod flatten;
 pub mod laws;
 pub mod net;
