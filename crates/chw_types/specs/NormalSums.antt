@@ -33,12 +33,19 @@ abbrev pub IsNormal : Summands → Type 0
 IsNormal [] = Unit {0}
 IsNormal (s ∷ p) = IsProper s × AllAfter s.1 p × IsNormal p
 
--- each summand times this one, where coefficients end at the greatest natural
-abbrev pub scaled : ℕ × Monomial → Summands → Summands
-scaled s q = map (λ t. (ended (s.0 * t.0), times s.1 t.1)) q
+-- the product of two summands, where the coefficient ends at the greatest natural
+abbrev pub ended_times : ℕ × Monomial → ℕ × Monomial → ℕ × Monomial
+ended_times s t = (ended (s.0 * t.0), times s.1 t.1)
 
--- the least summand of two sums, and what is left of each. A monomial that is first in both is summed.
+-- each summand times this one
+abbrev pub scaled : ℕ × Monomial → Summands → Summands
+scaled s q = map (λ t. ended_times s t) q
+
+-- the least summand of two sums, and what is left of each. What is first in both is summed.
 pub data TakesLeast : Summands → Summands → ℕ × Monomial → Summands → Summands → Type 0 where
-  of_first : {s t : ℕ × Monomial} {p q : Summands} → order s.1 t.1 ≡ Less → TakesLeast (s ∷ p) (t ∷ q) s p (t ∷ q)
-  of_second : {s t : ℕ × Monomial} {p q : Summands} → order t.1 s.1 ≡ Less → TakesLeast (s ∷ p) (t ∷ q) t (s ∷ p) q
-  of_both : {c d : ℕ} {m : Monomial} {p q : Summands} → TakesLeast ((c, m) ∷ p) ((d, m) ∷ q) (ended (c + d), m) p q
+  of_first : {s t : ℕ × Monomial} {p q : Summands} → order s.1 t.1 ≡ Less →
+      TakesLeast (s ∷ p) (t ∷ q) s p (t ∷ q)
+  of_second : {s t : ℕ × Monomial} {p q : Summands} → order t.1 s.1 ≡ Less →
+      TakesLeast (s ∷ p) (t ∷ q) t (s ∷ p) q
+  of_both : {c d : ℕ} {m : Monomial} {p q : Summands} →
+      TakesLeast ((c, m) ∷ p) ((d, m) ∷ q) (ended (c + d), m) p q

@@ -1,12 +1,13 @@
 //! Naturals, multiplied out to sums of coefficients times products of variables.
 //!
-//! A sum is a list in normal form: each product of variables once, in order, none with the coefficient 0. So sums are merged in one
-//! pass, and two sums are one polynomial exactly if their lists are equal.
-ghost use Rattle.std.specs.Prelude.{◌≡◌, ◌↔◌, ◌+◌, ◌*◌, ◌≤◌, ◌⊎◌, ◌∷◌, ◌++◌, [], length, IfOk, IfSome, IfNone, IsTrue};
-ghost use Rattle.chw_types.specs.Polynomials.{times, by_each, ended, multiplied};
+//! A sum is a list in normal form: each product of variables once, in order, none with the
+//! coefficient 0. So sums are merged in one pass, and two sums are one polynomial exactly if their
+//! lists are equal.
+ghost use Rattle.std.specs.Prelude.{◌≡◌, ◌↔◌, ◌≤◌, ◌⊎◌, ◌∷◌, ◌++◌, [], length, IfOk, IfSome, IfNone, IsTrue};
+ghost use Rattle.chw_types.specs.Polynomials.{times, multiplied};
 ghost use Rattle.chw_types.specs.Agreement.{Agrees};
-ghost use Rattle.chw_types.specs.NormalSums.{order as order_of, IsAscending, IsProper, IsNormal, scaled as scaled_sum, TakesLeast};
-ghost use Rattle.chw_types.specs.SummandView.{summand_of, summands_of};
+ghost use Rattle.chw_types.specs.NormalSums.{order as order_of, IsAscending, IsNormal, ended_times, scaled as scaled_sum};
+ghost use Rattle.chw_types.specs.SummandView.{summand_of, sum_of, products_of, Takes, SameProducts};
 
 use crate::ty::{Ty, TyNode};
 use chw_base::NoMemory;
@@ -60,7 +61,7 @@ fn order(left: &[u32], right: &[u32]) -> Ordering
 
 // Takes the least summand out of two sums. A product of variables that is first in both is summed.
 fn least(p: &mut VecDeque<Summand>, q: &mut VecDeque<Summand>) -> Option<Summand>
-    ensures taken { IfSome result (λ s. TakesLeast (summands_of p.old.items) (summands_of q.old.items) (summand_of s) (summands_of p.new.items) (summands_of q.new.items)) }
+    ensures taken { IfSome result (λ s. Takes p.old.items q.old.items s p.new.items q.new.items) }
     ensures first { IfNone result (p.new.items ≡ p.old.items) }
     ensures second { IfNone result (q.new.items ≡ q.old.items) }
     ensures none { IfNone result ((p.old.items ≡ []) ⊎ (q.old.items ≡ [])) }
@@ -82,10 +83,10 @@ fn least(p: &mut VecDeque<Summand>, q: &mut VecDeque<Summand>) -> Option<Summand
 
 // The sum of two sums.
 fn merged(alloc: Global, p: Vec<Summand>, q: Vec<Summand>) -> Result<Vec<Summand>, NoMemory>
-    requires first { IsNormal (summands_of p.items) }
-    requires second { IsNormal (summands_of q.items) }
-    ensures normal { IfOk result (λ r. IsNormal (summands_of r.items)) }
-    ensures sum { IfOk result (λ r. Agrees (summands_of r.items) (summands_of p.items ++ summands_of q.items)) }
+    requires first { IsNormal (sum_of p.items) }
+    requires second { IsNormal (sum_of q.items) }
+    ensures normal { IfOk result (λ r. IsNormal (sum_of r.items)) }
+    ensures sum { IfOk result (λ r. Agrees (sum_of r.items) (sum_of p.items ++ sum_of q.items)) }
 {
     let mut done = Vec::with_capacity(alloc, p.len().saturating_add(q.len()))?;
     let mut first = VecDeque::from_vec(p);
@@ -102,7 +103,7 @@ fn merged(alloc: Global, p: Vec<Summand>, q: Vec<Summand>) -> Result<Vec<Summand
 fn product_of(alloc: Global, s: &Summand, t: &Summand) -> Result<Summand, NoMemory>
     requires first { IsAscending s.now.factors.items }
     requires second { IsAscending t.now.factors.items }
-    ensures { IfOk result (λ r. summand_of r ≡ (ended (s.now.coefficient * t.now.coefficient), times s.now.factors.items t.now.factors.items)) }
+    ensures { IfOk result (λ r. summand_of r ≡ ended_times (summand_of s.now) (summand_of t.now)) }
 {
     Ok(Summand {
         coefficient: s.coefficient.saturating_mul(t.coefficient),
@@ -113,8 +114,8 @@ fn product_of(alloc: Global, s: &Summand, t: &Summand) -> Result<Summand, NoMemo
 // Each summand of a sum times this one.
 fn scaled(alloc: Global, by: &Summand, q: &[Summand]) -> Result<Vec<Summand>, NoMemory>
     requires ascending { IsAscending by.now.factors.items }
-    requires normal { IsNormal (summands_of q.now) }
-    ensures { IfOk result (λ r. summands_of r.items ≡ scaled_sum (summand_of by.now) (summands_of q.now)) }
+    requires normal { IsNormal (sum_of q.now) }
+    ensures { IfOk result (λ r. sum_of r.items ≡ scaled_sum (summand_of by.now) (sum_of q.now)) }
 {
     let mut done = Vec::with_capacity(alloc, q.len())?;
     for s in q {
@@ -126,10 +127,10 @@ fn scaled(alloc: Global, by: &Summand, q: &[Summand]) -> Result<Vec<Summand>, No
 // The product of a sum of at most one summand with a sum.
 fn product_by_one(alloc: Global, p: &[Summand], q: &[Summand]) -> Result<Vec<Summand>, NoMemory>
     requires one { length p.now ≤ 1 }
-    requires first { IsNormal (summands_of p.now) }
-    requires second { IsNormal (summands_of q.now) }
-    ensures normal { IfOk result (λ r. IsNormal (summands_of r.items)) }
-    ensures product { IfOk result (λ r. Agrees (summands_of r.items) (by_each (summands_of p.now) (summands_of q.now))) }
+    requires first { IsNormal (sum_of p.now) }
+    requires second { IsNormal (sum_of q.now) }
+    ensures normal { IfOk result (λ r. IsNormal (sum_of r.items)) }
+    ensures product { IfOk result (λ r. Agrees (sum_of r.items) (products_of p.now q.now)) }
 {
     match p.first() {
         None => Ok(Vec::new(alloc)),
@@ -137,12 +138,13 @@ fn product_by_one(alloc: Global, p: &[Summand], q: &[Summand]) -> Result<Vec<Sum
     }
 }
 
-// The product of two sums. The first is split in halves, so that a product is merged no more often than the first can be halved.
+// The product of two sums. The first is split in halves, so that no summand is merged more often
+// than the first can be halved.
 fn product_by_halves(alloc: Global, p: &[Summand], q: &[Summand]) -> Result<Vec<Summand>, NoMemory>
-    requires first { IsNormal (summands_of p.now) }
-    requires second { IsNormal (summands_of q.now) }
-    ensures normal { IfOk result (λ r. IsNormal (summands_of r.items)) }
-    ensures product { IfOk result (λ r. Agrees (summands_of r.items) (by_each (summands_of p.now) (summands_of q.now))) }
+    requires first { IsNormal (sum_of p.now) }
+    requires second { IsNormal (sum_of q.now) }
+    ensures normal { IfOk result (λ r. IsNormal (sum_of r.items)) }
+    ensures product { IfOk result (λ r. Agrees (sum_of r.items) (products_of p.now q.now)) }
 {
     if p.len() < 2 {
         return Ok(product_by_one(alloc, p, q)?);
@@ -162,7 +164,8 @@ fn factor_count(p: &[Summand]) -> usize {
     count
 }
 
-// Refuses a sum of so many summands, with so many factors in all, before it is made. So the memory for one sum is bounded.
+// Refuses a sum of too many summands, or with too many factors in all, before it is made. So the
+// memory for a sum is bounded.
 fn check_size(summands: usize, factors: usize) -> Result<(), NoMemory> {
     if summands > TYPE_PARTS as usize || factors > MOST_FACTORS as usize {
         return Err(NoMemory);
@@ -172,10 +175,10 @@ fn check_size(summands: usize, factors: usize) -> Result<(), NoMemory> {
 
 // The sum of two sums. A sum of too many summands or factors is want of memory.
 fn plus(alloc: Global, p: Vec<Summand>, q: Vec<Summand>) -> Result<Vec<Summand>, NoMemory>
-    requires first { IsNormal (summands_of p.items) }
-    requires second { IsNormal (summands_of q.items) }
-    ensures normal { IfOk result (λ r. IsNormal (summands_of r.items)) }
-    ensures sum { IfOk result (λ r. Agrees (summands_of r.items) (summands_of p.items ++ summands_of q.items)) }
+    requires first { IsNormal (sum_of p.items) }
+    requires second { IsNormal (sum_of q.items) }
+    ensures normal { IfOk result (λ r. IsNormal (sum_of r.items)) }
+    ensures sum { IfOk result (λ r. Agrees (sum_of r.items) (sum_of p.items ++ sum_of q.items)) }
 {
     let summands = p.len().saturating_add(q.len());
     let factors = factor_count(&p).saturating_add(factor_count(&q));
@@ -183,12 +186,13 @@ fn plus(alloc: Global, p: Vec<Summand>, q: Vec<Summand>) -> Result<Vec<Summand>,
     Ok(merged(alloc, p, q)?)
 }
 
-// The product of two sums, of which the shorter is split. A product of too many summands or factors is want of memory.
+// The product of two sums, of which the shorter is split. A product of too many summands or factors
+// is want of memory.
 fn product(alloc: Global, p: &[Summand], q: &[Summand]) -> Result<Vec<Summand>, NoMemory>
-    requires first { IsNormal (summands_of p.now) }
-    requires second { IsNormal (summands_of q.now) }
-    ensures normal { IfOk result (λ r. IsNormal (summands_of r.items)) }
-    ensures product { IfOk result (λ r. Agrees (summands_of r.items) (by_each (summands_of p.now) (summands_of q.now))) }
+    requires first { IsNormal (sum_of p.now) }
+    requires second { IsNormal (sum_of q.now) }
+    ensures normal { IfOk result (λ r. IsNormal (sum_of r.items)) }
+    ensures product { IfOk result (λ r. Agrees (sum_of r.items) (products_of p.now q.now)) }
 {
     let summands = p.len().saturating_mul(q.len());
     let factors_of_p = factor_count(p).saturating_mul(q.len());
@@ -203,7 +207,7 @@ fn product(alloc: Global, p: &[Summand], q: &[Summand]) -> Result<Vec<Summand>, 
 
 // A single summand.
 fn single(alloc: Global, coefficient: u32, factors: Vec<u32>) -> Result<Vec<Summand>, NoMemory>
-    ensures { IfOk result (λ r. summands_of r.items ≡ (coefficient, factors.items) ∷ []) }
+    ensures { IfOk result (λ r. sum_of r.items ≡ (coefficient, factors.items) ∷ []) }
 {
     let mut p = Vec::new(alloc);
     p.push(Summand {
@@ -215,8 +219,8 @@ fn single(alloc: Global, coefficient: u32, factors: Vec<u32>) -> Result<Vec<Summ
 
 // A numeral, which is no summand if it is 0.
 fn numeral(alloc: Global, number: u32) -> Result<Vec<Summand>, NoMemory>
-    ensures normal { IfOk result (λ r. IsNormal (summands_of r.items)) }
-    ensures sum { IfOk result (λ r. Agrees (summands_of r.items) ((number, []) ∷ [])) }
+    ensures normal { IfOk result (λ r. IsNormal (sum_of r.items)) }
+    ensures sum { IfOk result (λ r. Agrees (sum_of r.items) ((number, []) ∷ [])) }
 {
     if number == 0 {
         return Ok(Vec::new(alloc));
@@ -227,8 +231,8 @@ fn numeral(alloc: Global, number: u32) -> Result<Vec<Summand>, NoMemory>
 /// A natural, multiplied out. What is no natural gives the empty sum.
 #[tactic(auto, unfolding(crate::specs::Polynomials::multiplied))]
 pub(crate) fn multiplied(alloc: Global, t: &Ty) -> Result<Vec<Summand>, NoMemory>
-    ensures normal { IfOk result (λ r. IsNormal (summands_of r.items)) }
-    ensures sum { IfOk result (λ r. Agrees (summands_of r.items) (multiplied t.now)) }
+    ensures normal { IfOk result (λ r. IsNormal (sum_of r.items)) }
+    ensures sum { IfOk result (λ r. Agrees (sum_of r.items) (multiplied t.now)) }
 {
     match &t.node {
         TyNode::Var(x) => {
@@ -260,7 +264,7 @@ fn same_summand(s: &Summand, t: &Summand) -> bool
 
 /// Whether two sums are equal lists.
 pub(crate) fn same_sums(p: &[Summand], q: &[Summand]) -> bool
-    ensures { IsTrue result ↔ summands_of p.now ≡ summands_of q.now }
+    ensures { IsTrue result ↔ sum_of p.now ≡ sum_of q.now }
 {
     if p.len() != q.len() {
         return false;
@@ -273,17 +277,17 @@ pub(crate) fn same_sums(p: &[Summand], q: &[Summand]) -> bool
     true
 }
 
-// Whether the parts of two products are equal, in either order. Then they needn't be multiplied out.
+// Whether two products have equal parts, in either order. Then they needn't be multiplied out.
 fn same_parts(p: &[Summand], q: &[Summand], r: &[Summand], s: &[Summand]) -> bool
-    requires first { IsNormal (summands_of p.now) }
-    requires second { IsNormal (summands_of q.now) }
-    ensures { IsTrue result → Agrees (by_each (summands_of p.now) (summands_of q.now)) (by_each (summands_of r.now) (summands_of s.now)) }
+    requires first { IsNormal (sum_of p.now) }
+    requires second { IsNormal (sum_of q.now) }
+    ensures { IsTrue result → SameProducts p.now q.now r.now s.now }
 {
     same_sums(p, r) && same_sums(q, s) || same_sums(p, s) && same_sums(q, r)
 }
 
-/// Whether the product of two sums and that of two others are one polynomial. A product that is too long is want of memory, but for
-/// two products of equal parts.
+/// Whether the product of two sums and that of two others are one polynomial. A product of too many
+/// summands or factors is want of memory, unless the two products have equal parts.
 pub(crate) fn same_products(
     alloc: Global,
     p: &[Summand],
@@ -291,11 +295,11 @@ pub(crate) fn same_products(
     r: &[Summand],
     s: &[Summand],
 ) -> Result<bool, NoMemory>
-    requires first { IsNormal (summands_of p.now) }
-    requires second { IsNormal (summands_of q.now) }
-    requires third { IsNormal (summands_of r.now) }
-    requires fourth { IsNormal (summands_of s.now) }
-    ensures { IfOk result (λ x. IsTrue x ↔ Agrees (by_each (summands_of p.now) (summands_of q.now)) (by_each (summands_of r.now) (summands_of s.now))) }
+    requires first { IsNormal (sum_of p.now) }
+    requires second { IsNormal (sum_of q.now) }
+    requires third { IsNormal (sum_of r.now) }
+    requires fourth { IsNormal (sum_of s.now) }
+    ensures { IfOk result (λ x. IsTrue x ↔ SameProducts p.now q.now r.now s.now) }
 {
     if same_parts(p, q, r, s) {
         return Ok(true);

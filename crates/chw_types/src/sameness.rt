@@ -21,7 +21,7 @@ pub fn same(alloc: Global, a: &Ty, b: &Ty) -> Result<bool, NoMemory>
     Ok(same_in(alloc, a, b)?)
 }
 
-// Whether two types are equal as trees. This comes first, since most types that are compared are equal.
+// Whether two types are equal as trees. Most types that are compared are, so this comes first.
 fn equal(a: &Ty, b: &Ty) -> bool
     ensures { IsTrue result ↔ a.now ≡ b.now }
 {
