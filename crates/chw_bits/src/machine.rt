@@ -15,7 +15,8 @@ use crate::places::bit_at;
 
 /// A number without the bits from a width up.
 pub fn lowest(width: u32, n: u128) -> u128
-    ensures { result ≡ n % 2 ^ width }
+    ensures number { result ≡ n % 2 ^ width }
+    ensures below { result < 2 ^ width }
 {
     if width < 128 { n % (1 << width) } else { n }
 }
