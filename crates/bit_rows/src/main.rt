@@ -3,7 +3,10 @@
 //! `number WIDTH NUMBER`, `digits WIDTH DIGITS`, `list BITS`, `copy BITS`, `join BITS BITS` and `cut HIGH LOW BITS` give bits.
 //! `put NUMBER BITS` gives these bits made the lowest of the number, as many as they are.
 //! `same WIDTH NUMBER BITS` gives whether the bits of the number are these, and `hex BITS` their digits alone.
+//! A call of `chw_bits::machine`, with its numbers in their order, gives a number: `signed_down WIDTH A PLACES`, for example.
 #![tactic(auto)]
+
+mod machine;
 
 use chw_base::{NoMemory, Or};
 use chw_bits::laws::digits_read_back;
@@ -31,7 +34,7 @@ fn answer(alloc: Global, call: &str, text: &str, out: &mut Vec<u8>) -> Result<()
         "put" => put_lowest(alloc, number(first)?, rest, out),
         "hex" => Ok(listed(alloc, text)?.put_hex(out)?),
         "same" => put_same(alloc, number(first)?, rest, out),
-        _ => Err(Or::Fault(Unread)),
+        _ => machine::answer(call, number(first)?, rest, out),
     }
 }
 
@@ -108,15 +111,19 @@ fn put_same(alloc: Global, width: u32, text: &str, out: &mut Vec<u8>) -> Result<
     Ok(put(out, if same { "yes" } else { "no" })?)
 }
 
+fn put_decimal(number: u128, out: &mut Vec<u8>) -> Result<(), NoMemory> {
+    let mut digits = Buffer::new();
+    put(out, digits.format(number))
+}
+
 // Writes bits, their number if they have one, and their digits.
 fn put_all(alloc: Global, bits: &Bits, out: &mut Vec<u8>) -> Result<(), NoMemory> {
     for place in 0..bits.len() {
         out.push(if bits.at(place) { b'1' } else { b'0' })?;
     }
     if let Some(number) = bits.number() {
-        let mut digits = Buffer::new();
         put(out, ", the number ")?;
-        put(out, digits.format(number))?;
+        put_decimal(number, out)?;
     }
     put(out, ", the digits ")?;
     Ok(out.extend_from_slice(bits.hex(alloc)?.as_slice())?)

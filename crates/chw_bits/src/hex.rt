@@ -1,5 +1,6 @@
 //! Hexadecimal text of bits.
-ghost use Rattle.std.specs.Prelude.{◌≡◌, ◌<◌, ◌≤◌, ◌*◌, ◌%◌, ◌/◌, ◌^◌, length, ◌+◌, ◌++◌, IfOk, OnOk, OnErr, vec_len, vec_capacity};
+ghost use Rattle.std.specs.Prelude.{◌≡◌, ◌<◌, ◌≤◌, ◌*◌, ◌%◌, ◌/◌, ◌^◌, ◌+◌, ◌++◌, length};
+ghost use Rattle.std.specs.Prelude.{IfOk, IsOk, OnOk, OnErr, vec_len, vec_capacity};
 ghost use Rattle.chw_bits.specs.Bits.{number_of};
 ghost use Rattle.chw_bits.specs.Hex.{hex_digit, hex_digits, digits_at};
 
@@ -62,12 +63,14 @@ fn put_digits(bits: &[bool], count: u32, into: &mut Vec<u8>)
 }
 
 impl Bits {
-    /// Appends the lower-case hexadecimal digits of the bits' number to a text, as many as their length takes.
+    /// Appends the lower-case hexadecimal digits of the bits' number, as many as their length takes.
     ///
-    /// `NoMemory` comes where the text can't grow so far. It is then as before.
+    /// `NoMemory` comes where the text has no room for them and can't grow, and leaves it as it was.
     pub fn put_hex(&self, into: &mut Vec<u8>) -> Result<(), NoMemory>
         ensures digits { OnOk result (into.new.items ≡ into.old.items ++ hex_digits self.now) }
         ensures unchanged { OnErr result (into.new.items ≡ into.old.items) }
+        ensures room { vec_len into.old + digits_at (length self.now) ≤ vec_capacity into.old →
+            IsOk result }
     {
         let count = digit_count(self.len());
         into.reserve(count as usize)?;

@@ -64,14 +64,15 @@ pub fn digits_written_back()
         hex_digits (bits_of width (digits_value 16 text)) ≡ map to_ascii_lowercase text }
 {}
 
-/// The word of a number has its lowest bits, and a residue at a width has the word of its integer at each smaller width.
+/// The word of a number has its lowest bits.
+/// A residue has the word of its integer at each width up to its own.
 pub fn words_of_residues()
     ensures number { (width n : ℕ) → word_of width (pos n) ≡ bits_of width n }
     ensures residue { (width whole : ℕ) (z : ℤ) → width ≤ whole →
         bits_of width (residue_of whole z) ≡ word_of width z }
 {}
 
-/// The word of a sum, a difference and a product of integers is made of their words at the same width.
+/// The word of a sum, of a difference and of a product of integers is made of their words.
 pub fn words_of_results()
     ensures sum { (width : ℕ) (y z : ℤ) →
         word_of width (pos (number_of (word_of width y)) +ℤ pos (number_of (word_of width z)))

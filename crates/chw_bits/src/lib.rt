@@ -1,4 +1,6 @@
 //! `Bits`, a list of bits of any length, with the number that it means and its hexadecimal text.
+//!
+//! `machine` has the arithmetic of words of at most 128 bits, on their numbers.
 #![tactic(auto)]
 
 pub mod bits;

@@ -1,8 +1,10 @@
 //! Words of at most 128 bits as numbers of the machine. Nothing here takes memory.
 //!
-//! A word is the number that its bits mean. `bits_of width n` are the bits of the word `n`, and each contract says what the bits of a
-//! result are by the bits of the words that it was made of.
-ghost use Rattle.std.specs.Prelude.{◌≡◌, ℕ, ◌+◌, ◌-◌, ◌*◌, ◌/◌, ◌%◌, ◌^◌, ◌<◌, ◌≤◌, ◌==◌, ◌&&◌, ◌||◌, ◌++◌, not, map, count_by, slice_index_or, false, int_lt, pos, ◌+ℤ◌, ◌-ℤ◌, ◌*ℤ◌};
+//! A word is the number that its bits mean: `bits_of width n` are the bits of the word `n`.
+//! Each contract says what the bits of a result are, by the bits of the words that it was made of.
+//! A width is at most 128, and a word is below 2 to its width where a contract says so.
+ghost use Rattle.std.specs.Prelude.{◌≡◌, ℕ, ◌+◌, ◌-◌, ◌*◌, ◌/◌, ◌%◌, ◌^◌, ◌<◌, ◌≤◌, ◌==◌, ◌&&◌, ◌||◌, ◌++◌, not};
+ghost use Rattle.std.specs.Prelude.{map, count_by, slice_index_or, false, int_lt, pos, ◌+ℤ◌, ◌-ℤ◌, ◌*ℤ◌};
 ghost use Rattle.std.specs.Int.{int_div_euclid};
 ghost use Rattle.std.specs.List.{list_all, list_any};
 ghost use Rattle.chw_bits.specs.Bits.{number_of, bits_of, cut_of};
@@ -13,7 +15,8 @@ use crate::places::bit_at;
 
 /// A number without the bits from a width up.
 pub fn lowest(width: u32, n: u128) -> u128
-    ensures { result ≡ n % 2 ^ width }
+    ensures number { result ≡ n % 2 ^ width }
+    ensures below { result < 2 ^ width }
 {
     if width < 128 { n % (1 << width) } else { n }
 }
@@ -55,7 +58,7 @@ fn raised(n: u128, places: u128) -> u128
     if places < 128 { n << places } else { 0 }
 }
 
-/// A word moved up by a number of places, with zeros below, at a width.
+/// A word moved up by a number of places of any size, with zeros below, at a width.
 pub fn up(width: u32, a: u128, places: u128) -> u128
     requires { width ≤ 128 }
     ensures bits { bits_of width result
@@ -72,7 +75,7 @@ fn lowered(n: u128, places: u128) -> u128
     if places < 128 { n >> places } else { 0 }
 }
 
-/// A word moved down by a number of places, with zeros above.
+/// A word moved down by a number of places of any size, with zeros above.
 pub fn down(a: u128, places: u128) -> u128
     ensures number { result ≡ a / 2 ^ places }
     ensures bits { (width : ℕ) → a < 2 ^ width → bits_of width result
@@ -111,7 +114,7 @@ pub fn signed_quotient(n: i128, places: u128) -> i128
     n >> places.min(127)
 }
 
-/// A word moved down by a number of places, with copies of its first bit above.
+/// A word moved down by a number of places of any size, with copies of its first bit above.
 pub fn signed_down(width: u32, a: u128, places: u128) -> u128
     requires whole { width ≤ 128 }
     requires word { a < 2 ^ width }
@@ -193,7 +196,9 @@ pub fn odd_set(a: u128) -> bool
     a.count_ones() % 2 == 1
 }
 
-/// A word with another of a width after it.
+/// A word with another of a width after it, the first the most significant.
+///
+/// Together they have at most 128 bits.
 pub fn joined(a: u128, b: u128, width: u32) -> u128
     requires whole { width ≤ 128 }
     requires high { a < 2 ^ (128 - width) }

@@ -1,7 +1,7 @@
 //! The values of the primitives on words: the bits that each gives on bits.
 //!
-//! `apply` computes a value where no width is over 128, by arithmetic on machine numbers. The definitions that it is proved against speak
-//! of bits of any width, and of the integers that they mean.
+//! `apply` computes a value where no width is over 128, by the arithmetic of `chw_bits::machine`.
+//! The definitions that it is proved against speak of bits of any width, and of the integers that they mean.
 #![tactic(auto)]
 
 mod arithmetic;

@@ -8,4 +8,4 @@ pub returns : goal.returns
 returns c =
     let w = c.args.width in
     let ones : 2 ^ w - 1 - 0 ≡ 2 ^ w - 1 = omega arith in
-    ap (eqb c.args.a) (c.lowest.ensures ∙ complement_low w 128 0 c.requires.whole (pow_pos w) ∙ ones) ∙ all_bits_of w c.args.a c.requires.word
+    ap (eqb c.args.a) (c.lowest.ensures.number ∙ complement_low w 128 0 c.requires.whole (pow_pos w) ∙ ones) ∙ all_bits_of w c.args.a c.requires.word

@@ -11,7 +11,7 @@ returns-clause-bits c =
     let count = c.args.high + 1 - c.args.low in
     let n = c.args.a / 2 ^ c.args.low in
     let number : c.lowest.result ≡ n % 2 ^ count =
-    c.lowest.ensures
+    c.lowest.ensures.number
     ∙ ap (λ k. k % 2 ^ (c.args.high - c.args.low + 1)) (c.lowered.ensures ∙ ap (λ p. c.args.a / 2 ^ p) c.from.ensures)
     ∙ ap (λ k. n % 2 ^ k) (omega arith) in
     λ width within. ap (bits_of count) number ∙ same_low_bits count (n % 2 ^ count) n (mod-mod n (2 ^ count)) ∙ middle_bits width c.args.a c.args.high c.args.low order within

@@ -17,7 +17,7 @@ returns-clause-bits c =
     let n = c.cast_unsigned.result in
     let whole : SFits w128 c.signed_number.result = record { sfits = c.signed_number.type_inv } in
     let part : SFits w128 c.signed_quotient-quotient.result = record { sfits = c.signed_quotient-quotient.type_inv } in
-    ap (bits_of w) c.lowest.ensures
+    ap (bits_of w) c.lowest.ensures.number
     ∙ same_low_bits w (n % 2 ^ w) n (mod-mod n (2 ^ w))
     ∙ ap (bits_of w) (c.cast_unsigned.ensures ∙ ap (of_z w128) (to_z-of_z w128 c.signed_quotient-quotient.result part))
     ∙ cast_bits w c.signed_quotient-quotient.result c.requires.whole part

@@ -12,7 +12,7 @@ pub overflow_cast-result : goal.overflow_cast-result
 overflow_cast-result c =
     let set : get_or (bits_of c.args.width c.args.a) 0 false ≡ true = sym c.is_negative.ensures ∙ c.if-is_negative.true in
     let small = negative_word_small c.args.width 127 c.args.a c.requires.whole c.requires.word set in
-    record { sfits = rw c.lowest.ensures small }
+    record { sfits = rw c.lowest.ensures.number small }
 
 pub overflow_cast-result-else-is_negative : goal.overflow_cast-result-else-is_negative
 overflow_cast-result-else-is_negative c =
@@ -22,8 +22,8 @@ overflow_cast-result-else-is_negative c =
 pub returns-then-is_negative : goal.returns-then-is_negative
 returns-then-is_negative c =
     let set : get_or (bits_of c.args.width c.args.a) 0 false ≡ true = sym c.is_negative.ensures ∙ c.if-is_negative.true in
-    let small : c.lowest.result < 2 ^ 127 = rw c.lowest.ensures (negative_word_small c.args.width 127 c.args.a c.requires.whole c.requires.word set) in
-    let same : negsuc c.lowest.result ≡ signed (bits_of c.args.width c.args.a) = ap negsuc c.lowest.ensures ∙ sym (negative_word c.args.width 128 c.args.a c.requires.whole c.requires.word set) in
+    let small : c.lowest.result < 2 ^ 127 = rw c.lowest.ensures.number (negative_word_small c.args.width 127 c.args.a c.requires.whole c.requires.word set) in
+    let same : negsuc c.lowest.result ≡ signed (bits_of c.args.width c.args.a) = ap negsuc c.lowest.ensures.number ∙ sym (negative_word c.args.width 128 c.args.a c.requires.whole c.requires.word set) in
     complement_is c.lowest.result small ∙ same
 
 pub returns-else-is_negative : goal.returns-else-is_negative

@@ -4,4 +4,4 @@ use Rattle.chw_bits.proofs.machine.up.Goals as goal
 
 pub returns-clause-bits : goal.returns-clause-bits
 returns-clause-bits c =
-    up_bits 128 c.args.width c.args.a c.args.places c.lowest.result c.requires (c.lowest.ensures ∙ ap (λ n. n % 2 ^ c.args.width) c.raised.ensures)
+    up_bits 128 c.args.width c.args.a c.args.places c.lowest.result c.requires (c.lowest.ensures.number ∙ ap (λ n. n % 2 ^ c.args.width) c.raised.ensures)
