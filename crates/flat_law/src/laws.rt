@@ -9,7 +9,7 @@ ghost use Rattle.flat_law.specs.FlatOf.{flat_of, SameBits};
 ghost use Rattle.netlist.specs.Orders.{IsOrder};
 ghost use Rattle.netlist.specs.Sound.{Sound};
 
-use netlist::laws::{a_value_has_its_width, every_wire_has_a_value};
+use netlist::laws::{a_value_has_its_width, an_order_excludes_loops, every_wire_has_a_value};
 
 /// The net of a flat description, with no more wires than the limit, is sound.
 pub fn net_is_sound()
@@ -21,6 +21,7 @@ pub fn net_has_the_bits()
     ensures { (f : FlatText) (places : List ℕ) (h : List Event) → Holds f → length (flat_of f).widths ≤ FLAT_WIRES → IsOrder (flat_of f) places
         → FitsPorts (flat_of f).ports h → SameBits f h }
 {
+    an_order_excludes_loops();
     every_wire_has_a_value();
     a_value_has_its_width();
 }

@@ -1,11 +1,15 @@
 pub mod Before
 pub mod Chains
+pub mod Closing
 pub mod ExamplesShown
 pub mod Exclusion
+pub mod Finite
 pub mod Found
 pub mod Lengths
 pub mod Lists
 pub mod OneValue
+pub mod Ordered
+pub mod Periods
 pub mod Places
 pub mod Placing
 pub mod Rounds

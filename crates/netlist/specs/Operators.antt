@@ -1,5 +1,7 @@
 -- What the cells make of bits: the operators of IEEE 1364-2005, clause 5.1, over two values.
-use Rattle.std.specs.Prelude.{◌%◌, ◌^◌, ◌==◌, Bool, not, ◌&&◌, ◌||◌, List, [], ◌∷◌, map, count_by, flat_map, nat_lt, int_lt, pos, ◌+ℤ◌, ◌-ℤ◌, ◌*ℤ◌, length, if◌then◌else◌}
+use Rattle.std.specs.Prelude.{◌%◌, ◌^◌, ◌==◌, nat_lt, int_lt, pos, ◌+ℤ◌, ◌-ℤ◌, ◌*ℤ◌}
+use Rattle.std.specs.Prelude.{Bool, not, ◌&&◌, ◌||◌, if◌then◌else◌}
+use Rattle.std.specs.Prelude.{List, [], ◌∷◌, map, count_by, flat_map, length}
 use Rattle.std.specs.Int.{int_div_euclid}
 use Rattle.std.specs.List.{list_all, list_any}
 use Rattle.chw_bits.specs.Bits.{cut_of, number_of}

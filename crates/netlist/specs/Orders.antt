@@ -34,3 +34,7 @@ wire_numbers wires = map (λ w. w.number) wires
 -- a loop: a cycle of wires with the least one first
 abbrev pub IsLoop : Flat → List WireId → Type 0
 IsLoop flat cycle = IsCycle flat.cells (wire_numbers cycle) × LeastFirst (wire_numbers cycle)
+
+-- no wires are a loop
+abbrev pub HasNoLoop : Flat → Type 0
+HasNoLoop flat = (cycle : List WireId) → IsLoop flat cycle → ⊥

@@ -4,7 +4,7 @@ ghost use Rattle.chw_base.specs.declared.index.WireId.{WireId};
 ghost use Rattle.chw_clock.specs.Histories.{FitsPorts};
 ghost use Rattle.chw_clock.specs.declared.event.Event.{Event};
 ghost use Rattle.netlist.specs.NetValue.{HasValue, NetValue};
-ghost use Rattle.netlist.specs.Orders.{IsLoop, IsOrder};
+ghost use Rattle.netlist.specs.Orders.{HasNoLoop, IsLoop, IsOrder};
 ghost use Rattle.netlist.specs.Sound.{DrivenOnce, DrivesFrom, Sound};
 ghost use Rattle.netlist.specs.declared.net.Cell.{Cell};
 ghost use Rattle.netlist.specs.declared.net.Flat.{Flat};
@@ -21,10 +21,15 @@ pub fn cells_in_order_drive_once()
         DrivesFrom inputs cells → inputs + length cells ≡ wires → DrivenOnce inputs wires cells }
 {}
 
-/// In a sound flat net with an order, each wire has a value of its width at each history of the net's ports.
+/// Where a sound flat net has no loop, it has an order.
+pub fn without_loops_there_is_an_order()
+    ensures { (flat : Flat) → Sound flat → HasNoLoop flat → (places : List ℕ) × IsOrder flat places }
+{}
+
+/// In a sound flat net without a loop, each wire has a value of its width at each history of the net's ports.
 pub fn every_wire_has_a_value()
-    ensures { (flat : Flat) (places : List ℕ) (h : List Event) (w : ℕ) → Sound flat → IsOrder flat places
-        → FitsPorts flat.ports h → w < length flat.widths → HasValue flat h w }
+    ensures { (flat : Flat) (h : List Event) (w : ℕ) → Sound flat → HasNoLoop flat → FitsPorts flat.ports h → w < length flat.widths
+        → HasValue flat h w }
 {}
 
 /// A value of a wire of a sound flat net has the wire's width, at each history of the net's ports.

@@ -13,5 +13,5 @@ returns c = λ f places h holds few order fits.
     let s = stands (signals f) f.body f.width holds.signals_hold.body in
     let lt = slice_get_within (widths_of_signals f) w s.signal.width (width_at f w s.signal s.at) in
     let sound = net_sound f holds (few_signals f few) in
-    let v = c.every_wire_has_a_value.ensures (flat_of f) places h w sound order fits lt in
+    let v = c.every_wire_has_a_value.ensures (flat_of f) h w sound (λ cycle l. c.an_order_excludes_loops.ensures (flat_of f) places cycle sound order l) fits lt in
     record { bits = v.bits; meant = translated f holds (λ h w bits fits u. c.a_value_has_its_width.ensures (flat_of f) h w bits sound fits u) h w v.bits fits v.value f.body (reads_name f holds f.body f.width holds.signals_hold.body); shown = v.value }

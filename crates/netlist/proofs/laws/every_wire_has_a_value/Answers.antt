@@ -1,5 +1,6 @@
+use Rattle.netlist.proofs.Ordered.{an_order}
 use Rattle.netlist.proofs.Values.{every_value}
 use Rattle.netlist.proofs.laws.every_wire_has_a_value.Goals as goal
 
 pub returns : goal.returns
-returns c = λ flat places h w sound order fits lt. every_value flat places sound order h fits w lt
+returns c = λ flat h w sound no_loop fits lt. let o = an_order flat sound no_loop in every_value flat o.0 sound o.1 h fits w lt
