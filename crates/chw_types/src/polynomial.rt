@@ -228,7 +228,8 @@ fn numeral(alloc: Global, number: u32) -> Result<Vec<Summand>, NoMemory>
     Ok(single(alloc, number, Vec::new(alloc))?)
 }
 
-/// A natural, multiplied out. What is no natural gives the empty sum.
+/// A natural, multiplied out. What is no natural gives the empty sum. A sum or product of too many
+/// summands or factors is want of memory.
 #[tactic(auto, unfolding(crate::specs::Polynomials::multiplied))]
 pub(crate) fn multiplied(alloc: Global, t: &Ty) -> Result<Vec<Summand>, NoMemory>
     ensures normal { IfOk result (λ r. IsNormal (sum_of r.items)) }
