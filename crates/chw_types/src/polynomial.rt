@@ -3,7 +3,7 @@
 //! A sum is a list in normal form: each product of variables once, in order, none with the
 //! coefficient 0. So sums are merged in one pass, and two sums are one polynomial exactly if their
 //! lists are equal.
-ghost use Rattle.std.specs.Prelude.{◌≡◌, ◌↔◌, ◌≤◌, ◌⊎◌, ◌∷◌, ◌++◌, [], length, IfOk, IfSome, IfNone, IsTrue};
+ghost use Rattle.std.specs.Prelude.{◌≡◌, ◌↔◌, ◌<◌, ◌≤◌, ◌⊎◌, ◌∷◌, ◌++◌, [], length, IfOk, OnOk, OnErr, IfSome, IfNone, IsTrue};
 ghost use Rattle.chw_types.specs.Polynomials.{times, multiplied};
 ghost use Rattle.chw_types.specs.Agreement.{Agrees};
 ghost use Rattle.chw_types.specs.NormalSums.{order as order_of, IsAscending, IsNormal, ended_times, scaled as scaled_sum};
@@ -166,8 +166,15 @@ fn factor_count(p: &[Summand]) -> usize {
 
 // Refuses a sum of too many summands, or with too many factors in all, before it is made. So the
 // memory for a sum is bounded.
-fn check_size(summands: usize, factors: usize) -> Result<(), NoMemory> {
-    if summands > TYPE_PARTS as usize || factors > MOST_FACTORS as usize {
+fn check_size(summands: usize, factors: usize) -> Result<(), NoMemory>
+    ensures summands { OnOk result (summands ≤ TYPE_PARTS) }
+    ensures factors { OnOk result (factors ≤ MOST_FACTORS) }
+    ensures refused { OnErr result ((TYPE_PARTS < summands) ⊎ (MOST_FACTORS < factors)) }
+{
+    if summands > TYPE_PARTS as usize {
+        return Err(NoMemory);
+    }
+    if factors > MOST_FACTORS as usize {
         return Err(NoMemory);
     }
     Ok(())
