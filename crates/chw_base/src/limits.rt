@@ -20,6 +20,8 @@ pub const TYPE_NUMERAL_BITS: u32 = 32;
 pub const TYPE_DEPTH: u32 = 4_000;
 /// The most parts of a type that putting types into another may give, the type itself counted.
 pub const TYPE_PARTS: u32 = 1_000_000;
+/// The most factors of a natural that is multiplied out, those of all its products together.
+pub const NATURAL_FACTORS: u32 = 64_000_000;
 /// The most parts that the types of the fields of one top's ports have together, each with the arguments put in.
 pub const PORT_PARTS: u32 = 4_000_000;
 /// The widest scalar, in bits.

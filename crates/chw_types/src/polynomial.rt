@@ -11,13 +11,10 @@ ghost use Rattle.chw_types.specs.SummandView.{summand_of, sum_of, products_of, T
 
 use crate::ty::{Ty, TyNode};
 use chw_base::NoMemory;
-use chw_base::limits::TYPE_PARTS;
+use chw_base::limits::{NATURAL_FACTORS, TYPE_PARTS};
 use std::alloc::Global;
 use std::cmp::Ordering;
 use std::collections::VecDeque;
-
-// The most factors of a sum, all summands together.
-const MOST_FACTORS: u32 = 64_000_000;
 
 // A coefficient, and the variables that are multiplied with it, the least first.
 #[derive(Drop)]
@@ -168,13 +165,13 @@ fn factor_count(p: &[Summand]) -> usize {
 // memory for a sum is bounded.
 fn check_size(summands: usize, factors: usize) -> Result<(), NoMemory>
     ensures summands { OnOk result (summands ≤ TYPE_PARTS) }
-    ensures factors { OnOk result (factors ≤ MOST_FACTORS) }
-    ensures refused { OnErr result ((TYPE_PARTS < summands) ⊎ (MOST_FACTORS < factors)) }
+    ensures factors { OnOk result (factors ≤ NATURAL_FACTORS) }
+    ensures refused { OnErr result ((TYPE_PARTS < summands) ⊎ (NATURAL_FACTORS < factors)) }
 {
     if summands > TYPE_PARTS as usize {
         return Err(NoMemory);
     }
-    if factors > MOST_FACTORS as usize {
+    if factors > NATURAL_FACTORS as usize {
         return Err(NoMemory);
     }
     Ok(())

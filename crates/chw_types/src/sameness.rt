@@ -14,7 +14,7 @@ use std::alloc::Global;
 /// Whether two types are equal as trees, where naturals are equal if they are one polynomial.
 ///
 /// Naturals that are not equal as trees are multiplied out, but for two products of equal parts. A sum
-/// or product of more than `limits::TYPE_PARTS` summands, or of more than 64,000,000 factors in all, is
+/// or product of more than `limits::TYPE_PARTS` summands, or of more than `limits::NATURAL_FACTORS` factors in all, is
 /// want of memory. Like summands are counted before they are added up.
 pub fn same(alloc: Global, a: &Ty, b: &Ty) -> Result<bool, NoMemory>
     ensures { IfOk result (λ r. IsTrue r ↔ SameTypes a.now b.now) }
