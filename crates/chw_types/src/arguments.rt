@@ -1,7 +1,7 @@
 //! Putting the arguments of a data type into its fields.
 ghost use Rattle.std.specs.Prelude.{◌≡◌, ◌+◌, reverse, IfOk};
 ghost use Rattle.chw_types.specs.Arguments.{given, arguments};
-ghost use Rattle.chw_types.specs.SmallTypes.{IsSmall, Takes};
+ghost use Rattle.chw_types.specs.SmallTypes.{parts_of, IsSmall};
 ghost use Rattle.chw_types.specs.TypeMoves.{sub, up_by};
 ghost use Rattle.chw_types.specs.TypeView.{trees_of};
 
@@ -26,7 +26,7 @@ pub fn put_arguments(alloc: Global, field: &Ty, args: &[Ty]) -> Result<Ty, NoMem
     Ok(put_arguments_within(alloc, field, args, &mut parts)?)
 }
 
-/// The same, but the parts of the result are taken from `parts`.
+/// The same, but the parts of the result are taken from `parts`, and there is room for no more.
 pub(crate) fn put_arguments_within(
     alloc: Global,
     field: &Ty,
@@ -34,13 +34,14 @@ pub(crate) fn put_arguments_within(
     parts: &mut u32,
 ) -> Result<Ty, NoMemory>
     ensures is { IfOk result (λ t. t ≡ sub field.now (arguments (trees_of args.now))) }
-    ensures takes { IfOk result (λ t. Takes t TYPE_DEPTH parts.old parts.new) }
+    ensures small { IfOk result (λ t. IsSmall t) }
+    ensures taken { IfOk result (λ t. parts_of t + parts.new ≡ parts.old) }
 {
     Ok(fill_within(alloc, field, 0, args, parts)?)
 }
 
-/// The type with these put for its variables from `under` on, no deeper than `TYPE_DEPTH`. Its parts are taken from `parts`. Where
-/// there is no room, the answer is want of memory, before any of it is made.
+/// The type with these put for its variables from `under` on, where it is small. Its parts are taken from `parts`. Where there is no
+/// room, the answer is want of memory, before any of it is made.
 pub(crate) fn fill_within(
     alloc: Global,
     t: &Ty,
@@ -49,16 +50,22 @@ pub(crate) fn fill_within(
     parts: &mut u32,
 ) -> Result<Ty, NoMemory>
     ensures is { IfOk result (λ r. r ≡ sub t.now (up_by under (given (reverse args.now)))) }
-    ensures takes { IfOk result (λ r. Takes r TYPE_DEPTH parts.old parts.new) }
+    ensures small { IfOk result (λ r. IsSmall r) }
+    ensures taken { IfOk result (λ r. parts_of r + parts.new ≡ parts.old) }
 {
+    let most = if *parts < TYPE_PARTS {
+        *parts
+    } else {
+        TYPE_PARTS
+    };
     let room = Room {
         depth: TYPE_DEPTH,
-        parts: *parts,
+        parts: most,
     };
     let Some(left) = parts_left(t, under, args, room) else {
         return Err(NoMemory);
     };
-    *parts = left;
+    *parts -= most - left;
     Ok(fill(alloc, t, under, args)?)
 }
 

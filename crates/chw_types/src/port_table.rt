@@ -84,8 +84,8 @@ impl<'a> PortTable<'a> {
     /// Looks at a closed type as a port. If it is a product, its fields with the arguments put in come on the list, the first field
     /// last.
     ///
-    /// Where a field would be deeper than `TYPE_DEPTH`, or the fields that this table puts on lists would have more parts together
-    /// than `PORT_PARTS`, the answer is want of memory, before the field is made.
+    /// Where a field would be deeper than `TYPE_DEPTH` or have more parts than `TYPE_PARTS`, or the fields that this table puts on
+    /// lists would have more parts together than `PORT_PARTS`, the answer is want of memory, before the field is made.
     pub fn look_at<'t>(
         &mut self,
         alloc: Global,
