@@ -53,8 +53,8 @@ reading_refuses command text r (inl is) = inl is
 reading_refuses command text r (inr n) = inr (no_description r n)
 
 -- a description was read from its text
-pub was_read : (text : List ℕ) (tree : Tree) → IsDescription text tree → WasRead tree
-was_read text tree d = record { text = text; tokens = d.tokens; split = d.split; reads = d.reads }
+pub was_read : (text : List ℕ) (tree : Tree) → IsDescription text tree → WasRead text tree
+was_read text tree d = record { tokens = d.tokens; split = d.split; reads = d.reads }
 
 pub names_refuse : (command : Command) (text : List ℕ) (tree : Tree) (e : Or NameFault) → IsDescription text tree → OfFault e (IsNameFault tree)
     → RefusesText command text (of_name_fault e)

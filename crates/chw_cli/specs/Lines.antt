@@ -71,7 +71,7 @@ words_line words shown = words ++ shown ++ codes "\n"
 abbrev pub type_line : TypeFault → List ℕ
 type_line (Kind name) = words_line (codes "chw: E06 kind in ") name
 type_line (Typing name) = words_line (codes "chw: E08 type in ") name
-type_line (Missing name constructor) = codes "chw: E09 missing " ++ constructor ++ codes " in " ++ name ++ codes "\n"
+type_line (Missing name con) = codes "chw: E09 missing " ++ con ++ codes " in " ++ name ++ codes "\n"
 type_line (NoDefault name) = words_line (codes "chw: E09 default in ") name
 type_line (NotPorts ty) = words_line (codes "chw: E11 top ") ty
 

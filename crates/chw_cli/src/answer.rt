@@ -39,7 +39,7 @@ fn text_answer(alloc: Global, command: &Command, text: &[u8]) -> Result<Vec<u8>,
     ensures refuses { IfErr result (RefusesText command.now text.now) }
 {
     let tree = described(alloc, text)?;
-    let program = resolve(alloc, &tree)?;
+    let program = resolve(alloc, text, &tree)?;
     check(alloc, program)?;
     command_answer(alloc, command, text, &tree)
 }

@@ -70,18 +70,18 @@ pub(crate) fn type_line(alloc: Global, fault: &TypeFault) -> Result<Vec<u8>, NoM
     match fault {
         TypeFault::Kind { name } => words_line(alloc, "chw: E06 kind in ", name),
         TypeFault::Typing { name } => words_line(alloc, "chw: E08 type in ", name),
-        TypeFault::Missing { name, constructor } => missing_line(alloc, name, constructor),
+        TypeFault::Missing { name, con } => missing_line(alloc, name, con),
         TypeFault::NoDefault { name } => words_line(alloc, "chw: E09 default in ", name),
         TypeFault::NotPorts { ty } => words_line(alloc, "chw: E11 top ", ty),
     }
 }
 
 /// The line of a constructor that a case lacks.
-fn missing_line(alloc: Global, name: &Name, constructor: &Name) -> Result<Vec<u8>, NoMemory>
-    ensures { IfOk result (λ line. line.items ≡ type_line (of_types.Missing name.now constructor.now)) }
+fn missing_line(alloc: Global, name: &Name, con: &Name) -> Result<Vec<u8>, NoMemory>
+    ensures { IfOk result (λ line. line.items ≡ type_line (of_types.Missing name.now con.now)) }
 {
     let mut line = Vec::from_slice(alloc, "chw: E09 missing ".as_bytes())?;
-    line.extend_from_slice(constructor.as_slice())?;
+    line.extend_from_slice(con.as_slice())?;
     line.extend_from_slice(" in ".as_bytes())?;
     line.extend_from_slice(name.as_slice())?;
     line.push(b'\n')?;
