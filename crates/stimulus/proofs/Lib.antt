@@ -1,0 +1,6 @@
+pub mod Bytes
+pub mod Fits
+pub mod Lists
+pub mod Places
+pub mod Progress
+pub mod Splits

@@ -1,0 +1,4 @@
+pub mod Output
+pub mod Stimulus
+pub mod Texts
+pub mod Words
