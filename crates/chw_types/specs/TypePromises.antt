@@ -44,4 +44,5 @@ PutClosedKeepsKind =
 -- a shift keeps the depth and the number of parts
 abbrev pub ShiftKeepsSize : Type 0
 ShiftKeepsSize =
-    (t : TypeTree) (c by : ℕ) → (depth_of (shift t c by) ≡ depth_of t) × (parts_of (shift t c by) ≡ parts_of t)
+    (t : TypeTree) (c by : ℕ) → (depth_of (shift t c by) ≡ depth_of t)
+    × (parts_of (shift t c by) ≡ parts_of t)
