@@ -48,8 +48,8 @@ pub record ProductOpened (datas : List Data) (t : TypeTree) (old new : List Type
 abbrev pub Looked : List Data → TypeTree → List Leaf → List Leaf → List TypeTree → List TypeTree → Type 0
 Looked datas t found found' todo todo' = (LeafFound datas t found found' × (todo' ≡ todo)) ⊎ (ProductOpened datas t todo todo' × (found' ≡ found))
 
--- the type is a leaf, and nothing more is to be looked at; or a product, whose fields are to be
--- looked at next; or no port
+-- the type is a leaf, and nothing more is to be looked at, or a product, whose fields are to be
+-- looked at next, or no port
 abbrev pub HasForm : List Data → TypeTree → List TypeTree → List TypeTree → PortForm → Type 0
 HasForm datas t todo todo' (Single dom payload) =
     (t ≡ signal (domain dom.number) payload.now) × Representable datas payload.now × (todo' ≡ todo)

@@ -1,5 +1,6 @@
 -- What the rows of the table say of the data types.
-use Rattle.std.specs.Prelude.{Vec, ◌≡◌, ℕ, Bool, true, false, replicate, List, [], ◌∷◌, length, Option, Some, None}
+use Rattle.std.specs.Prelude.{◌≡◌, ℕ, Bool, true, false, Option, Some, None}
+use Rattle.std.specs.Prelude.{List, [], ◌∷◌, length, replicate, Vec}
 use Rattle.std.specs.List.{slice_get}
 use Rattle.chw_types.specs.declared.declarations.Data.{Data}
 use Rattle.chw_types.specs.declared.rows.Row.{Row}

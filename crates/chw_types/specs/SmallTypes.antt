@@ -1,7 +1,8 @@
 -- How deep types are, and how many parts they have.
 use Rattle.std.specs.Prelude.{◌≡◌, ℕ, ◌+◌, ◌≤◌, max}
 use Rattle.chw_base.specs.declared.limits.TheConstants.{TYPE_DEPTH, TYPE_PARTS}
-use Rattle.chw_types.specs.TypeTree.{TypeTree, nat_sum, nat_product, scalar, vector, data_of, fun, signal, for_all, TypeTrees, no_types, type_and}
+use Rattle.chw_types.specs.TypeTree.{TypeTree, nat_sum, nat_product, scalar, vector, data_of}
+use Rattle.chw_types.specs.TypeTree.{fun, signal, for_all, TypeTrees, no_types, type_and}
 
 unfoldable mutual
   -- one more than the depth of the deepest part

@@ -16,8 +16,8 @@ use std::alloc::Global;
 /// Puts these types for the parameters of a data type, of which the last is the variable 0, all at once. Later variables come down by
 /// their number, and under a binder the variables of the arguments are raised.
 ///
-/// Where the result would be deeper than `TYPE_DEPTH`, or have more parts than `TYPE_PARTS`, the answer is want of memory, before
-/// any of it is made.
+/// Where the result would be deeper than `TYPE_DEPTH`, or have more parts than `TYPE_PARTS`, the
+/// answer is want of memory, before any of it is made.
 pub fn put_arguments(alloc: Global, field: &Ty, args: &[Ty]) -> Result<Ty, NoMemory>
     ensures is { IfOk result (λ t. t ≡ sub field.now (arguments (trees_of args.now))) }
     ensures small { IfOk result (λ t. IsSmall t) }
@@ -40,8 +40,9 @@ pub(crate) fn put_arguments_within(
     Ok(fill_within(alloc, field, 0, args, parts)?)
 }
 
-/// The type with these put for its variables from `under` on, where it is small. Its parts are taken from `parts`. Where there is no
-/// room, the answer is want of memory, before any of it is made.
+/// The type with these put for its variables from `under` on, where it is small. Its parts are
+/// taken from `parts`. Where there is no room, the answer is want of memory, before any of it is
+/// made.
 pub(crate) fn fill_within(
     alloc: Global,
     t: &Ty,

@@ -1,5 +1,6 @@
 //! Laws of types, each as the contract of a call that does nothing.
-ghost use Rattle.chw_types.specs.TypePromises.{ShiftAfterPut, PutAfterShift, PutAfterPut, OneKind, ShiftKeepsKind, ShiftKeepsSize, PutKeepsKind, PutClosedKeepsKind};
+ghost use Rattle.chw_types.specs.TypePromises.{ShiftAfterPut, PutAfterShift, PutAfterPut, OneKind, ShiftKeepsKind, PutKeepsKind, PutClosedKeepsKind};
+ghost use Rattle.chw_types.specs.TypePromises.{ShiftKeepsSize};
 ghost use Rattle.chw_types.specs.Ceiling.{SumsCommute, SumsAssociate, ProductsCommute, ProductsAssociate, ProductsOverSums, ZeroIsNeutral, OneIsNeutral, ZeroAbsorbs};
 ghost use Rattle.chw_types.specs.SamePromises.{SameReflexive, SameSymmetric, SameTransitive, SameValues};
 

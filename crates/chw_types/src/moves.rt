@@ -14,8 +14,8 @@ use std::slice;
 
 /// Puts `arg` for the variable `at`. Later variables come down by one, and under a binder the variables of `arg` are raised.
 ///
-/// Where the result would be deeper than `TYPE_DEPTH`, or have more parts than `TYPE_PARTS`, the answer is want of memory, before
-/// any of it is made.
+/// Where the result would be deeper than `TYPE_DEPTH`, or have more parts than `TYPE_PARTS`, the
+/// answer is want of memory, before any of it is made.
 pub fn put_type(alloc: Global, into: &Ty, at: TyIx, arg: &Ty) -> Result<Ty, NoMemory>
     ensures is { IfOk result (λ t. t ≡ put into.now at.number arg.now) }
     ensures small { IfOk result (λ t. IsSmall t) }

@@ -31,7 +31,8 @@ pub enum PortForm<'t> {
 #[derive(Drop)]
 pub struct PortTable<'a> {
     datas: &'a [Data],
-    /// What is known of each data type. Nothing is before the first question, and after want of memory.
+    /// What is known of each data type. Nothing is before the first question, and after want of
+    /// memory.
     rows: Option<Vec<Row>>,
     /// How many parts are left for the fields that are put on lists.
     parts: u32,
@@ -81,11 +82,12 @@ impl<'a> PortTable<'a> {
         Ok(told)
     }
 
-    /// Looks at a closed type as a port. If it is a product, its fields with the arguments put in come on the list, the first field
-    /// last.
+    /// Looks at a closed type as a port. If it is a product, its fields with the arguments put in
+    /// come on the list, the first field last.
     ///
-    /// Where a field would be deeper than `TYPE_DEPTH` or have more parts than `TYPE_PARTS`, or the fields that this table puts on
-    /// lists would have more parts together than `PORT_PARTS`, the answer is want of memory, before the field is made.
+    /// Where a field would be deeper than `TYPE_DEPTH` or have more parts than `TYPE_PARTS`, or the
+    /// fields that this table puts on lists would have more parts together than `PORT_PARTS`, the
+    /// answer is want of memory, before the field is made.
     pub fn look_at<'t>(
         &mut self,
         alloc: Global,

@@ -106,8 +106,9 @@ pub(crate) fn product_fields(datas: &[Data], at: u32, args: usize) -> Option<&[T
     Some(fields)
 }
 
-/// Puts the fields with the arguments put in on the list, the first field last. Their parts are taken from `parts`. Where there is no
-/// room, the answer is want of memory, before the field is made.
+/// Puts the fields with the arguments put in on the list, the first field last. Their parts are
+/// taken from `parts`. Where there is no room, the answer is want of memory, before the field is
+/// made.
 pub(crate) fn push_fields(
     alloc: Global,
     fields: &[Ty],

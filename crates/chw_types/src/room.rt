@@ -48,7 +48,8 @@ fn argument_for(x: TyIx, under: u32, args: &[Ty]) -> Option<&Ty>
     }
 }
 
-/// How many parts are left after the type with these put for its variables from `under` on. Nothing comes where there is no room.
+/// How many parts are left after the type with these put for its variables from `under` on. Nothing
+/// comes where there is no room.
 ///
 /// The walk ends at the first part for which there is no room.
 #[tactic(auto, unfolding(crate::specs::TypeMoves::sub, crate::specs::SmallTypes::depth_of, crate::specs::SmallTypes::parts_of))]
