@@ -65,7 +65,7 @@ fn program(alloc: Global, text: &[u8]) -> Result<Program, Or<NameFault>> {
     let Ok(tree) = parse(alloc, text, tokens.as_slice()) else {
         return Err(Or::Memory);
     };
-    let resolved = resolve(alloc, &tree);
+    let resolved = resolve(alloc, text, &tree);
     drop(tree);
     resolved
 }

@@ -27,7 +27,7 @@ fn program(alloc: Global, text: &[u8]) -> Option<Program>
     let Ok(tree) = parse(alloc, text, tokens.as_slice()) else {
         return None;
     };
-    match resolve(alloc, &tree) {
+    match resolve(alloc, text, &tree) {
         Ok(program) => Some(program),
         Err(_) => None,
     }
