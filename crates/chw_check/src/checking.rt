@@ -8,6 +8,7 @@ ghost use Rattle.chw_check.specs.Incomplete.{AllKeep};
 ghost use Rattle.chw_check.specs.Tops.{TopIsOfPorts};
 ghost use Rattle.chw_terms.specs.Tidy.{IsTidy};
 ghost use Rattle.chw_typing.specs.Programs.{IsTyped};
+ghost use Rattle.term_types.specs.Signatures.{IsSignature};
 
 use crate::bodies::first_untyped;
 use crate::cases::{Lacks, first_incomplete};
@@ -21,6 +22,7 @@ use chw_types::type_text;
 use con_places::Constructors;
 use std::alloc::Global;
 use std::marker::Model;
+use term_types::Signature;
 
 /// A program that is tidy and typed. Contracts see the program.
 #[derive(Drop)]
@@ -74,9 +76,9 @@ fn check_all(alloc: Global, program: &Program) -> Result<(), Or<TypeFault>>
     ensures fault { IfFault result (IsTypeFault program.now) }
 {
     check_kinds(alloc, program)?;
-    let constructors = Constructors::of(alloc, program.datas.as_slice())?;
-    check_types(alloc, program, &constructors)?;
-    check_cases(alloc, program, &constructors)?;
+    let signature = Signature::of(alloc, program)?;
+    check_types(alloc, program, &signature)?;
+    check_cases(alloc, program, &signature.constructors)?;
     check_top(alloc, program)
 }
 
@@ -99,18 +101,14 @@ fn check_kinds(alloc: Global, program: &Program) -> Result<(), Or<TypeFault>>
 }
 
 /// Checks that each body has its declared type.
-fn check_types(
-    alloc: Global,
-    program: &Program,
-    constructors: &Constructors,
-) -> Result<(), Or<TypeFault>>
+fn check_types(alloc: Global, program: &Program, signature: &Signature) -> Result<(), Or<TypeFault>>
     requires tidy { IsTidy program.now }
-    requires table { constructors.now ≡ program.now.datas }
+    requires table { IsSignature program.now signature.now }
     requires fit { AllDeclarationsFit program.now }
     ensures ok { OnOk result (AllHaveTheirTypes program.now) }
     ensures fault { IfFault result (IsTypeFault program.now) }
 {
-    match first_untyped(alloc, program, constructors)? {
+    match first_untyped(alloc, program, signature)? {
         None => Ok(()),
         Some(it) => {
             let name = Name::copy_of(alloc, it.name.as_slice())?;

@@ -24,42 +24,10 @@ use Rattle.chw_typing.proofs.OneType.{put_same_of_kinds}
 use Rattle.chw_typing.proofs.Patterns.{are_of_terms}
 use Rattle.term_types.specs.Answers.{HasNoType, IsTyped, IsReady}
 use Rattle.term_types.specs.Kinding.{LacksKind, LacksKindUpTo, IsSettled}
-use Rattle.term_types.specs.Forms.{Takes, TakesNot, TakesType, TakesTypeNot, function_parts as parts_of_function, bound_parts as parts_of_bound}
+use Rattle.term_types.specs.Forms.{Takes, TakesNot, TakesType, TakesTypeNot}
 use Rattle.term_types.specs.declared.found.Found.{Found}
 use Rattle.found_types.proofs.FoundTyped.{found_is_type}
 use Rattle.term_types.proofs.Ready.{one, kinded}
-
-pub function_is : (t a b : TypeTree) → Some (a, b) ≡ parts_of_function t → t ≡ fun a b
-function_is (fun c d) a b e = let p = same_Some (a, b) (c, d) e in λ i. fun (sym p i).0 (sym p i).1
-function_is (ty_var x) a b e = absurd (cc)
-function_is (nat_lit n) a b e = absurd (cc)
-function_is (nat_sum c d) a b e = absurd (cc)
-function_is (nat_product c d) a b e = absurd (cc)
-function_is (domain d) a b e = absurd (cc)
-function_is (scalar s w) a b e = absurd (cc)
-function_is (vector n t) a b e = absurd (cc)
-function_is (data_of d ts) a b e = absurd (cc)
-function_is (signal d t) a b e = absurd (cc)
-function_is (for_all k t) a b e = absurd (cc)
-
-pub no_function : (t a b : TypeTree) → None ≡ parts_of_function t → t ≡ fun a b → ⊥
-no_function t a b n e = none-some (a, b) (n ∙ ap parts_of_function e)
-
-pub bound_is : (t of : TypeTree) (k : Kind) → Some (k, of) ≡ parts_of_bound t → t ≡ for_all k of
-bound_is (for_all j t) of k e = let p = same_Some (k, of) (j, t) e in λ i. for_all (sym p i).0 (sym p i).1
-bound_is (ty_var x) of k e = absurd (cc)
-bound_is (nat_lit n) of k e = absurd (cc)
-bound_is (nat_sum c d) of k e = absurd (cc)
-bound_is (nat_product c d) of k e = absurd (cc)
-bound_is (domain d) of k e = absurd (cc)
-bound_is (scalar s w) of k e = absurd (cc)
-bound_is (vector n t) of k e = absurd (cc)
-bound_is (data_of d ts) of k e = absurd (cc)
-bound_is (fun c d) of k e = absurd (cc)
-bound_is (signal d t) of k e = absurd (cc)
-
-pub no_bound : (t of : TypeTree) (k : Kind) → None ≡ parts_of_bound t → t ≡ for_all k of → ⊥
-no_bound t of k n e = none-some (k, of) (n ∙ ap parts_of_bound e)
 
 pub record AppParts (s : Setting) (kinds : List Kind) (vars : List TypeTree) (f e : TermTree) (b : TypeTree) : Type 0 where
   pub from : TypeTree

@@ -32,8 +32,10 @@ use Rattle.chw_typing.proofs.Patterns.{are_of_terms, fields_typed, constructor_a
 use Rattle.chw_typing.proofs.PutKinds.{same_kind_put}
 use Rattle.chw_typing.proofs.SameScopes.{same_at}
 use Rattle.found_types.specs.Finding.{settled}
-use Rattle.term_types.specs.Binding.{BindsFound, BindsNothing, IsLiteralOf, AreSettled, NoneSettled, is_looked_at}
-use Rattle.term_types.specs.Kinding.{LacksKindUpTo}
+use Rattle.term_types.specs.Binding.{BindsFound, BindsKinded, BindsNothing, IsLiteralOf, AreSettled, NoneSettled, is_looked_at}
+use Rattle.term_types.specs.Kinding.{LacksKindUpTo, IsSettled, HaveKinds}
+use Rattle.term_types.specs.VarsView.{found_types, found_kinds}
+use Rattle.term_types.specs.declared.found.Found.{Found}
 use Rattle.term_types.proofs.EachItem.{next_taken}
 use Rattle.found_types.proofs.Settling.{same_settled, all_same_settled}
 use Rattle.term_types.proofs.VarsFound.{read_at}
@@ -134,22 +136,28 @@ con_unsettled s kinds u c n it args h e is never bound b =
     let k = typed_at s kinds bound never.0 at.0 b.typed at.1 in
     never.3 at.0 k.kind (are_of_terms s h) at.2 k.has
 
-settled_are : (s : Setting) (kinds : List Kind) (fs args bound : List TypeTree) → AreSettled s kinds fs args bound → map (λ a. settled s kinds a) (map (λ f. sub f (arguments (trees_of args))) fs) ≡ bound
+settled_are : (s : Setting) (kinds : List Kind) (fs args : List TypeTree) (bound : List Found) → AreSettled s kinds fs args bound → map (λ a. settled s kinds a) (map (λ f. sub f (arguments (trees_of args))) fs) ≡ found_types bound
 settled_are s kinds [] args [] h = refl
-settled_are s kinds (f ∷ fs) args (t ∷ bound) h = λ i. h.0.0 i ∷ settled_are s kinds fs args bound h.1 i
-settled_are s kinds [] args (t ∷ bound) h = absurd h
+settled_are s kinds (f ∷ fs) args (r ∷ bound) h = λ i. h.0.0 i ∷ settled_are s kinds fs args bound h.1 i
+settled_are s kinds [] args (r ∷ bound) h = absurd h
 settled_are s kinds (f ∷ fs) args [] h = absurd h
 
-settled_typed : (s : Setting) (kinds params : List Kind) (fs args bound : List TypeTree) → ((i : ℕ) (f : TypeTree) → slice_get fs i ≡ Some f → IsTermType s (reverse params) f) → KindsOf s.datas s.domains kinds (trees_of args) params → AreSettled s kinds fs args bound → AreTermTypes s kinds bound
+settled_typed : (s : Setting) (kinds params : List Kind) (fs args : List TypeTree) (bound : List Found) → ((i : ℕ) (f : TypeTree) → slice_get fs i ≡ Some f → IsTermType s (reverse params) f) → KindsOf s.datas s.domains kinds (trees_of args) params → AreSettled s kinds fs args bound → AreTermTypes s kinds (found_types bound)
 settled_typed s kinds params [] args [] typed d h = tt
-settled_typed s kinds params (f ∷ fs) args (t ∷ bound) typed d h =
+settled_typed s kinds params (f ∷ fs) args (r ∷ bound) typed d h =
     let field = typed 0 f refl in
-    let is = same_kind_put field.has (arguments (trees_of args)) kinds (kinds_of_arguments s.datas s.domains kinds params (trees_of args) d) t h.0.1.0 (subst (SameTypes (sub f (arguments (trees_of args)))) h.0.0 (same_settled s kinds (sub f (arguments (trees_of args))))) h.0.1.1 in
-    (term_type s kinds t h.0.1.0 h.0.1.1 (subst IsOfTerms (sym is) field.of_terms), settled_typed s kinds params fs args bound (λ i g e. typed (suc i) g e) d h.1)
-settled_typed s kinds params [] args (t ∷ bound) typed d h = absurd h
+    let is = same_kind_put field.has (arguments (trees_of args)) kinds (kinds_of_arguments s.datas s.domains kinds params (trees_of args) d) r.ty r.kind (subst (SameTypes (sub f (arguments (trees_of args)))) h.0.0 (same_settled s kinds (sub f (arguments (trees_of args))))) h.0.1 in
+    (term_type s kinds r.ty r.kind h.0.1 (subst IsOfTerms (sym is) field.of_terms), settled_typed s kinds params fs args bound (λ i g e. typed (suc i) g e) d h.1)
+settled_typed s kinds params [] args (r ∷ bound) typed d h = absurd h
 settled_typed s kinds params (f ∷ fs) args [] typed d h = absurd h
 
-pub con_binds : (s : Setting) (kinds : List Kind) (u : TypeTree) (c : ConId) (n : ℕ) (it : Constructor) (args bound : List TypeTree) (j : Kind) → IsSound s → HasKind s kinds u j → con_at s.datas c.number ≡ Some it → u ≡ data_of it.of (trees_of args) → length it.decl.fields ≡ n → AreSettled s kinds it.decl.fields args bound → BindsFound s kinds u (OfCon c n) bound
+settled_kinds : (s : Setting) (kinds : List Kind) (fs args : List TypeTree) (bound : List Found) → AreSettled s kinds fs args bound → HaveKinds s kinds (found_types bound) (found_kinds bound)
+settled_kinds s kinds [] args [] h = tt
+settled_kinds s kinds (f ∷ fs) args (r ∷ bound) h = (h.0.1, settled_kinds s kinds fs args bound h.1)
+settled_kinds s kinds [] args (r ∷ bound) h = absurd h
+settled_kinds s kinds (f ∷ fs) args [] h = absurd h
+
+con_binds : (s : Setting) (kinds : List Kind) (u : TypeTree) (c : ConId) (n : ℕ) (it : Constructor) (args : List TypeTree) (bound : List Found) (j : Kind) → IsSound s → HasKind s kinds u j → con_at s.datas c.number ≡ Some it → u ≡ data_of it.of (trees_of args) → length it.decl.fields ≡ n → AreSettled s kinds it.decl.fields args bound → BindsFound s kinds u (OfCon c n) (found_types bound)
 con_binds s kinds u c n it args bound j h d e is names settled_each =
     let ts = trees_of args in
     let inner = constructor_arguments s kinds c.number it.of it ts j e refl (subst (λ w. HasKind s kinds w j) is d) in
@@ -161,18 +169,18 @@ con_binds s kinds u c n it args bound j h d e is names settled_each =
     }
 
 -- one more field
-pub settled_next : (s : Setting) (kinds : List Kind) (fs args bound : List TypeTree) (f t : TypeTree) (k : Kind) → AreSettled s kinds fs args bound → settled s kinds (sub f (arguments (trees_of args))) ≡ t → HasKind s kinds t k → AreSettled s kinds (fs ++ f ∷ []) args (bound ++ t ∷ [])
-settled_next s kinds [] args [] f t k h same d = ((same, (k, d)), tt)
-settled_next s kinds (g ∷ fs) args (u ∷ bound) f t k h same d = (h.0, settled_next s kinds fs args bound f t k h.1 same d)
-settled_next s kinds [] args (u ∷ bound) f t k h same d = absurd h
-settled_next s kinds (g ∷ fs) args [] f t k h same d = absurd h
+settled_next : (s : Setting) (kinds : List Kind) (fs args : List TypeTree) (bound : List Found) (f : TypeTree) (r : Found) → AreSettled s kinds fs args bound → IsSettled s kinds (sub f (arguments (trees_of args))) r → AreSettled s kinds (fs ++ f ∷ []) args (bound ++ r ∷ [])
+settled_next s kinds [] args [] f r h is = (is, tt)
+settled_next s kinds (g ∷ fs) args (u ∷ bound) f r h is = (h.0, settled_next s kinds fs args bound f r h.1 is)
+settled_next s kinds [] args (u ∷ bound) f r h is = absurd h
+settled_next s kinds (g ∷ fs) args [] f r h is = absurd h
 
-pub settled_more : (s : Setting) (kinds : List Kind) (fs args bound more : List TypeTree) (i : ℕ) (f d t u : TypeTree) (k : Kind) → i < length fs → f ≡ get_or fs i d → u ≡ sub f (arguments (trees_of args)) → (settled s kinds u ≡ t) × HasKind s kinds t k → more ≡ bound ++ t ∷ [] → AreSettled s kinds (take i fs) args bound → AreSettled s kinds (take (i + 1) fs) args more
-settled_more s kinds fs args bound more i f d t u k l is put h e so_far =
+pub settled_more : (s : Setting) (kinds : List Kind) (fs args : List TypeTree) (bound more : List Found) (i : ℕ) (f d u : TypeTree) (r : Found) → i < length fs → f ≡ get_or fs i d → u ≡ sub f (arguments (trees_of args)) → IsSettled s kinds u r → more ≡ bound ++ r ∷ [] → AreSettled s kinds (take i fs) args bound → AreSettled s kinds (take (i + 1) fs) args more
+settled_more s kinds fs args bound more i f d u r l is put h e so_far =
     subst (λ xs. AreSettled s kinds xs args more) (sym (next_taken fs i f d l is))
-    (subst (AreSettled s kinds (take i fs ++ f ∷ []) args) (sym e) (settled_next s kinds (take i fs) args bound f t k so_far (subst (λ x. settled s kinds x ≡ t) put h.0) h.1))
+    (subst (AreSettled s kinds (take i fs ++ f ∷ []) args) (sym e) (settled_next s kinds (take i fs) args bound f r so_far (subst (λ x. IsSettled s kinds x r) put h)))
 
-pub settled_all : (s : Setting) (kinds : List Kind) (fs args bound : List TypeTree) (i : ℕ) → length fs ≤ i → AreSettled s kinds (take i fs) args bound → AreSettled s kinds fs args bound
+pub settled_all : (s : Setting) (kinds : List Kind) (fs args : List TypeTree) (bound : List Found) (i : ℕ) → length fs ≤ i → AreSettled s kinds (take i fs) args bound → AreSettled s kinds fs args bound
 settled_all s kinds fs args bound i l h = subst (λ xs. AreSettled s kinds xs args bound) (take_all i fs l) h
 
 pub unsettled_at : (s : Setting) (kinds : List Kind) (fs args : List TypeTree) (i : ℕ) (f d u : TypeTree) → i < length fs → f ≡ get_or fs i d → u ≡ sub f (arguments (trees_of args)) → LacksKindUpTo s kinds u → NoneSettled s kinds fs args
@@ -183,8 +191,8 @@ pub binds : {s : Setting} {kinds : List Kind} {u : TypeTree} {q : Pattern} {boun
 binds {s} {kinds} b = record { fields = b.fields; pattern = b.pattern; same = subst (AreSame b.fields) b.are (all_same_settled s kinds b.fields); typed = b.typed }
 
 -- what a constructor's pattern binds, by what its fields are found to be
-pub fields_told : (s : Setting) (kinds : List Kind) (u : TypeTree) (c : ConId) (n : ℕ) (it : Constructor) (args : List TypeTree) (j : Kind) (r : Option (Vec TypeTree Global)) → IsSound s → HasKind s kinds u j → con_at s.datas c.number ≡ Some it → u ≡ data_of it.of (trees_of args) → length it.decl.fields ≡ n → MatchOption r (NoneSettled s kinds it.decl.fields args) (λ b. AreSettled s kinds it.decl.fields args b.items) → MatchOption r (BindsNothing s kinds u (OfCon c n)) (λ b. BindsFound s kinds u (OfCon c n) b.items)
-fields_told s kinds u c n it args j (Some b) h d e is names each = con_binds s kinds u c n it args b.items j h d e is names each
+pub fields_told : (s : Setting) (kinds : List Kind) (u : TypeTree) (c : ConId) (n : ℕ) (it : Constructor) (args : List TypeTree) (j : Kind) (r : Option (Vec Found Global)) → IsSound s → HasKind s kinds u j → con_at s.datas c.number ≡ Some it → u ≡ data_of it.of (trees_of args) → length it.decl.fields ≡ n → MatchOption r (NoneSettled s kinds it.decl.fields args) (λ b. AreSettled s kinds it.decl.fields args b.items) → MatchOption r (BindsNothing s kinds u (OfCon c n)) (λ b. BindsKinded s kinds u (OfCon c n) b.items)
+fields_told s kinds u c n it args j (Some b) h d e is names each = (con_binds s kinds u c n it args b.items j h d e is names each, settled_kinds s kinds it.decl.fields args b.items each)
 fields_told s kinds u c n it args j None h d e is names none = con_unsettled s kinds u c n it args h e is none
 
 pub literal_same : (u t : TypeTree) (r : Scalar) (bits : List Bool) (b : Bool) → (length bits ≤ widest) × (t ≡ literal_type r bits) → (IsTrue b ↔ SameTypes u t) → (IsTrue b ↔ IsLiteralOf u r bits)

@@ -12,7 +12,9 @@ pub mod Matched
 pub mod PatternKeys
 pub mod Plain
 pub mod Ready
+pub mod Scoped
 pub mod Settled
+pub mod Signed
 pub mod Told
 pub mod VarsFound
 pub mod Walked

@@ -17,10 +17,13 @@ use Rattle.chw_typing.specs.Scopes.{Setting, HasKind}
 use Rattle.chw_typing.specs.HeadTypes.{con_type, widest, literal_type}
 use Rattle.chw_typing.specs.Typing.{HasType, h_var, h_global, h_made, h_con, h_prim, h_lit}
 use Rattle.found_types.specs.Finding.{Finds, f_var, f_global, f_made, f_con, f_prim, f_lit}
-use Rattle.term_types.specs.Answers.{HasNoType, IsTyped, IsAnswer, IsReady}
+use Rattle.term_types.specs.Answers.{HasNoType, IsTyped, IsAnswer, IsReady, IsSet}
+use Rattle.term_types.specs.InScope.{InScope}
+use Rattle.term_types.specs.VarsView.{IsAt}
 use Rattle.term_types.specs.Kinding.{LacksKind, IsWithKind}
 use Rattle.term_types.specs.declared.found.Found.{Found}
 use Rattle.term_types.proofs.Ready.{without_kind}
+use Rattle.term_types.proofs.Scoped.{kind_at}
 
 pub raised_by_none : (ts : List TypeTree) → map (λ t. shift t 0 0) ts ≡ ts
 raised_by_none [] = refl
@@ -55,20 +58,8 @@ prim_is h_prim = refl
 lit_is : {s : Setting} {kinds : List Kind} {vars : List TypeTree} {r : Scalar} {bits : List Bool} {t : TypeTree} → HasType s kinds vars (lit r bits) t → length bits ≤ widest
 lit_is (h_lit l) = l
 
-pub var_typed : {s : Setting} {kinds : List Kind} {vars : List TypeTree} (x : ℕ) (t : TypeTree) (f : Found) → slice_get vars x ≡ Some t → IsWithKind s kinds t f → IsTyped s kinds vars (var x) f
-var_typed x t f e w = typed_as t f (f_var e) w
-
-pub var_unkinded : {s : Setting} {kinds : List Kind} {vars : List TypeTree} (x : ℕ) (t : TypeTree) → IsReady s kinds vars → slice_get vars x ≡ Some t → LacksKind s kinds t → HasNoType s kinds vars (var x)
-var_unkinded {vars = vars} x t h e never = without_kind t h (λ u d. found_is vars x t u e (var_at d)) never
-
 pub var_missing : {s : Setting} {kinds : List Kind} {vars : List TypeTree} (x : ℕ) → slice_get vars x ≡ None → HasNoType s kinds vars (var x)
 var_missing x e t d = let f = var_at d in absurd (cc)
-
-pub global_typed : {s : Setting} {kinds : List Kind} {vars : List TypeTree} (x : ℕ) (t : TypeTree) (f : Found) → slice_get s.defs x ≡ Some t → IsWithKind s kinds t f → IsTyped s kinds vars (global x) f
-global_typed x t f e w = typed_as t f (f_global e) w
-
-pub global_unkinded : {s : Setting} {kinds : List Kind} {vars : List TypeTree} (x : ℕ) (t : TypeTree) → IsReady s kinds vars → slice_get s.defs x ≡ Some t → LacksKind s kinds t → HasNoType s kinds vars (global x)
-global_unkinded {s} x t h e never = without_kind t h (λ u d. found_is s.defs x t u e (global_at d)) never
 
 pub global_missing : {s : Setting} {kinds : List Kind} {vars : List TypeTree} (x : ℕ) → slice_get s.defs x ≡ None → HasNoType s kinds vars (global x)
 global_missing x e t d = let f = global_at d in absurd (cc)
@@ -108,14 +99,6 @@ prim_unkinded p t h is never = without_kind t h (λ u d. prim_is d ∙ sym is) n
 abbrev pub IsKinded : Setting → List Kind → TypeTree → Option Found → Type 0
 IsKinded s kinds t r = MatchOption r (LacksKind s kinds t) (λ f. IsWithKind s kinds t f)
 
-pub var_told : (s : Setting) (kinds : List Kind) (vars : List TypeTree) (x : ℕ) (t : TypeTree) (r : Option Found) → IsReady s kinds vars → slice_get vars x ≡ Some t → IsKinded s kinds t r → IsAnswer s kinds vars (var x) r
-var_told s kinds vars x t (Some f) h e k = var_typed x t f e k
-var_told s kinds vars x t None h e k = var_unkinded x t h e k
-
-pub global_told : (s : Setting) (kinds : List Kind) (vars : List TypeTree) (x : ℕ) (t : TypeTree) (r : Option Found) → IsReady s kinds vars → slice_get s.defs x ≡ Some t → IsKinded s kinds t r → IsAnswer s kinds vars (global x) r
-global_told s kinds vars x t (Some f) h e k = global_typed x t f e k
-global_told s kinds vars x t None h e k = global_unkinded x t h e k
-
 pub made_told : (s : Setting) (kinds : List Kind) (vars : List TypeTree) (x : ℕ) (t : TypeTree) (r : Option Found) → IsReady s kinds vars → slice_get s.made x ≡ Some t → IsKinded s kinds t r → IsAnswer s kinds vars (made x) r
 made_told s kinds vars x t (Some f) h e k = made_typed x t f e k
 made_told s kinds vars x t None h e k = made_unkinded x t h e k
@@ -133,3 +116,11 @@ lit_typed {s} {kinds} {vars} r bits t l is = (subst (Finds s kinds vars (lit r b
 
 pub lit_wide : {s : Setting} {kinds : List Kind} {vars : List TypeTree} (r : Scalar) (bits : List Bool) → widest < length bits → HasNoType s kinds vars (lit r bits)
 lit_wide r bits l t d = let m = lit_is d in absurd (omega arith)
+
+-- a variable, by what is found of it
+pub var_told : (s : Setting) (kinds : List Kind) (scope : InScope) (x : ℕ) (r : Option Found) → IsSet s kinds scope → IsAt (map (λ t. shift t 0 0) scope.vars) scope.kinds x r → IsAnswer s kinds scope.vars (var x) r
+var_told s kinds scope x r h a = at r (subst (λ ts. IsAt ts scope.kinds x r) (raised_by_none scope.vars) a)
+  where
+    at : (r : Option Found) → IsAt scope.vars scope.kinds x r → IsAnswer s kinds scope.vars (var x) r
+    at (Some f) g = (f_var g.0, kind_at s kinds scope.vars scope.kinds x f.ty f.kind h.1 g.0 g.1)
+    at None g = var_missing x g

@@ -1,13 +1,16 @@
 -- The types of the variables in scope, by their numbers.
 use Rattle.std.proofs.Common.{◌≡◌, ℕ, suc, zero, ◌+◌, ◌-◌, ◌<◌, ◌≤◌, refl, sym, ap, ◌∙◌, List, [], ◌∷◌, ◌++◌, map, length, reverse, get_or, arith}
-use Rattle.std.specs.Prelude.{Some, None}
+use Rattle.std.specs.Prelude.{Option, Some, None}
 use Rattle.std.specs.List.{slice_get}
 use Rattle.std.proofs.lemmas.List.{get_or-reverse, length-reverse, length-map, map-append}
+use Rattle.chw_types.specs.declared.kind.Kind.{Kind}
 use Rattle.chw_types.specs.TypeTree.{TypeTree}
 use Rattle.chw_types.specs.TypeMoves.{rename, raised, shift}
-use Rattle.chw_types.proofs.TypeLaws.{same, rename_rename}
+use Rattle.chw_types.proofs.TypeLaws.{same, rename_rename, rename_by_none}
 use Rattle.chw_terms.specs.declared.term.Binding.{Binding}
 use Rattle.chw_typing.specs.Scopes.{under_binder, with_more}
+use Rattle.term_types.specs.VarsView.{IsAt}
+use Rattle.term_types.specs.declared.found.Found.{Found}
 use Rattle.chw_typing.proofs.Lists.{found_in_map, map_reverse}
 
 -- the types as they are seen under so many more type binders
@@ -36,13 +39,6 @@ right_at : {A : Type 0} (xs ys : List A) (n : ℕ) → length xs ≤ n → slice
 right_at [] ys n l = let e : n ≡ n - 0 = omega arith in ap (slice_get ys) e
 right_at (x ∷ xs) ys zero l = absurd (omega arith)
 right_at (x ∷ xs) ys (suc n) l = let e : n - length xs ≡ suc n - suc (length xs) = omega arith in right_at xs ys n (omega arith) ∙ ap (slice_get ys) e
-
--- the last ones of a list
-pub last_raised : (ts : List TypeTree) (n by : ℕ) (t u : TypeTree) → n < length ts → t ≡ get_or ts (length ts - 1 - n) t → u ≡ shift t 0 by → Some u ≡ slice_get (raised_all by (reverse ts)) n
-last_raised ts n by t u l is e = ap Some e ∙ sym (found_in_map (λ t. shift t 0 by) (reverse ts) n t (read_reversed ts n t l is))
-
-pub none_raised : (ts : List TypeTree) (n by : ℕ) → length ts ≤ n → None ≡ slice_get (raised_all by (reverse ts)) n
-none_raised ts n by l = sym (missing_at (raised_all by (reverse ts)) n (omega (arith, length-map (reverse ts) (λ t. shift t 0 by), length-reverse ts)))
 
 -- under one more type binder
 pub raised_under : (ts : List TypeTree) (by : ℕ) → raised_all (by + 1) ts ≡ raised_all by (under_binder ts)
@@ -74,12 +70,38 @@ outer_raised new ts n by l =
 abbrev pub types_of : List Binding → List TypeTree
 types_of bs = map (λ b. b.ty) bs
 
-pub types_length : (bs : List Binding) → length (types_of bs) ≡ length bs
-types_length bs = length-map bs (λ b. b.ty)
+-- what is found among others is found, where the items at both places are the same
+pub at_moved : (ts us : List TypeTree) (ks ls : List Kind) (m n : ℕ) (r : Option Found) → slice_get ts m ≡ slice_get us n → slice_get ks m ≡ slice_get ls n → IsAt ts ks m r → IsAt us ls n r
+at_moved ts us ks ls m n (Some f) e d h = (sym e ∙ h.0, sym d ∙ h.1)
+at_moved ts us ks ls m n None e d h = sym e ∙ h
 
--- the variable of a binding
-pub bound_raised : (bs : List Binding) (ts : List TypeTree) (n by : ℕ) (b : Binding) (u : TypeTree) → n < length bs → b ≡ get_or bs (length bs - 1 - n) b → u ≡ shift b.ty 0 by → Some u ≡ slice_get (raised_all by (with_more (types_of bs) ts)) n
-bound_raised bs ts n by b u l is e =
-    ap Some e
-    ∙ sym (found_in_map (λ t. shift t 0 by) (reverse (types_of bs)) n b.ty (ap (λ us. slice_get us n) (sym (map_reverse (λ b. b.ty) bs)) ∙ found_in_map (λ b. b.ty) (reverse bs) n b (read_reversed bs n b l is)))
-    ∙ inner_raised (types_of bs) ts n by (omega (arith, types_length bs))
+type_bound : {A : Type 0} (f : A → TypeTree) (bs : List A) (ts : List TypeTree) (n by : ℕ) (b : A) → n < length bs → b ≡ get_or bs (length bs - 1 - n) b → slice_get (raised_all by (with_more (map f bs) ts)) n ≡ Some (shift (f b) 0 by)
+type_bound f bs ts n by b l is =
+    sym (inner_raised (map f bs) ts n by (omega (arith, length-map bs f)))
+    ∙ found_in_map (λ t. shift t 0 by) (reverse (map f bs)) n (f b) (ap (λ us. slice_get us n) (sym (map_reverse f bs)) ∙ found_in_map f (reverse bs) n b (read_reversed bs n b l is))
+
+kind_bound : {A : Type 0} (g : A → Kind) (bs : List A) (ks : List Kind) (n : ℕ) (b : A) → n < length bs → b ≡ get_or bs (length bs - 1 - n) b → slice_get (reverse (map g bs) ++ ks) n ≡ Some (g b)
+kind_bound g bs ks n b l is =
+    left_at (reverse (map g bs)) ks n (omega (arith, length-reverse (map g bs), length-map bs g))
+    ∙ ap (λ us. slice_get us n) (sym (map_reverse g bs))
+    ∙ found_in_map g (reverse bs) n b (read_reversed bs n b l is)
+
+-- one of the variables that are bound together
+pub at_bound : {A : Type 0} (f : A → TypeTree) (g : A → Kind) (bs : List A) (ts : List TypeTree) (ks : List Kind) (n by : ℕ) (b : A) (r : Found) → n < length bs → b ≡ get_or bs (length bs - 1 - n) b → r.ty ≡ shift (f b) 0 by → r.kind ≡ g b → IsAt (raised_all by (with_more (map f bs) ts)) (reverse (map g bs) ++ ks) n (Some r)
+at_bound f g bs ts ks n by b r l is e d = (type_bound f bs ts n by b l is ∙ ap Some (sym e), kind_bound g bs ks n b l is ∙ ap Some (sym d))
+
+-- one further out
+pub at_past : {A : Type 0} (f : A → TypeTree) (g : A → Kind) (bs : List A) (ts : List TypeTree) (ks : List Kind) (n by : ℕ) (r : Option Found) → length bs ≤ n → IsAt (raised_all by ts) ks (n - length bs) r → IsAt (raised_all by (with_more (map f bs) ts)) (reverse (map g bs) ++ ks) n r
+at_past f g bs ts ks n by r l h =
+    let types = length-map bs f in
+    let kinds = length-reverse (map g bs) ∙ length-map bs g in
+    at_moved (raised_all by ts) (raised_all by (with_more (map f bs) ts)) ks (reverse (map g bs) ++ ks) (n - length bs) n r
+    (ap (λ m. slice_get (raised_all by ts) (n - m)) (sym types) ∙ outer_raised (map f bs) ts n by (omega (arith, types, l)))
+    (ap (λ m. slice_get ks (n - m)) (sym kinds) ∙ sym (right_at (reverse (map g bs)) ks n (omega (arith, kinds, l)))) h
+
+-- raised by no binder
+pub not_raised : (t : TypeTree) (by : ℕ) → by ≡ 0 → t ≡ shift t 0 by
+not_raised t by e = sym (rename_by_none t) ∙ ap (shift t 0) (sym e)
+
+pub none_at : (by n : ℕ) (ks : List Kind) → IsAt (raised_all by []) ks n None
+none_at by n ks = refl

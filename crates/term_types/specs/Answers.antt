@@ -7,6 +7,8 @@ use Rattle.chw_typing.specs.Scopes.{Setting, HasKind, AreTermTypes}
 use Rattle.chw_typing.specs.Programs.{IsSound}
 use Rattle.chw_typing.specs.Typing.{HasType}
 use Rattle.found_types.specs.Finding.{Finds}
+use Rattle.term_types.specs.InScope.{InScope}
+use Rattle.term_types.specs.Kinding.{HaveKinds}
 use Rattle.term_types.specs.declared.found.Found.{Found}
 
 -- the term has no type
@@ -24,3 +26,7 @@ IsAnswer s kinds vars e r = MatchOption r (HasNoType s kinds vars e) (λ f. IsTy
 -- what types are found over: the setting is sound, and the variables have types that terms have
 abbrev pub IsReady : Setting → List Kind → List TypeTree → Type 0
 IsReady s kinds vars = IsSound s × AreTermTypes s kinds vars
+
+-- the same of the variables in scope, with the kinds of their types
+abbrev pub IsSet : Setting → List Kind → InScope → Type 0
+IsSet s kinds scope = IsReady s kinds scope.vars × HaveKinds s kinds scope.vars scope.kinds

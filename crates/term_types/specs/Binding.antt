@@ -13,7 +13,9 @@ use Rattle.chw_typing.specs.Scopes.{Setting, HasKind, AreTermTypes}
 use Rattle.chw_typing.specs.HeadTypes.{widest, literal_type, PatternOf}
 use Rattle.chw_typing.specs.Typing.{Binds}
 use Rattle.found_types.specs.Finding.{settled}
-use Rattle.term_types.specs.Kinding.{LacksKindUpTo}
+use Rattle.term_types.specs.Kinding.{LacksKindUpTo, IsSettled, HaveKinds}
+use Rattle.term_types.specs.VarsView.{found_types, found_kinds}
+use Rattle.term_types.specs.declared.found.Found.{Found}
 
 -- the pattern is none for values of the type, or a field has no kind
 abbrev pub BindsNothing : Setting → List Kind → TypeTree → Pattern → Type 0
@@ -26,14 +28,18 @@ pub record BindsFound (s : Setting) (kinds : List Kind) (u : TypeTree) (q : Patt
   pub are : map (λ a. settled s kinds a) fields ≡ bound
   pub typed : AreTermTypes s kinds bound
 
+-- so it is, and these are the types with their kinds
+abbrev pub BindsKinded : Setting → List Kind → TypeTree → Pattern → List Found → Type 0
+BindsKinded s kinds u q fs = BindsFound s kinds u q (found_types fs) × HaveKinds s kinds (found_types fs) (found_kinds fs)
+
 -- the literal isn't too wide, and its type is the same as this one
 abbrev pub IsLiteralOf : TypeTree → Scalar → List Bool → Type 0
 IsLiteralOf u r bits = (length bits ≤ widest) × SameTypes u (literal_type r bits)
 
--- for each field its type at these arguments, settled, with a kind
-abbrev pub AreSettled : Setting → List Kind → List TypeTree → List TypeTree → List TypeTree → Type 0
+-- for each field its type at these arguments, settled, with its kind
+abbrev pub AreSettled : Setting → List Kind → List TypeTree → List TypeTree → List Found → Type 0
 AreSettled s kinds [] args [] = Unit {0}
-AreSettled s kinds (f ∷ fs) args (t ∷ ts) = ((settled s kinds (sub f (arguments (trees_of args))) ≡ t) × ((k : Kind) × HasKind s kinds t k)) × AreSettled s kinds fs args ts
+AreSettled s kinds (f ∷ fs) args (r ∷ rs) = IsSettled s kinds (sub f (arguments (trees_of args))) r × AreSettled s kinds fs args rs
 AreSettled s kinds _ args _ = ⊥
 
 -- there is none for some field

@@ -1,5 +1,5 @@
--- The parts of types, and what a term of a type gives at an argument.
-use Rattle.std.specs.Prelude.{◌≡◌, List, Option, Some, None}
+-- What a term of a type gives at an argument.
+use Rattle.std.specs.Prelude.{◌≡◌, List}
 use Rattle.chw_types.specs.declared.kind.Kind.{Kind}
 use Rattle.chw_types.specs.TypeTree.{TypeTree, fun, for_all}
 use Rattle.chw_types.specs.TypeMoves.{put}
@@ -8,14 +8,6 @@ use Rattle.type_laws.specs.KindsKept.{AreOfTerms}
 use Rattle.chw_typing.specs.Scopes.{Setting, HasKind}
 use Rattle.found_types.specs.Finding.{settled}
 use Rattle.term_types.specs.declared.found.Found.{Found}
-
-abbrev pub function_parts : TypeTree → Option (TypeTree × TypeTree)
-function_parts (fun a b) = Some (a, b)
-function_parts _ = None
-
-abbrev pub bound_parts : TypeTree → Option (Kind × TypeTree)
-bound_parts (for_all k t) = Some (k, t)
-bound_parts _ = None
 
 -- the type is one of functions from what is the same as the argument's type, and this is found for the result
 pub record Takes (f : Found) (arg : TypeTree) (r : Found) : Type 0 where

@@ -1,5 +1,5 @@
 -- The kinds of types, as they are found.
-use Rattle.std.specs.Prelude.{◌≡◌, Bool, true, false, List}
+use Rattle.std.specs.Prelude.{◌≡◌, Bool, true, false, List, [], ◌∷◌}
 use Rattle.chw_types.specs.declared.kind.Kind.{Kind}
 use Rattle.chw_types.specs.declared.kind.Kind.TheVariants.{Val, Cir}
 use Rattle.chw_types.specs.TypeTree.{TypeTree}
@@ -24,6 +24,12 @@ IsWithKind s kinds t f = (f.ty ≡ t) × HasKind s kinds t f.kind
 -- what was found is the type settled, with its kind
 abbrev pub IsSettled : Setting → List Kind → TypeTree → Found → Type 0
 IsSettled s kinds t f = (settled s kinds t ≡ f.ty) × HasKind s kinds f.ty f.kind
+
+-- each type has the kind at its place
+abbrev pub HaveKinds : Setting → List Kind → List TypeTree → List Kind → Type 0
+HaveKinds s kinds [] [] = Unit {0}
+HaveKinds s kinds (t ∷ ts) (k ∷ ks) = HasKind s kinds t k × HaveKinds s kinds ts ks
+HaveKinds s kinds _ _ = ⊥
 
 -- there are functions from types of the first kind to types of the second
 abbrev pub has_functions : Kind → Kind → Bool

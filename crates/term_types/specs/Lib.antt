@@ -7,4 +7,6 @@ pub mod Groups
 pub mod InScope
 pub mod Keying
 pub mod Kinding
+pub mod SeenView
+pub mod Signatures
 pub mod VarsView

@@ -1,13 +1,44 @@
--- The types of the variables in scope as a list, the innermost first.
-use Rattle.std.specs.Prelude.{◌+◌, ◌∷◌, reverse, map}
+-- The types of the variables in scope as a list, the innermost first, and their kinds.
+use Rattle.std.specs.Prelude.{◌≡◌, ℕ, ◌+◌, List, [], ◌∷◌, ◌++◌, reverse, map, Option, Some, None, MatchOption}
+use Rattle.std.specs.List.{slice_get}
+use Rattle.chw_types.specs.declared.kind.Kind.{Kind}
+use Rattle.chw_types.specs.TypeTree.{TypeTree}
 use Rattle.chw_typing.specs.Scopes.{under_binder, with_more}
 use Rattle.term_types.specs.InScope.{InScope}
+use Rattle.term_types.specs.declared.found.Found.{Found}
+use Rattle.term_types.specs.declared.found.Kinded.{Kinded}
 use Rattle.term_types.specs.declared.vars.Frame.{Frame}
-use Rattle.term_types.specs.declared.vars.Frame.TheVariants.{Outside, UnderType, OfLambda, OfGroup, OfPattern}
+use Rattle.term_types.specs.declared.vars.Frame.TheVariants.{Empty, UnderType, OfLambda, OfGroup, OfPattern}
+
+-- the types and kinds of written types
+abbrev pub written_types : List Kinded → List TypeTree
+written_types ks = map (λ k. k.ty.now) ks
+
+abbrev pub written_kinds : List Kinded → List Kind
+written_kinds ks = map (λ k. k.kind) ks
+
+-- the types and kinds that were found
+abbrev pub found_types : List Found → List TypeTree
+found_types fs = map (λ f. f.ty) fs
+
+abbrev pub found_kinds : List Found → List Kind
+found_kinds fs = map (λ f. f.kind) fs
+
+-- variables that are bound together inside others
+abbrev pub bound_inside : List TypeTree → List Kind → InScope → InScope
+bound_inside ts ks outer =
+    record { vars = with_more ts outer.vars; kinds = reverse ks ++ outer.kinds; depth = outer.depth + 1 }
 
 abbrev pub in_scope : Frame → InScope
-in_scope (Outside types) = record { vars = reverse types.now; depth = 0 }
-in_scope (UnderType outer) = record { vars = under_binder outer.now.vars; depth = outer.now.depth + 1 }
-in_scope (OfLambda ty outer) = record { vars = ty.now ∷ outer.now.vars; depth = outer.now.depth + 1 }
-in_scope (OfGroup bindings outer) = record { vars = with_more (map (λ b. b.ty) bindings.now) outer.now.vars; depth = outer.now.depth + 1 }
-in_scope (OfPattern types outer) = record { vars = with_more types.now outer.now.vars; depth = outer.now.depth + 1 }
+in_scope Empty = record { vars = []; kinds = []; depth = 0 }
+in_scope (UnderType outer) =
+    record { vars = under_binder outer.now.vars; kinds = outer.now.kinds; depth = outer.now.depth + 1 }
+in_scope (OfLambda ty kind outer) =
+    record { vars = ty.now ∷ outer.now.vars; kinds = kind ∷ outer.now.kinds; depth = outer.now.depth + 1 }
+in_scope (OfGroup bound outer) = bound_inside (written_types bound.now) (written_kinds bound.now) outer.now
+in_scope (OfPattern bound outer) = bound_inside (found_types bound.now) (found_kinds bound.now) outer.now
+
+-- what is found of the variable of this number among these: its type with its kind, where it is in scope
+abbrev pub IsAt : List TypeTree → List Kind → ℕ → Option Found → Type 0
+IsAt ts ks n r =
+    MatchOption r (slice_get ts n ≡ None) (λ f. (slice_get ts n ≡ Some f.ty) × (slice_get ks n ≡ Some f.kind))

@@ -15,17 +15,17 @@ use std::alloc::Global;
 
 /// What the alternatives so far give and what the next one gives, joined: the type of the first one, where the others have it too and its
 /// kind goes with that of what is looked at.
-pub(crate) fn joined(
+pub(crate) fn joined<'t>(
     alloc: Global,
     on: &Found,
-    given: Option<Found>,
-    next: Found,
-) -> Result<Option<Found>, NoMemory>
-    ensures { IfOk result (IsJoined on.now given next) }
+    given: Option<Found<'t>>,
+    next: Found<'t>,
+) -> Result<Option<Found<'t>>, NoMemory>
+    ensures { IfOk result (IsJoined on.now given.entry next.entry) }
 {
     match given {
         Some(first) => {
-            if same(alloc, &first.ty, &next.ty)? {
+            if same(alloc, first.ty.ty(), next.ty.ty())? {
                 return Ok(Some(first));
             }
             Ok(None)

@@ -4,16 +4,24 @@ ghost use Rattle.chw_types.specs.Kinds.{IsOfTerms};
 ghost use Rattle.chw_typing.specs.Scopes.{HasKind, IsTermType, setting_in};
 ghost use Rattle.term_types.specs.Kinding.{has_functions, LacksKind, LacksKindUpTo, IsWithKind, IsSettled};
 
+use crate::seen::Seen;
 use chw_base::NoMemory;
 use chw_terms::Scene;
 use chw_types::{Kind, Ty, kind_of};
 use std::alloc::Global;
 use zero_parts::without_zeros;
 
-/// A type with its kind.
+/// A type that is written in the description, with its kind.
+#[derive(Clone, Copy)]
+pub(crate) struct Kinded<'t> {
+    pub(crate) ty: &'t Ty,
+    pub(crate) kind: Kind,
+}
+
+/// A type that was found, with its kind.
 #[derive(Drop)]
-pub(crate) struct Found {
-    pub(crate) ty: Ty,
+pub(crate) struct Found<'t> {
+    pub(crate) ty: Seen<'t>,
     pub(crate) kind: Kind,
 }
 
@@ -30,10 +38,10 @@ pub(crate) fn kind_in(scene: &Scene, kinds: &[Kind], ty: &Ty) -> Option<Kind>
 }
 
 /// A type with its kind, where it has one.
-pub(crate) fn with_kind(scene: &Scene, kinds: &[Kind], ty: Ty) -> Option<Found>
-    ensures { MatchOption result (LacksKind (setting_in scene.now) (reverse kinds.now) ty) (λ f. IsWithKind (setting_in scene.now) (reverse kinds.now) ty f) }
+pub(crate) fn with_kind<'t>(scene: &Scene, kinds: &[Kind], ty: Seen<'t>) -> Option<Found<'t>>
+    ensures { MatchOption result (LacksKind (setting_in scene.now) (reverse kinds.now) ty.entry) (λ f. IsWithKind (setting_in scene.now) (reverse kinds.now) ty.entry f) }
 {
-    match kind_in(scene, kinds, &ty) {
+    match kind_in(scene, kinds, ty.ty()) {
         Some(kind) => Some(Found { ty, kind }),
         None => None,
     }
@@ -41,20 +49,23 @@ pub(crate) fn with_kind(scene: &Scene, kinds: &[Kind], ty: Ty) -> Option<Found>
 
 /// A type that arose by putting types, with its kind. Where naturals came to have too great a degree, it is another one that is the same up
 /// to naturals, if one has a kind.
-pub(crate) fn settled(
+pub(crate) fn settled<'t>(
     alloc: Global,
     scene: &Scene,
     kinds: &[Kind],
     ty: Ty,
-) -> Result<Option<Found>, NoMemory>
+) -> Result<Option<Found<'t>>, NoMemory>
     ensures { IfOk result (λ r. MatchOption r (LacksKindUpTo (setting_in scene.now) (reverse kinds.now) ty)
         (λ f. IsSettled (setting_in scene.now) (reverse kinds.now) ty f)) }
 {
     let Some(kind) = kind_in(scene, kinds, &ty) else {
         let less = without_zeros(alloc, &ty)?;
-        return Ok(with_kind(scene, kinds, less));
+        return Ok(with_kind(scene, kinds, Seen::made(less)));
     };
-    Ok(Some(Found { ty, kind }))
+    Ok(Some(Found {
+        ty: Seen::made(ty),
+        kind,
+    }))
 }
 
 /// Whether there are functions from types of the first kind to types of the second.

@@ -1,24 +1,40 @@
-//! The declared types of the bindings of a letrec.
-ghost use Rattle.std.specs.Prelude.{◌≡◌, reverse, MatchOption};
-ghost use Rattle.chw_typing.specs.Scopes.{setting_in};
-ghost use Rattle.term_types.specs.Groups.{NotAllOfTerms, IsGroupKind, together};
+//! The types of variables that are bound together.
+ghost use Rattle.std.specs.Prelude.{◌≡◌, reverse, IfOk, MatchOption};
+ghost use Rattle.chw_typing.specs.Scopes.{AreTermTypes, setting_in};
+ghost use Rattle.term_types.specs.Groups.{NotAllOfTerms, IsGroup, AreKinded, together};
 
-use crate::found::kind_of_terms;
+use crate::found::{Kinded, kind_in, kind_of_terms};
+use chw_base::NoMemory;
 use chw_terms::{Binding, Scene};
-use chw_types::Kind;
+use chw_types::{Kind, Ty};
+use std::alloc::Global;
 
-/// The kind that stands for the declared types of bindings, where terms have each of them: a circuit where one of them is.
-pub(crate) fn group_kind(scene: &Scene, kinds: &[Kind], bindings: &[Binding]) -> Option<Kind>
-    ensures { MatchOption result (NotAllOfTerms (setting_in scene.now) (reverse kinds.now) bindings.now) (λ k. IsGroupKind (setting_in scene.now) (reverse kinds.now) bindings.now k) }
+/// The declared types of the bindings of a letrec with their kinds, and the kind that stands for them: a circuit where one of them is.
+#[derive(Drop)]
+pub(crate) struct Group<'t> {
+    pub(crate) types: Vec<Kinded<'t>>,
+    pub(crate) kind: Kind,
+}
+
+/// The declared types of bindings, where terms have each of them.
+pub(crate) fn group_types<'t>(
+    alloc: Global,
+    scene: &Scene,
+    kinds: &[Kind],
+    bindings: &'t [Binding],
+) -> Result<Option<Group<'t>>, NoMemory>
+    ensures { IfOk result (λ r. MatchOption r (NotAllOfTerms (setting_in scene.now) (reverse kinds.now) bindings.now) (λ g. IsGroup (setting_in scene.now) (reverse kinds.now) bindings.now g)) }
 {
+    let mut types = Vec::new(alloc);
     let mut all = Kind::Val;
     for b in bindings {
         let Some(kind) = kind_of_terms(scene, kinds, &b.ty) else {
-            return None;
+            return Ok(None);
         };
+        types.push(Kinded { ty: &b.ty, kind })?;
         all = together(all, kind);
     }
-    Some(all)
+    Ok(Some(Group { types, kind: all }))
 }
 
 // The kind that stands for both: a circuit where one of them is.
@@ -29,4 +45,23 @@ fn together(all: Kind, kind: Kind) -> Kind
         Kind::Cir => Kind::Cir,
         _ => all,
     }
+}
+
+/// These types with their kinds, where each has one.
+pub(crate) fn kinded<'t>(
+    alloc: Global,
+    scene: &Scene,
+    kinds: &[Kind],
+    types: &'t [Ty],
+) -> Result<Option<Vec<Kinded<'t>>>, NoMemory>
+    ensures { IfOk result (λ r. MatchOption r (AreTermTypes (setting_in scene.now) (reverse kinds.now) types.now → ⊥) (λ ks. AreKinded (setting_in scene.now) (reverse kinds.now) types.now ks.items)) }
+{
+    let mut all = Vec::new(alloc);
+    for ty in types {
+        let Some(kind) = kind_in(scene, kinds, ty) else {
+            return Ok(None);
+        };
+        all.push(Kinded { ty, kind })?;
+    }
+    Ok(Some(all))
 }

@@ -3,10 +3,13 @@ ghost use Rattle.std.specs.Prelude.{◌≡◌, ◌<◌, ◌≤◌, length, rever
 ghost use Rattle.chw_typing.specs.HeadTypes.{widest, literal_type};
 ghost use Rattle.chw_terms.specs.TermTree.{var, global, made, con, prim, lit};
 ghost use Rattle.chw_typing.specs.Scopes.{setting_in};
-ghost use Rattle.term_types.specs.Answers.{IsAnswer, IsReady};
+ghost use Rattle.term_types.specs.Answers.{IsAnswer, IsSet};
+ghost use Rattle.term_types.specs.Signatures.{IsSignature};
 
 use crate::constructors::con_type;
 use crate::found::{Found, with_kind};
+use crate::seen::Seen;
+use crate::signature::Signature;
 use crate::vars::Vars;
 use chw_base::limits::SCALAR_BITS;
 use chw_base::{ConId, DefId, MadeId, NoMemory, VarIx};
@@ -14,101 +17,98 @@ use chw_bits::Bits;
 use chw_prims::{Prim, schema};
 use chw_terms::Scene;
 use chw_types::{Kind, Scalar, Ty};
-use con_places::Constructors;
 use std::alloc::Global;
 
 /// A variable's type.
-pub(crate) fn variable(
+pub(crate) fn variable<'t>(
     alloc: Global,
     scene: &Scene,
     kinds: &[Kind],
-    vars: &Vars,
+    vars: &Vars<'_, 't>,
     at: VarIx,
-) -> Result<Option<Found>, NoMemory>
-    requires { IsReady (setting_in scene.now) (reverse kinds.now) vars.now.vars }
+) -> Result<Option<Found<'t>>, NoMemory>
+    requires { IsSet (setting_in scene.now) (reverse kinds.now) vars.now }
     ensures { IfOk result (IsAnswer (setting_in scene.now) (reverse kinds.now) vars.now.vars (var at.number)) }
 {
-    match vars.at(alloc, at.number as usize, 0)? {
-        Some(ty) => Ok(with_kind(scene, kinds, ty)),
-        None => Ok(None),
-    }
+    vars.at(alloc, at.number as usize, 0)
 }
 
 /// A definition's declared type.
-pub(crate) fn definition(
-    alloc: Global,
-    scene: &Scene,
+pub(crate) fn definition<'t>(
+    scene: &'t Scene,
+    signature: &Signature,
     kinds: &[Kind],
     vars: &Vars,
     at: DefId,
-) -> Result<Option<Found>, NoMemory>
-    requires { IsReady (setting_in scene.now) (reverse kinds.now) vars.now.vars }
-    ensures { IfOk result (IsAnswer (setting_in scene.now) (reverse kinds.now) vars.now.vars (global at.number)) }
+) -> Option<Found<'t>>
+    requires ready { IsSet (setting_in scene.now) (reverse kinds.now) vars.now }
+    requires table { IsSignature scene.now.program.now signature.now }
+    ensures { IsAnswer (setting_in scene.now) (reverse kinds.now) vars.now.vars (global at.number) result }
 {
-    match scene.program.defs.as_slice().get(at.number as usize) {
-        Some(it) => {
-            let ty = it.ty.copy(alloc)?;
-            Ok(with_kind(scene, kinds, ty))
-        }
-        None => Ok(None),
-    }
+    let number = at.number as usize;
+    let Some(it) = scene.program.defs.as_slice().get(number) else {
+        return None;
+    };
+    let Some(kind) = signature.definition_kind(number) else {
+        return None;
+    };
+    Some(Found {
+        ty: Seen::written(&it.ty),
+        kind,
+    })
 }
 
 /// A made definition's type.
-pub(crate) fn made_definition(
-    alloc: Global,
-    scene: &Scene,
+pub(crate) fn made_definition<'t>(
+    scene: &'t Scene,
     kinds: &[Kind],
     vars: &Vars,
     at: MadeId,
-) -> Result<Option<Found>, NoMemory>
-    requires { IsReady (setting_in scene.now) (reverse kinds.now) vars.now.vars }
-    ensures { IfOk result (IsAnswer (setting_in scene.now) (reverse kinds.now) vars.now.vars (made at.number)) }
+) -> Option<Found<'t>>
+    requires { IsSet (setting_in scene.now) (reverse kinds.now) vars.now }
+    ensures { IsAnswer (setting_in scene.now) (reverse kinds.now) vars.now.vars (made at.number) result }
 {
     match scene.made.get(at.number as usize) {
-        Some(it) => {
-            let ty = it.ty.copy(alloc)?;
-            Ok(with_kind(scene, kinds, ty))
-        }
-        None => Ok(None),
+        Some(it) => with_kind(scene, kinds, Seen::written(&it.ty)),
+        None => None,
     }
 }
 
 /// A constructor's type.
-pub(crate) fn of_constructor(
+pub(crate) fn of_constructor<'t>(
     alloc: Global,
     scene: &Scene,
-    constructors: &Constructors,
+    signature: &Signature,
     kinds: &[Kind],
     vars: &Vars,
     at: ConId,
-) -> Result<Option<Found>, NoMemory>
-    requires ready { IsReady (setting_in scene.now) (reverse kinds.now) vars.now.vars }
-    requires table { constructors.now ≡ scene.now.program.now.datas }
+) -> Result<Option<Found<'t>>, NoMemory>
+    requires ready { IsSet (setting_in scene.now) (reverse kinds.now) vars.now }
+    requires table { IsSignature scene.now.program.now signature.now }
     ensures { IfOk result (IsAnswer (setting_in scene.now) (reverse kinds.now) vars.now.vars (con at.number)) }
 {
-    match constructors.at(at) {
+    match signature.constructors.at(at) {
         Some(it) => {
             let ty = con_type(alloc, &it)?;
-            Ok(with_kind(scene, kinds, ty))
+            Ok(with_kind(scene, kinds, Seen::made(ty)))
         }
         None => Ok(None),
     }
 }
 
 /// A primitive's type.
-pub(crate) fn primitive(
+pub(crate) fn primitive<'t>(
     alloc: Global,
     scene: &Scene,
     kinds: &[Kind],
     vars: &Vars,
     which: Prim,
-) -> Result<Option<Found>, NoMemory>
-    requires { IsReady (setting_in scene.now) (reverse kinds.now) vars.now.vars }
+) -> Result<Option<Found<'t>>, NoMemory>
+    requires { IsSet (setting_in scene.now) (reverse kinds.now) vars.now }
     ensures { IfOk result (IsAnswer (setting_in scene.now) (reverse kinds.now) vars.now.vars (prim which)) }
 {
     let ty = schema(alloc, which)?;
-    Ok(with_kind(scene, kinds, ty))
+    Ok(with_kind(scene, kinds, Seen::made(ty)))
 }
 
 /// The scalar of so many bits, where they aren't too many for a literal.
@@ -122,20 +122,20 @@ pub(crate) fn literal_type(alloc: Global, sort: Scalar, bits: &Bits) -> Result<O
 }
 
 /// A literal's type.
-pub(crate) fn literal(
+pub(crate) fn literal<'t>(
     alloc: Global,
     scene: &Scene,
     kinds: &[Kind],
     vars: &Vars,
     sort: Scalar,
     bits: &Bits,
-) -> Result<Option<Found>, NoMemory>
-    requires { IsReady (setting_in scene.now) (reverse kinds.now) vars.now.vars }
+) -> Result<Option<Found<'t>>, NoMemory>
+    requires { IsSet (setting_in scene.now) (reverse kinds.now) vars.now }
     ensures { IfOk result (IsAnswer (setting_in scene.now) (reverse kinds.now) vars.now.vars (lit sort bits.now)) }
 {
     match literal_type(alloc, sort, bits)? {
         Some(ty) => Ok(Some(Found {
-            ty,
+            ty: Seen::made(ty),
             kind: Kind::Val,
         })),
         None => Ok(None),

@@ -10,9 +10,12 @@ mod found;
 mod groups;
 mod heads;
 mod patterns;
+mod seen;
+pub mod signature;
 mod spines;
 pub mod typing;
 mod vars;
 mod walk;
 
+pub use signature::Signature;
 pub use typing::{type_of, type_of_in};

@@ -4,34 +4,35 @@ ghost use Rattle.chw_types.specs.TypeTree.{data_of};
 ghost use Rattle.chw_types.specs.TypeView.{trees_of};
 ghost use Rattle.chw_typing.specs.Scopes.{HasKind, setting_in};
 ghost use Rattle.chw_typing.specs.Programs.{IsSound};
-ghost use Rattle.term_types.specs.Binding.{BindsFound, BindsNothing, IsLiteralOf, AreSettled, NoneSettled, is_looked_at};
+ghost use Rattle.term_types.specs.Binding.{BindsKinded, BindsNothing, IsLiteralOf, AreSettled, NoneSettled, is_looked_at};
+ghost use Rattle.term_types.specs.Signatures.{IsSignature};
 ghost use Rattle.chw_terms.specs.declared.term.Pattern.TheVariants.{OfCon};
 
-use crate::found::settled;
+use crate::found::{Found, settled};
 use crate::heads::literal_type;
+use crate::signature::Signature;
 use chw_base::{ConId, DataId, NoMemory};
 use chw_bits::Bits;
 use chw_terms::{Pattern, Scene};
 use chw_types::{Kind, Scalar, Ty, TyNode, put_arguments, same};
-use con_places::Constructors;
 use std::alloc::Global;
 
 /// The types of the variables that a pattern binds, the first one first, where it is one for values of this type.
-pub(crate) fn bound_types(
+pub(crate) fn bound_types<'t>(
     alloc: Global,
     scene: &Scene,
-    constructors: &Constructors,
+    signature: &Signature,
     kinds: &[Kind],
     of: &Ty,
     pattern: &Pattern,
-) -> Result<Option<Vec<Ty>>, NoMemory>
+) -> Result<Option<Vec<Found<'t>>>, NoMemory>
     requires sound { IsSound (setting_in scene.now) }
-    requires table { constructors.now ≡ scene.now.program.now.datas }
+    requires table { IsSignature scene.now.program.now signature.now }
     requires kinded { (k : _) × HasKind (setting_in scene.now) (reverse kinds.now) of.now k }
-    ensures { IfOk result (λ r. MatchOption r (BindsNothing (setting_in scene.now) (reverse kinds.now) of.now pattern.now) (λ bound. BindsFound (setting_in scene.now) (reverse kinds.now) of.now pattern.now bound.items)) }
+    ensures { IfOk result (λ r. MatchOption r (BindsNothing (setting_in scene.now) (reverse kinds.now) of.now pattern.now) (λ bound. BindsKinded (setting_in scene.now) (reverse kinds.now) of.now pattern.now bound.items)) }
 {
     match pattern {
-        Pattern::OfCon(at, names) => { fields(alloc, scene, constructors, kinds, of, *at, *names) }
+        Pattern::OfCon(at, names) => { fields(alloc, scene, signature, kinds, of, *at, *names) }
         Pattern::OfLit(sort, bits) => {
             if is_literal_of(alloc, of, *sort, bits)? {
                 return Ok(Some(Vec::new(alloc)));
@@ -68,21 +69,21 @@ fn arguments_of(ty: &Ty, of: DataId) -> Option<&[Ty]>
 }
 
 // The types of a constructor's fields at the arguments of a type, where it is one of that type and has as many fields.
-fn fields(
+fn fields<'t>(
     alloc: Global,
     scene: &Scene,
-    constructors: &Constructors,
+    signature: &Signature,
     kinds: &[Kind],
     of: &Ty,
     at: ConId,
     names: u32,
-) -> Result<Option<Vec<Ty>>, NoMemory>
+) -> Result<Option<Vec<Found<'t>>>, NoMemory>
     requires sound { IsSound (setting_in scene.now) }
-    requires table { constructors.now ≡ scene.now.program.now.datas }
+    requires table { IsSignature scene.now.program.now signature.now }
     requires kinded { (k : _) × HasKind (setting_in scene.now) (reverse kinds.now) of.now k }
-    ensures { IfOk result (λ r. MatchOption r (BindsNothing (setting_in scene.now) (reverse kinds.now) of.now (OfCon at names)) (λ bound. BindsFound (setting_in scene.now) (reverse kinds.now) of.now (OfCon at names) bound.items)) }
+    ensures { IfOk result (λ r. MatchOption r (BindsNothing (setting_in scene.now) (reverse kinds.now) of.now (OfCon at names)) (λ bound. BindsKinded (setting_in scene.now) (reverse kinds.now) of.now (OfCon at names) bound.items)) }
 {
-    let Some(con) = constructors.at(at) else {
+    let Some(con) = signature.constructors.at(at) else {
         return Ok(None);
     };
     let Some(args) = arguments_of(of, con.of) else {
@@ -96,20 +97,20 @@ fn fields(
 }
 
 // The types of fields at these arguments, each with a kind, where there are such up to naturals.
-fn all_settled(
+fn all_settled<'t>(
     alloc: Global,
     scene: &Scene,
     kinds: &[Kind],
     fields: &[Ty],
     args: &[Ty],
-) -> Result<Option<Vec<Ty>>, NoMemory>
+) -> Result<Option<Vec<Found<'t>>>, NoMemory>
     ensures { IfOk result (λ r. MatchOption r (NoneSettled (setting_in scene.now) (reverse kinds.now) fields.now args.now) (λ bound. AreSettled (setting_in scene.now) (reverse kinds.now) fields.now args.now bound.items)) }
 {
     let mut bound = Vec::new(alloc);
     for field in fields {
         let ty = put_arguments(alloc, field, args)?;
         match settled(alloc, scene, kinds, ty)? {
-            Some(found) => bound.push(found.ty)?,
+            Some(found) => bound.push(found)?,
             None => return Ok(None),
         }
     }

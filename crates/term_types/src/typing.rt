@@ -3,13 +3,15 @@ ghost use Rattle.std.specs.Prelude.{◌≡◌, [], reverse, IfOk, IfSome, IfNone
 ghost use Rattle.chw_typing.specs.Scopes.{setting_in};
 ghost use Rattle.found_types.specs.Finding.{Finds};
 ghost use Rattle.term_types.specs.Answers.{HasNoType, IsReady};
+ghost use Rattle.term_types.specs.Signatures.{IsSignature};
 
+use crate::groups::kinded;
+use crate::signature::Signature;
 use crate::vars::Vars;
 use crate::walk::infer;
 use chw_base::NoMemory;
 use chw_terms::{Scene, Term};
 use chw_types::{Kind, Ty};
-use con_places::Constructors;
 use std::alloc::Global;
 
 /// The type of a term, with variables of these types in scope, the outermost first, and no type variables. Nothing comes exactly where the
@@ -27,32 +29,36 @@ pub fn type_of(
     ensures some { IfOk result (λ r. IfSome r (λ t. Finds (setting_in scene.now) [] (reverse vars.now) term.now t)) }
     ensures none { IfOk result (λ r. IfNone r (HasNoType (setting_in scene.now) [] (reverse vars.now) term.now)) }
 {
-    let constructors = Constructors::of(alloc, scene.program.datas.as_slice())?;
-    let found = type_of_in(alloc, scene, &constructors, &[], vars, term);
-    drop(constructors);
+    let signature = Signature::of(alloc, scene.program)?;
+    let found = type_of_in(alloc, scene, &signature, &[], vars, term);
+    drop(signature);
     found
 }
 
 /// The type of a term, with type variables of these kinds and variables of these types in scope, the outermost first, each type seen from
 /// the place of the term. Nothing comes exactly where the term has no type.
 ///
-/// The table has the constructors of the scene's program, so that it is made once for many terms. The rest is as at `type_of`.
+/// The signature is that of the scene's program, which is made once for many terms. The rest is as at `type_of`.
 pub fn type_of_in(
     alloc: Global,
     scene: &Scene,
-    constructors: &Constructors,
+    signature: &Signature,
     kinds: &[Kind],
     vars: &[Ty],
     term: &Term,
 ) -> Result<Option<Ty>, NoMemory>
     requires ready { IsReady (setting_in scene.now) (reverse kinds.now) (reverse vars.now) }
-    requires table { constructors.now ≡ scene.now.program.now.datas }
+    requires table { IsSignature scene.now.program.now signature.now }
     ensures some { IfOk result (λ r. IfSome r (λ t. Finds (setting_in scene.now) (reverse kinds.now) (reverse vars.now) term.now t)) }
     ensures none { IfOk result (λ r. IfNone r (HasNoType (setting_in scene.now) (reverse kinds.now) (reverse vars.now) term.now)) }
 {
-    let vars = Vars::outside(vars);
-    match infer(alloc, scene, constructors, kinds, &vars, term)? {
-        Some(found) => Ok(Some(found.ty)),
+    let Some(outside) = kinded(alloc, scene, kinds, vars)? else {
+        return Ok(None);
+    };
+    let none = Vars::none();
+    let vars = none.with_group(outside.as_slice());
+    match infer(alloc, scene, signature, kinds, &vars, term)? {
+        Some(found) => Ok(Some(found.ty.into_ty(alloc)?)),
         None => Ok(None),
     }
 }

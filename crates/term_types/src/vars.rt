@@ -1,38 +1,43 @@
 //! The types of the variables in scope.
-ghost use Rattle.std.specs.Prelude.{◌≡◌, ◌+◌, ◌∷◌, map, reverse, IfOk, slice_get};
+ghost use Rattle.std.specs.Prelude.{◌≡◌, ◌+◌, [], ◌∷◌, ◌++◌, map, reverse, IfOk};
 ghost use Rattle.chw_types.specs.TypeMoves.{shift};
 ghost use Rattle.chw_typing.specs.Scopes.{under_binder, with_more};
+ghost use Rattle.term_types.specs.VarsView.{IsAt, written_types, written_kinds, found_types, found_kinds};
 
-use chw_base::{NoMemory, TyIx};
-use chw_terms::Binding;
-use chw_types::{Ty, shift_type};
+use crate::found::{Found, Kinded};
+use crate::seen::{raised, raised_again};
+use chw_base::NoMemory;
+use chw_types::{Kind, Ty};
 use std::alloc::Global;
 use std::marker::Model;
 
-/// The types of the variables in scope, which contracts see as a list, the innermost first, each as it is at the place itself.
+/// The types of the variables in scope with their kinds, which contracts see as lists, the innermost first, each type as it is at the place
+/// itself.
 ///
 /// Each type is kept as it was where its variable was bound, and is raised over the type binders since then only where the variable is used.
+/// The frames live as long as `'f`, the types that are written in the description as long as `'t`.
 #[cycle(vars)]
 #[derive(Drop)]
-pub(crate) struct Vars<'a> {
-    frame: Frame<'a>,
+pub(crate) struct Vars<'f, 't> {
+    frame: Frame<'f, 't>,
 }
 
 /// What bound the innermost variables.
 #[cycle(vars)]
 #[derive(Drop)]
-enum Frame<'a> {
-    /// What was in scope from the beginning, the outermost first.
-    Outside(&'a [Ty]),
+enum Frame<'f, 't> {
+    /// Nothing is in scope.
+    Empty,
     /// A type binder, which binds no variable.
-    UnderType(&'a Vars<'a>),
-    OfLambda(&'a Ty, &'a Vars<'a>),
-    OfGroup(&'a [Binding], &'a Vars<'a>),
-    /// The types that a pattern binds, the first one first.
-    OfPattern(&'a [Ty], &'a Vars<'a>),
+    UnderType(&'f Vars<'f, 't>),
+    OfLambda(&'t Ty, Kind, &'f Vars<'f, 't>),
+    /// Variables that are bound together, the first one first.
+    OfGroup(&'f [Kinded<'t>], &'f Vars<'f, 't>),
+    /// What a pattern binds, the first one first.
+    OfPattern(&'f [Found<'t>], &'f Vars<'f, 't>),
 }
 
-impl<'a> Model for Vars<'a> {
+impl<'f, 't> Model for Vars<'f, 't> {
     ghost use Rattle.term_types.specs.InScope.{InScope, coded_scope};
 
     ghost Value = { InScope };
@@ -50,19 +55,21 @@ impl<'a> Model for Vars<'a> {
     ghost size_decreases = { λ a h. Prim.grind arith };
 }
 
-impl<'a> Vars<'a> {
-    /// The variables of this list, the outermost first.
-    pub(crate) fn outside(types: &'a [Ty]) -> Vars<'a>
-        ensures { result.vars ≡ reverse types.now }
+impl<'f, 't> Vars<'f, 't> {
+    /// No variables.
+    pub(crate) fn none() -> Vars<'f, 't>
+        ensures types { result.vars ≡ [] }
+        ensures kinds { result.kinds ≡ [] }
     {
         Vars {
-            frame: Frame::Outside(types),
+            frame: Frame::Empty,
         }
     }
 
     /// The same variables under one more type binder.
-    pub(crate) fn under_type(&'a self) -> Vars<'a>
-        ensures { result.vars ≡ under_binder self.now.vars }
+    pub(crate) fn under_type(&'f self) -> Vars<'f, 't>
+        ensures types { result.vars ≡ under_binder self.now.vars }
+        ensures kinds { result.kinds ≡ self.now.kinds }
     {
         Vars {
             frame: Frame::UnderType(self),
@@ -70,63 +77,72 @@ impl<'a> Vars<'a> {
     }
 
     /// One more variable.
-    pub(crate) fn with_one(&'a self, ty: &'a Ty) -> Vars<'a>
-        ensures { result.vars ≡ ty.now ∷ self.now.vars }
+    pub(crate) fn with_one(&'f self, ty: &'t Ty, kind: Kind) -> Vars<'f, 't>
+        ensures types { result.vars ≡ ty.now ∷ self.now.vars }
+        ensures kinds { result.kinds ≡ kind ∷ self.now.kinds }
     {
         Vars {
-            frame: Frame::OfLambda(ty, self),
+            frame: Frame::OfLambda(ty, kind, self),
         }
     }
 
-    /// The variables of these bindings too.
-    pub(crate) fn with_group(&'a self, bindings: &'a [Binding]) -> Vars<'a>
-        ensures { result.vars ≡ with_more (map (λ b. b.ty) bindings.now) self.now.vars }
+    /// Variables of these types too, which are bound together.
+    pub(crate) fn with_group(&'f self, bound: &'f [Kinded<'t>]) -> Vars<'f, 't>
+        ensures types { result.vars ≡ with_more (written_types bound.now) self.now.vars }
+        ensures kinds { result.kinds ≡ reverse (written_kinds bound.now) ++ self.now.kinds }
     {
         Vars {
-            frame: Frame::OfGroup(bindings, self),
+            frame: Frame::OfGroup(bound, self),
         }
     }
 
     /// The variables of a pattern too.
-    pub(crate) fn with_fields(&'a self, types: &'a [Ty]) -> Vars<'a>
-        ensures { result.vars ≡ with_more types.now self.now.vars }
+    pub(crate) fn with_fields(&'f self, bound: &'f [Found<'t>]) -> Vars<'f, 't>
+        ensures types { result.vars ≡ with_more (found_types bound.now) self.now.vars }
+        ensures kinds { result.kinds ≡ reverse (found_kinds bound.now) ++ self.now.kinds }
     {
         Vars {
-            frame: Frame::OfPattern(types, self),
+            frame: Frame::OfPattern(bound, self),
         }
     }
 
-    /// The type of the variable of this number, where it is in scope, raised by so many type binders.
+    /// The type of the variable of this number with its kind, where it is in scope, raised by so many type binders.
     ///
     /// Where a type variable would pass 32 bits, the answer is want of memory.
-    pub(crate) fn at(&self, alloc: Global, number: usize, by: u32) -> Result<Option<Ty>, NoMemory>
-        ensures { IfOk result (λ r. r ≡ slice_get (map (λ t. shift t 0 by) self.now.vars) number) }
+    pub(crate) fn at(
+        &self,
+        alloc: Global,
+        number: usize,
+        by: u32,
+    ) -> Result<Option<Found<'t>>, NoMemory>
+        ensures { IfOk result (IsAt (map (λ t. shift t 0 by) self.now.vars) self.now.kinds number) }
     {
         match &self.frame {
-            Frame::Outside(types) => Ok(raised_last(alloc, types, number, by)?),
+            Frame::Empty => Ok(None),
             Frame::UnderType(outer) => {
                 let by = one_more(by)?;
                 Ok(outer.at(alloc, number, by)?)
             }
-            Frame::OfLambda(ty, outer) => {
+            Frame::OfLambda(ty, kind, outer) => {
                 if number == 0 {
-                    return Ok(Some(raised(alloc, ty, by)?));
+                    return Ok(Some(written(alloc, *ty, *kind, by)?));
                 }
                 Ok(outer.at(alloc, number - 1, by)?)
             }
-            Frame::OfGroup(bindings, outer) => {
-                let bound = bindings.len();
-                if number < bound {
-                    return Ok(Some(raised(alloc, &bindings[bound - 1 - number].ty, by)?));
+            Frame::OfGroup(bound, outer) => {
+                let count = bound.len();
+                if number < count {
+                    let it = bound[count - 1 - number];
+                    return Ok(Some(written(alloc, it.ty, it.kind, by)?));
                 }
-                Ok(outer.at(alloc, number - bound, by)?)
+                Ok(outer.at(alloc, number - count, by)?)
             }
-            Frame::OfPattern(types, outer) => {
-                let bound = types.len();
-                if number < bound {
-                    return Ok(raised_last(alloc, types, number, by)?);
+            Frame::OfPattern(bound, outer) => {
+                let count = bound.len();
+                if number < count {
+                    return Ok(Some(found_again(alloc, &bound[count - 1 - number], by)?));
                 }
-                Ok(outer.at(alloc, number - bound, by)?)
+                Ok(outer.at(alloc, number - count, by)?)
             }
         }
     }
@@ -139,20 +155,21 @@ fn one_more(by: u32) -> Result<u32, NoMemory>
     by.checked_add(1).ok_or(NoMemory)
 }
 
-// The type with its variables raised by this number.
-fn raised(alloc: Global, ty: &Ty, by: u32) -> Result<Ty, NoMemory>
-    ensures { IfOk result (λ r. r ≡ shift ty.now 0 by) }
+// A written type of this kind, raised.
+fn written<'t>(alloc: Global, ty: &'t Ty, kind: Kind, by: u32) -> Result<Found<'t>, NoMemory>
+    ensures { IfOk result (λ f. (f.ty ≡ shift ty.now 0 by) × (f.kind ≡ kind)) }
 {
-    shift_type(alloc, ty, TyIx { number: 0 }, by)
+    let ty = raised(alloc, ty, by)?;
+    Ok(Found { ty, kind })
 }
 
-// The type at this place from the end, where there is one, raised.
-fn raised_last(alloc: Global, types: &[Ty], number: usize, by: u32) -> Result<Option<Ty>, NoMemory>
-    ensures { IfOk result (λ r. r ≡ slice_get (map (λ t. shift t 0 by) (reverse types.now)) number) }
+// What was found, raised.
+fn found_again<'t>(alloc: Global, found: &Found<'t>, by: u32) -> Result<Found<'t>, NoMemory>
+    ensures { IfOk result (λ f. (f.ty ≡ shift found.now.ty 0 by) × (f.kind ≡ found.now.kind)) }
 {
-    if number < types.len() {
-        let ty = raised(alloc, &types[types.len() - 1 - number], by)?;
-        return Ok(Some(ty));
-    }
-    Ok(None)
+    let ty = raised_again(alloc, &found.ty, by)?;
+    Ok(Found {
+        ty,
+        kind: found.kind,
+    })
 }

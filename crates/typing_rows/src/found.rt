@@ -1,7 +1,8 @@
 //! The types of the bodies of a text's definitions.
-ghost use Rattle.std.specs.Prelude.{◌≡◌, IfSome};
+ghost use Rattle.std.specs.Prelude.{IfSome};
 ghost use Rattle.chw_terms.specs.Tidy.{IsTidy};
 ghost use Rattle.chw_typing.specs.Programs.{IsSound, setting_of};
+ghost use Rattle.term_types.specs.Signatures.{IsSignature};
 
 use chw_check::kinds::first_unkinded;
 use chw_check::laws::what_fits_is_sound;
@@ -10,9 +11,8 @@ use chw_parser::parse;
 use chw_resolve::resolve;
 use chw_terms::{Def, Program, Scene};
 use chw_types::{Ty, type_text};
-use con_places::Constructors;
 use std::alloc::{AllocError, Global};
-use term_types::type_of_in;
+use term_types::{Signature, type_of_in};
 
 /// The program of a text, where it has one.
 fn program(alloc: Global, text: &[u8]) -> Option<Program>
@@ -50,11 +50,11 @@ fn listed(alloc: Global, program: &Program) -> Result<String, AllocError>
     requires { IsSound (setting_of program.now) }
 {
     let mut text = String::new(alloc);
-    let Ok(constructors) = Constructors::of(alloc, program.datas.as_slice()) else {
+    let Ok(signature) = Signature::of(alloc, program) else {
         return Err(AllocError);
     };
     for it in program.defs.as_slice() {
-        add_type(alloc, program, &constructors, it, &mut text)?;
+        add_type(alloc, program, &signature, it, &mut text)?;
     }
     Ok(text)
 }
@@ -63,15 +63,15 @@ fn listed(alloc: Global, program: &Program) -> Result<String, AllocError>
 fn add_type(
     alloc: Global,
     program: &Program,
-    constructors: &Constructors<'_>,
+    signature: &Signature<'_>,
     it: &Def,
     text: &mut String,
 ) -> Result<(), AllocError>
     requires sound { IsSound (setting_of program.now) }
-    requires table { constructors.now ≡ program.now.datas }
+    requires table { IsSignature program.now signature.now }
 {
     let scene = Scene { program, made: &[] };
-    let found = type_of_in(alloc, &scene, constructors, &[], &[], &it.body);
+    let found = type_of_in(alloc, &scene, signature, &[], &[], &it.body);
     let Scene {
         program: _,
         made: _,

@@ -1,11 +1,24 @@
-use Rattle.std.specs.Prelude.{reverse}
-use Rattle.chw_typing.specs.Scopes.{setting_in}
+use Rattle.std.proofs.Common.{Option, sym, subst, ◌∙◌}
+use Rattle.std.specs.Prelude.{MatchOption, reverse}
+use Rattle.chw_types.specs.TypeTree.{TypeTree}
+use Rattle.chw_typing.specs.Scopes.{HasKind, setting_in}
 use Rattle.found_types.proofs.Settling.{settled_kinded}
+use Rattle.term_types.specs.Kinding.{LacksKind, IsWithKind}
+use Rattle.term_types.specs.declared.found.Found.{Found}
 use Rattle.term_types.proofs.Settled.{settled_told}
 use Rattle.term_types.proofs.found.settled.Goals as goal
 
 pub returns-in_default : goal.returns-in_default
-returns-in_default c = settled_told (setting_in c.args.scene.now) (reverse c.args.kinds.now) c.args.ty c.in_ok-less.less c.with_kind.result c.in_default.ensures c.in_ok-less.ensures.is c.in_ok-less.ensures.kind c.with_kind.ensures
+returns-in_default c =
+    let s = setting_in c.args.scene.now in
+    let kinds = reverse c.args.kinds.now in
+    settled_told s kinds c.args.ty c.in_ok-less.less c.with_kind.result c.in_default.ensures c.in_ok-less.ensures.is c.in_ok-less.ensures.kind
+    (subst (λ (t : TypeTree). MatchOption c.with_kind.result (LacksKind s kinds t) (λ (f : Found). IsWithKind s kinds t f)) c.made.ensures c.with_kind.ensures)
 
 pub returns : goal.returns
-returns c = (settled_kinded (setting_in c.args.scene.now) (reverse c.args.kinds.now) c.args.ty c.in-Some.kind c.in-Some.ensures, c.in-Some.ensures)
+returns c =
+    let s = setting_in c.args.scene.now in
+    let kinds = reverse c.args.kinds.now in (
+      settled_kinded s kinds c.args.ty c.in-Some.kind c.in-Some.ensures ∙ sym c.made-2.ensures,
+      subst (λ (t : TypeTree). HasKind s kinds t c.in-Some.kind) (sym c.made-2.ensures) c.in-Some.ensures,
+    )

@@ -1,20 +1,18 @@
-use Rattle.std.proofs.Common.{◌≡◌, Some, None, sym, ap, ◌∙◌}
+use Rattle.std.proofs.Common.{map}
 use Rattle.std.specs.Prelude.{reverse}
-use Rattle.std.specs.List.{slice_get}
+use Rattle.chw_types.specs.TypeMoves.{shift}
+use Rattle.chw_terms.specs.TermTree.{var}
 use Rattle.chw_typing.specs.Scopes.{setting_in}
-use Rattle.term_types.proofs.Plain.{raised_by_none, var_told, var_missing}
+use Rattle.term_types.specs.Answers.{IsAnswer}
+use Rattle.term_types.specs.VarsView.{IsAt}
+use Rattle.term_types.proofs.Matched.{ok_more}
+use Rattle.term_types.proofs.Plain.{var_told}
 use Rattle.term_types.proofs.heads.variable.Goals as goal
 
-pub returns-in-Some : goal.returns-in-Some
-returns-in-Some c =
-    let vars = c.args.vars.now.vars in
+pub returns : goal.returns
+returns c =
+    let s = setting_in c.args.scene.now in
+    let kinds = reverse c.args.kinds.now in
+    let scope = c.args.vars.now in
     let n = c.args.at.number in
-    let at : slice_get vars n ≡ Some c.in-Some.ty = sym (ap (λ ts. slice_get ts n) (raised_by_none vars)) ∙ sym c.in_ok-ty.ensures ∙ c.in-Some.is in
-    var_told (setting_in c.args.scene.now) (reverse c.args.kinds.now) vars n c.in-Some.ty c.with_kind.result c.requires at c.with_kind.ensures
-
-pub returns-in-None : goal.returns-in-None
-returns-in-None c =
-    let vars = c.args.vars.now.vars in
-    let n = c.args.at.number in
-    let at : slice_get vars n ≡ None = sym (ap (λ ts. slice_get ts n) (raised_by_none vars)) ∙ sym c.in_ok-ty.ensures ∙ c.in-None.is in
-    var_missing n at
+    ok_more c.at.result (IsAt (map (λ t. shift t 0 0) scope.vars) scope.kinds n) (IsAnswer s kinds scope.vars (var n)) (λ r a. var_told s kinds scope n r c.requires a) c.at.ensures

@@ -1,20 +1,20 @@
-use Rattle.std.proofs.Common.{refl}
-use Rattle.term_types.proofs.Applied.{function_is, no_function, takes_not}
+use Rattle.std.proofs.Common.{refl, subst, ◌↔◌, IsTrue}
+use Rattle.chw_types.specs.SameTypes.{SameTypes}
+use Rattle.chw_types.specs.TypeTree.{TypeTree}
+use Rattle.term_types.proofs.Applied.{takes_not}
 use Rattle.term_types.proofs.Matched.{not_true}
 use Rattle.term_types.proofs.spines.apply.Goals as goal
 
 pub returns-in_default : goal.returns-in_default
-returns-in_default c a b e h = no_function c.args.fun.ty a b c.in_default.ensures e
+returns-in_default c a b e h = c.in_default.ensures a b e
 
 pub returns-then-not-branch : goal.returns-then-not-branch
 returns-then-not-branch c =
-    takes_not c.args.fun.ty c.args.arg.now c.in-Some.from c.in-Some.to (function_is c.args.fun.ty c.in-Some.from c.in-Some.to c.in-Some.ensures)
-    (λ h. not_true _ c.if-not-branch.true (c.in_ok-same.ensures.1 h))
+    let told = subst (λ (t : TypeTree). IsTrue c.in_ok-same.field-0 ↔ SameTypes t c.args.arg.ty) c.ty.ensures (subst (λ (u : TypeTree). IsTrue c.in_ok-same.field-0 ↔ SameTypes c.ty.result.now u) c.ty-2.ensures c.in_ok-same.ensures) in
+    takes_not c.args.fun.ty c.args.arg.ty c.in-Some.from c.in-Some.to c.in-Some.ensures
+    (λ h. not_true _ c.if-not-branch.true (told.1 h))
 
 pub returns : goal.returns
-returns c = record {
-  from = c.in-Some.from;
-  is = function_is c.args.fun.ty c.in-Some.from c.in-Some.to c.in-Some.ensures;
-  same = c.in_ok-same.ensures.0 c.if-not-branch.false;
-  kind = refl;
-}
+returns c =
+    let told = subst (λ (t : TypeTree). IsTrue c.in_ok-same.field-0 ↔ SameTypes t c.args.arg.ty) c.ty.ensures (subst (λ (u : TypeTree). IsTrue c.in_ok-same.field-0 ↔ SameTypes c.ty.result.now u) c.ty-2.ensures c.in_ok-same.ensures) in
+    record { from = c.in-Some.from; is = c.in-Some.ensures; same = told.0 c.if-not-branch.false; kind = refl }

@@ -1,21 +1,27 @@
-use Rattle.std.proofs.Common.{sym, ◌∙◌}
+use Rattle.std.proofs.Common.{◌≡◌, sym, ◌∙◌, subst}
 use Rattle.std.specs.Prelude.{reverse}
+use Rattle.chw_types.specs.TypeTree.{TypeTree, for_all}
 use Rattle.chw_typing.specs.Scopes.{setting_in}
-use Rattle.term_types.proofs.Applied.{bound_is, no_bound, type_unkinded, type_of_other, type_told}
+use Rattle.term_types.proofs.Applied.{type_unkinded, type_of_other, type_told}
 use Rattle.term_types.proofs.spines.apply_type.Goals as goal
 
 pub returns-in_default : goal.returns-in_default
-returns-in_default c j k of u h e d same l = no_bound c.args.fun.ty of j c.in_default.ensures e
+returns-in_default c j k of u h e d same l = c.in_default.ensures j of (c.ty.ensures ∙ e)
 
 pub returns-in_default-kind_in : goal.returns-in_default-kind_in
 returns-in_default-kind_in c = type_unkinded (setting_in c.args.scene.now) (reverse c.args.kinds.now) c.args.fun.ty c.args.arg.now c.in_default-kind_in.ensures
 
 pub returns-then-not-same_kind : goal.returns-then-not-same_kind
 returns-then-not-same_kind c =
-    type_of_other (setting_in c.args.scene.now) (reverse c.args.kinds.now) c.args.fun.ty c.args.arg.now c.in-Some.of c.in-Some-kind_in.of_arg c.in-Some.kind
-    (bound_is c.args.fun.ty c.in-Some.of c.in-Some.kind c.in-Some.ensures) c.in-Some-kind_in.ensures (sym c.same_kind.ensures ∙ c.if-not-same_kind.true)
+    type_of_other (setting_in c.args.scene.now) (reverse c.args.kinds.now) c.args.fun.ty c.args.arg.now c.in-Some.of.now c.in-Some-kind_in.of_arg c.in-Some.kind
+    (sym c.ty.ensures ∙ c.in-Some.ensures) c.in-Some-kind_in.ensures (sym c.same_kind.ensures ∙ c.if-not-same_kind.true)
 
 pub returns : goal.returns
 returns c =
+<<<<<<< HEAD
     type_told (setting_in c.args.scene.now) (reverse c.args.kinds.now) c.args.fun.ty c.args.arg.now c.in-Some.of c.in_ok-ty.ty c.in-Some-kind_in.of_arg c.in-Some.kind c.in_ok-settled.field-0
     (bound_is c.args.fun.ty c.in-Some.of c.in-Some.kind c.in-Some.ensures) c.in-Some-kind_in.ensures (sym c.same_kind.ensures ∙ c.if-not-same_kind.false) c.in_ok-ty.ensures.is c.in_ok-settled.ensures
+=======
+    type_told (setting_in c.args.scene.now) (reverse c.args.kinds.now) c.args.fun.ty c.args.arg.now c.in-Some.of.now c.in_ok-ty.ty c.in-Some-kind_in.of_arg c.in-Some.kind c.in_ok-settled.field-0
+    (sym c.ty.ensures ∙ c.in-Some.ensures) c.in-Some-kind_in.ensures (sym c.same_kind.ensures ∙ c.if-not-same_kind.false) c.in_ok-ty.ensures c.in_ok-settled.ensures
+>>>>>>> e398b1d343d0657a0df887ca0d1000720ed59a1f

@@ -1,21 +1,26 @@
-use Rattle.std.proofs.Common.{◌≡◌, ◌+◌, ◌∷◌, ◌++◌, [], Vec, Global, length, take, refl, sym, ap, ◌∙◌, subst, arith}
+use Rattle.std.proofs.Common.{◌≡◌, ◌↔◌, IsTrue, ◌+◌, ◌∷◌, ◌++◌, [], Vec, Global, length, take, refl, sym, ap, ◌∙◌, subst, arith}
 use Rattle.std.specs.Prelude.{IfOk, MatchOption, reverse}
 use Rattle.std.proofs.lemmas.Bool.{false≢true}
-use Rattle.chw_types.specs.TypeTree.{TypeTree, fun, vector}
+use Rattle.chw_types.specs.SameTypes.{SameTypes}
+use Rattle.chw_types.specs.TypeTree.{TypeTree}
 use Rattle.chw_terms.specs.declared.term.Binding.{Binding}
 use Rattle.chw_terms.specs.PartsFall.{arg_smaller, term_smaller, binding_smaller, alt_smaller}
 use Rattle.chw_terms.specs.TermFalls.{applied_size}
 use Rattle.chw_terms.specs.TermSize.{tree_size, terms_size, group_size, alts_size, args_size}
-use Rattle.chw_terms.specs.TermTree.{TermTree, lam, ty_lam, letrec, vec_lit, case_of}
+use Rattle.chw_terms.specs.TermTree.{TermTree, app, ty_app, lam, ty_lam, letrec, vec_lit, case_of}
 use Rattle.chw_terms.specs.TermView.{tree_of, applied_to, applied, terms_of, group_of, alts_of}
 use Rattle.chw_typing.specs.Alternatives.{NoneHidden}
 use Rattle.chw_typing.specs.HeadTypes.{IsLookedAt}
-use Rattle.chw_typing.specs.Scopes.{with_more, setting_in}
+use Rattle.chw_typing.specs.Scopes.{HasKind, with_more, setting_in}
 use Rattle.chw_typing.specs.Typing.{HasType, HasTypeUpTo}
 use Rattle.term_types.specs.Answers.{HasNoType, IsTyped, IsAnswer, IsReady}
-use Rattle.term_types.specs.Binding.{BindsFound, BindsNothing}
+use Rattle.term_types.specs.Binding.{BindsKinded, BindsNothing, is_looked_at}
 use Rattle.term_types.specs.Cases.{Gives, GivesNothing, IsJoined}
-use Rattle.term_types.specs.Groups.{HaveTheirTypes}
+use Rattle.term_types.specs.Forms.{Takes, TakesNot, TakesType, TakesTypeNot}
+use Rattle.term_types.specs.Groups.{HaveTheirTypes, NotAllOfTerms, IsGroup}
+use Rattle.term_types.specs.VarsView.{found_types}
+use Rattle.term_types.specs.declared.found.Found.{Found}
+use Rattle.term_types.specs.declared.groups.Group.{Group}
 use Rattle.term_types.proofs.Applied.{applied_none, app_argument_untyped}
 use Rattle.term_types.proofs.Bound.{looked_found, looked_none}
 use Rattle.term_types.proofs.Cased.{case_on, case_looked, case_hidden, case_alt, gives_told, joined_next, joined_none, nothing_joined, together_told}
@@ -24,7 +29,8 @@ use Rattle.term_types.proofs.HeadsApplied.{spine_next, spine_none, spine_all}
 use Rattle.term_types.proofs.Lambdas.{lam_ready, lam_typed, lam_parameter, lam_body, lam_kinds, ty_lam_typed, ty_lam_body}
 use Rattle.term_types.proofs.Lets.{let_typed, let_group, let_body, let_kind, let_types, vec_element, vec_elements, vec_typed}
 use Rattle.term_types.proofs.Matched.{of_some, of_none, ok_more, not_true}
-use Rattle.term_types.proofs.Ready.{inner_kinds, ready_as, ready_more, ready_under}
+use Rattle.term_types.proofs.Ready.{inner_kinds, ready_more, ready_under}
+use Rattle.term_types.proofs.Scoped.{lam_set, set_under, group_inside, fields_inside}
 use Rattle.term_types.proofs.Told.{up_to_told, up_to_none}
 use Rattle.term_types.proofs.VarsFound.{types_of}
 use Rattle.term_types.proofs.Walked.{answer_some, answer_none, answer_is_none, app_told, ty_app_told}
@@ -95,36 +101,48 @@ infer_args-returns t c e d =
     spine_all e c.args.args.now c.loop-arg.arg-index c.loop-arg.found (omega (arith, c.loop-arg-test.false)) (c.loop-arg.invariant e d)
 
 -- an argument
-pub infer_applied-infer-requires : goal.infer_applied-infer-requires
-infer_applied-infer-requires t c =
+pub infer_applied-infer_at_term-requires : goal.infer_applied-infer_at_term-requires
+infer_applied-infer_at_term-requires t c =
     let size : args_size (c.args.arg.now ∷ []) ≡ tree_size c.in-OfTerm.e + 2 = ap (λ a. args_size (a ∷ [])) c.in-OfTerm.is ∙ omega arith in
     (omega (arith, c.decreases, size), (c.requires.ready, c.requires.table))
 
-pub infer_applied-returns-in_ok-apply-in-Some : goal.infer_applied-returns-in_ok-apply-in-Some
-infer_applied-returns-in_ok-apply-in-Some t c e d =
+pub infer_applied-returns-in-OfTerm : goal.infer_applied-returns-in-OfTerm
+infer_applied-returns-in-OfTerm t c =
     let s = setting_in c.args.scene.now in
     let kinds = reverse c.args.kinds.now in
     let vars = c.args.vars.now.vars in
+    subst (λ a. IfOk c.infer_at_term.result (λ r. (e : TermTree) → IsTyped s kinds vars e c.args.fun → IsAnswer s kinds vars (applied_to e a) r)) (sym c.in-OfTerm.is) c.infer_at_term.ensures
+
+pub infer_applied-returns-in-OfType : goal.infer_applied-returns-in-OfType
+infer_applied-returns-in-OfType t c =
+    let s = setting_in c.args.scene.now in
+    let kinds = reverse c.args.kinds.now in
+    let vars = c.args.vars.now.vars in
+    let fun = c.args.fun in
+    let t = c.in-OfType.t in
+    subst (λ a. IfOk c.apply_type.result (λ r. (e : TermTree) → IsTyped s kinds vars e fun → IsAnswer s kinds vars (applied_to e a) r)) (sym c.in-OfType.is)
+    (ok_more c.apply_type.result (λ r. MatchOption r (TakesTypeNot s kinds fun.ty t) (λ f. TakesType s kinds fun.ty t f)) (λ r. (e : TermTree) → IsTyped s kinds vars e fun → IsAnswer s kinds vars (ty_app e t) r)
+    (λ r told e d. ty_app_told s kinds vars e t fun r c.requires.ready.0 told d) c.apply_type.ensures)
+
+pub infer_at_term-infer-requires : goal.infer_at_term-infer-requires
+infer_at_term-infer-requires t c = (omega (arith, c.decreases), (c.requires.ready, c.requires.table))
+
+pub infer_at_term-returns-in_default : goal.infer_at_term-returns-in_default
+infer_at_term-returns-in_default t c e d =
+    let s = setting_in c.args.scene.now in
+    let kinds = reverse c.args.kinds.now in
+    app_argument_untyped (answer_none s kinds c.args.vars.now.vars c.args.term.now c.in_ok-found.field-0 c.in_default.not-Some c.in_ok-found.ensures)
+
+pub infer_at_term-returns : goal.infer_at_term-returns
+infer_at_term-returns t c =
+    let s = setting_in c.args.scene.now in
+    let kinds = reverse c.args.kinds.now in
+    let vars = c.args.vars.now.vars in
+    let fun = c.args.fun in
     let found = c.in-Some.found in
-    subst (λ a. IsAnswer s kinds vars (applied_to e a) c.in_ok-apply-in-Some.field-0) (sym c.in-OfTerm.is)
-    (app_told s kinds vars e c.in-OfTerm.e c.args.fun found c.in_ok-apply-in-Some.field-0 c.requires.ready
-    (answer_some s kinds vars c.in-OfTerm.e c.in_ok-found-in-OfTerm.field-0 found c.in-Some.is c.in_ok-found-in-OfTerm.ensures) c.in_ok-apply-in-Some.ensures d)
-
-pub infer_applied-returns-in-None : goal.infer_applied-returns-in-None
-infer_applied-returns-in-None t c e d =
-    let s = setting_in c.args.scene.now in
-    let kinds = reverse c.args.kinds.now in
-    let vars = c.args.vars.now.vars in
-    let none = answer_is_none s kinds vars c.in-OfTerm.e c.in_ok-found-in-OfTerm.field-0 c.in-None.is c.in_ok-found-in-OfTerm.ensures in
-    subst (λ a. HasNoType s kinds vars (applied_to e a)) (sym c.in-OfTerm.is) (app_argument_untyped none)
-
-pub infer_applied-returns-in_ok-apply_type-in-OfType : goal.infer_applied-returns-in_ok-apply_type-in-OfType
-infer_applied-returns-in_ok-apply_type-in-OfType t c e d =
-    let s = setting_in c.args.scene.now in
-    let kinds = reverse c.args.kinds.now in
-    let vars = c.args.vars.now.vars in
-    subst (λ a. IsAnswer s kinds vars (applied_to e a) c.in_ok-apply_type-in-OfType.field-0) (sym c.in-OfType.is)
-    (ty_app_told s kinds vars e c.in-OfType.t c.args.fun c.in_ok-apply_type-in-OfType.field-0 c.requires.ready c.in_ok-apply_type-in-OfType.ensures d)
+    let typed = answer_some s kinds vars c.args.term.now c.in_ok-found.field-0 found c.in-Some.is c.in_ok-found.ensures in
+    ok_more c.apply.result (λ r. MatchOption r (TakesNot fun.ty found.ty) (λ f. Takes fun found.ty f)) (λ r. (e : TermTree) → IsTyped s kinds vars e fun → IsAnswer s kinds vars (app e c.args.term.now) r)
+    (λ r told e d. app_told s kinds vars e c.args.term.now fun found r c.requires.ready.0 typed told d) c.apply.ensures
 
 -- the forms of heads
 pub infer_head-returns-in-Var : goal.infer_head-returns-in-Var
@@ -133,11 +151,11 @@ infer_head-returns-in-Var t c =
 
 pub infer_head-returns-in-Global : goal.infer_head-returns-in-Global
 infer_head-returns-in-Global t c =
-    subst (λ h. IfOk c.definition.result (IsAnswer (setting_in c.args.scene.now) (reverse c.args.kinds.now) c.args.vars.now.vars (tree_of h))) (sym c.in-Global.is) c.definition.ensures
+    subst (λ h. IsAnswer (setting_in c.args.scene.now) (reverse c.args.kinds.now) c.args.vars.now.vars (tree_of h) c.definition.result) (sym c.in-Global.is) c.definition.ensures
 
 pub infer_head-returns-in-Made : goal.infer_head-returns-in-Made
 infer_head-returns-in-Made t c =
-    subst (λ h. IfOk c.made_definition.result (IsAnswer (setting_in c.args.scene.now) (reverse c.args.kinds.now) c.args.vars.now.vars (tree_of h))) (sym c.in-Made.is) c.made_definition.ensures
+    subst (λ h. IsAnswer (setting_in c.args.scene.now) (reverse c.args.kinds.now) c.args.vars.now.vars (tree_of h) c.made_definition.result) (sym c.in-Made.is) c.made_definition.ensures
 
 pub infer_head-infer_lam-requires : goal.infer_head-infer_lam-requires
 infer_head-infer_lam-requires t c =
@@ -231,10 +249,8 @@ infer_head-returns-in-Case t c =
 -- lambdas
 pub infer_lam-infer-requires : goal.infer_lam-infer-requires
 infer_lam-infer-requires t c =
-    let s = setting_in c.args.scene.now in
-    let kinds = reverse c.args.kinds.now in
-    let vars = c.args.vars.now.vars in
-    (omega (arith, c.decreases), (subst (IsReady s kinds) (sym c.with_one-inner.ensures) (lam_ready s kinds vars c.args.ty.now c.in-Some.from c.requires.ready c.in-Some.ensures), c.requires.table))
+    let set = lam_set (setting_in c.args.scene.now) (reverse c.args.kinds.now) c.args.vars.now c.with_one-inner.result c.args.ty.now c.in-Some.from c.with_one-inner.ensures.types c.with_one-inner.ensures.kinds c.requires.ready c.in-Some.ensures in
+    (omega (arith, c.decreases), (set, c.requires.table))
 
 pub infer_lam-returns-in_default : goal.infer_lam-returns-in_default
 infer_lam-returns-in_default t c = lam_parameter c.args.ty.now c.in_default.ensures
@@ -244,7 +260,7 @@ infer_lam-returns-in_default-2 t c =
     let s = setting_in c.args.scene.now in
     let kinds = reverse c.args.kinds.now in
     let body = c.args.body.now in
-    lam_body c.args.ty.now (subst (λ vars. HasNoType s kinds vars body) c.with_one-inner.ensures
+    lam_body c.args.ty.now (subst (λ vars. HasNoType s kinds vars body) c.with_one-inner.ensures.types
     (answer_none s kinds c.with_one-inner.result.vars body c.in_ok-to.field-0 c.in_default-2.not-Some c.in_ok-to.ensures))
 
 pub infer_lam-returns-then-not-has_functions : goal.infer_lam-returns-then-not-has_functions
@@ -254,8 +270,8 @@ infer_lam-returns-then-not-has_functions t c =
     let vars = c.args.vars.now.vars in
     let body = c.args.body.now in
     let a = c.args.ty.now in
-    let typed = subst (λ vars. IsTyped s kinds vars body c.in-Some-2.to) c.with_one-inner.ensures (answer_some s kinds c.with_one-inner.result.vars body c.in_ok-to.field-0 c.in-Some-2.to c.in-Some-2.is c.in_ok-to.ensures) in
-    lam_kinds a c.in-Some.from c.in-Some-2.to (lam_ready s kinds vars a c.in-Some.from c.requires.ready c.in-Some.ensures) c.in-Some.ensures.0 typed (sym c.has_functions.ensures ∙ c.if-not-has_functions.true)
+    let typed = subst (λ vars. IsTyped s kinds vars body c.in-Some-2.to) c.with_one-inner.ensures.types (answer_some s kinds c.with_one-inner.result.vars body c.in_ok-to.field-0 c.in-Some-2.to c.in-Some-2.is c.in_ok-to.ensures) in
+    lam_kinds a c.in-Some.from c.in-Some-2.to (lam_ready s kinds vars a c.in-Some.from c.requires.ready.0 c.in-Some.ensures) c.in-Some.ensures.0 typed (sym c.has_functions.ensures ∙ c.if-not-has_functions.true)
 
 pub infer_lam-returns : goal.infer_lam-returns
 infer_lam-returns t c =
@@ -263,16 +279,15 @@ infer_lam-returns t c =
     let kinds = reverse c.args.kinds.now in
     let body = c.args.body.now in
     let a = c.args.ty.now in
-    let typed = subst (λ vars. IsTyped s kinds vars body c.in-Some-2.to) c.with_one-inner.ensures (answer_some s kinds c.with_one-inner.result.vars body c.in_ok-to.field-0 c.in-Some-2.to c.in-Some-2.is c.in_ok-to.ensures) in
-    lam_typed a c.in-Some.from c.in-Some-2.to _ c.in-Some.ensures.0 typed (sym c.has_functions.ensures ∙ c.if-not-has_functions.false) (c.in_ok-ty.ensures ∙ ap (λ x. fun x c.in-Some-2.to.ty) c.in_ok-copy.ensures) refl
+    let typed = subst (λ vars. IsTyped s kinds vars body c.in-Some-2.to) c.with_one-inner.ensures.types (answer_some s kinds c.with_one-inner.result.vars body c.in_ok-to.field-0 c.in-Some-2.to c.in-Some-2.is c.in_ok-to.ensures) in
+    lam_typed a c.in-Some.from c.in-Some-2.to _ c.in-Some.ensures.0 typed (sym c.has_functions.ensures ∙ c.if-not-has_functions.false) c.in_ok-ty.ensures refl
 
 pub infer_ty_lam-infer-requires : goal.infer_ty_lam-infer-requires
 infer_ty_lam-infer-requires t c =
     let s = setting_in c.args.scene.now in
     let kinds = c.args.kinds.now in
-    let vars = c.args.vars.now.vars in
     let more = inner_kinds kinds c.deref.result.now c.args.kind (c.deref.ensures.value ∙ c.in_ok-push.ensures.items ∙ ap (λ ks. ks ++ c.args.kind ∷ []) c.in_ok-inner.ensures.items) in
-    (omega (arith, c.decreases), (ready_as s c.args.kind kinds vars (reverse c.deref.result.now) c.under_type-vars.result.vars more c.under_type-vars.ensures c.requires.ready, c.requires.table))
+    (omega (arith, c.decreases), (set_under s (reverse kinds) (reverse c.deref.result.now) c.args.kind c.args.vars.now c.under_type-vars.result more c.under_type-vars.ensures.types c.under_type-vars.ensures.kinds c.requires.ready, c.requires.table))
 
 pub infer_ty_lam-returns-in_default : goal.infer_ty_lam-returns-in_default
 infer_ty_lam-returns-in_default t c =
@@ -282,7 +297,7 @@ infer_ty_lam-returns-in_default t c =
     let more = inner_kinds kinds c.deref.result.now c.args.kind (c.deref.ensures.value ∙ c.in_ok-push.ensures.items ∙ ap (λ ks. ks ++ c.args.kind ∷ []) c.in_ok-inner.ensures.items) in
     ty_lam_body c.args.kind
     (λ u d. answer_none s (reverse c.deref.result.now) c.under_type-vars.result.vars body c.in_ok-of.field-0 c.in_default.not-Some c.in_ok-of.ensures u
-    (subst (λ ks. HasType s ks c.under_type-vars.result.vars body u) (sym more) (subst (λ vars. HasType s (c.args.kind ∷ reverse kinds) vars body u) (sym c.under_type-vars.ensures) d)))
+    (subst (λ ks. HasType s ks c.under_type-vars.result.vars body u) (sym more) (subst (λ vars. HasType s (c.args.kind ∷ reverse kinds) vars body u) (sym c.under_type-vars.ensures.types) d)))
 
 pub infer_ty_lam-returns : goal.infer_ty_lam-returns
 infer_ty_lam-returns t c =
@@ -292,63 +307,97 @@ infer_ty_lam-returns t c =
     let found = c.in-Some.of in
     let more = inner_kinds kinds c.deref.result.now c.args.kind (c.deref.ensures.value ∙ c.in_ok-push.ensures.items ∙ ap (λ ks. ks ++ c.args.kind ∷ []) c.in_ok-inner.ensures.items) in
     let typed = answer_some s (reverse c.deref.result.now) c.under_type-vars.result.vars body c.in_ok-of.field-0 found c.in-Some.is c.in_ok-of.ensures in
-    ty_lam_typed c.args.kind found _ (ready_under s (reverse kinds) c.args.vars.now.vars c.args.kind c.requires.ready)
-    (subst (λ vars. IsTyped s (c.args.kind ∷ reverse kinds) vars body found) c.under_type-vars.ensures (subst (λ ks. IsTyped s ks c.under_type-vars.result.vars body found) more typed)) c.in_ok-ty.ensures refl
+    ty_lam_typed c.args.kind found _ (ready_under s (reverse kinds) c.args.vars.now.vars c.args.kind c.requires.ready.0)
+    (subst (λ vars. IsTyped s (c.args.kind ∷ reverse kinds) vars body found) c.under_type-vars.ensures.types (subst (λ ks. IsTyped s ks c.under_type-vars.result.vars body found) more typed)) c.in_ok-ty.ensures refl
 
 -- letrecs
 pub infer_letrec-infer-requires : goal.infer_letrec-infer-requires
 infer_letrec-infer-requires t c =
     let s = setting_in c.args.scene.now in
     let kinds = reverse c.args.kinds.now in
-    let vars = c.args.vars.now.vars in
-    (omega (arith, c.decreases), (subst (IsReady s kinds) (sym c.with_group-inner.ensures) (ready_more s kinds vars (types_of c.args.bindings.now) c.requires.ready c.in-Some.ensures.typed), c.requires.table))
+    let outer = c.args.vars.now in
+    let vars = outer.vars in
+    let bs = c.args.bindings.now in
+    let group = c.in-Some.group in
+    let g = of_some (NotAllOfTerms s kinds bs) (λ (g : Group). IsGroup s kinds bs g) c.in_ok-group.field-0 group c.in-Some.is c.in_ok-group.ensures in
+    let inside = group_inside s kinds bs group c.as_slice.result.now outer c.with_group-inner.result c.requires.ready g c.as_slice.ensures.value c.with_group-inner.ensures.types c.with_group-inner.ensures.kinds in
+    (omega (arith, c.decreases), (inside.set, c.requires.table))
 
 pub infer_letrec-returns-in_default : goal.infer_letrec-returns-in_default
-infer_letrec-returns-in_default t c = let_group c.args.bindings.now c.in_default.ensures
+infer_letrec-returns-in_default t c =
+    let s = setting_in c.args.scene.now in
+    let kinds = reverse c.args.kinds.now in
+    let bs = c.args.bindings.now in
+    let_group bs (of_none (NotAllOfTerms s kinds bs) (λ (g : Group). IsGroup s kinds bs g) c.in_ok-group.field-0 c.in_default.not-Some c.in_ok-group.ensures)
 
 pub infer_letrec-returns-in_default-2 : goal.infer_letrec-returns-in_default-2
 infer_letrec-returns-in_default-2 t c =
     let s = setting_in c.args.scene.now in
     let kinds = reverse c.args.kinds.now in
+    let outer = c.args.vars.now in
+    let vars = outer.vars in
+    let bs = c.args.bindings.now in
+    let group = c.in-Some.group in
+    let g = of_some (NotAllOfTerms s kinds bs) (λ (g : Group). IsGroup s kinds bs g) c.in_ok-group.field-0 group c.in-Some.is c.in_ok-group.ensures in
+    let inside = group_inside s kinds bs group c.as_slice.result.now outer c.with_group-inner.result c.requires.ready g c.as_slice.ensures.value c.with_group-inner.ensures.types c.with_group-inner.ensures.kinds in
     let body = c.args.body.now in
-    let_body c.args.bindings.now (subst (λ vars. HasNoType s kinds vars body) c.with_group-inner.ensures
+    let_body bs (subst (λ vars. HasNoType s kinds vars body) inside.vars
     (answer_none s kinds c.with_group-inner.result.vars body c.in_ok-found.field-0 c.in_default-2.not-Some c.in_ok-found.ensures))
 
 pub infer_letrec-returns-then-not-has_functions : goal.infer_letrec-returns-then-not-has_functions
 infer_letrec-returns-then-not-has_functions t c =
     let s = setting_in c.args.scene.now in
     let kinds = reverse c.args.kinds.now in
-    let vars = c.args.vars.now.vars in
-    let body = c.args.body.now in
+    let outer = c.args.vars.now in
+    let vars = outer.vars in
     let bs = c.args.bindings.now in
+    let group = c.in-Some.group in
+    let g = of_some (NotAllOfTerms s kinds bs) (λ (g : Group). IsGroup s kinds bs g) c.in_ok-group.field-0 group c.in-Some.is c.in_ok-group.ensures in
+    let inside = group_inside s kinds bs group c.as_slice.result.now outer c.with_group-inner.result c.requires.ready g c.as_slice.ensures.value c.with_group-inner.ensures.types c.with_group-inner.ensures.kinds in
+    let body = c.args.body.now in
     let found = c.in-Some-2.found in
-    let typed = subst (λ vars. IsTyped s kinds vars body found) c.with_group-inner.ensures (answer_some s kinds c.with_group-inner.result.vars body c.in_ok-found.field-0 found c.in-Some-2.is c.in_ok-found.ensures) in
-    let_kind bs c.in-Some.kind found (ready_more s kinds vars (types_of bs) c.requires.ready c.in-Some.ensures.typed) c.in-Some.ensures typed (sym c.has_functions.ensures ∙ c.if-not-has_functions.true)
+    let typed = subst (λ vars. IsTyped s kinds vars body found) inside.vars (answer_some s kinds c.with_group-inner.result.vars body c.in_ok-found.field-0 found c.in-Some-2.is c.in_ok-found.ensures) in
+    let_kind bs group.kind found (ready_more s kinds vars (types_of bs) c.requires.ready.0 g.kind.typed) g.kind typed (sym c.has_functions.ensures ∙ c.if-not-has_functions.true)
 
 pub infer_letrec-have_their_types-requires : goal.infer_letrec-have_their_types-requires
 infer_letrec-have_their_types-requires t c =
     let s = setting_in c.args.scene.now in
     let kinds = reverse c.args.kinds.now in
-    let vars = c.args.vars.now.vars in
-    (omega (arith, c.decreases), (subst (IsReady s kinds) (sym c.with_group-inner.ensures) (ready_more s kinds vars (types_of c.args.bindings.now) c.requires.ready c.in-Some.ensures.typed), c.requires.table))
+    let outer = c.args.vars.now in
+    let vars = outer.vars in
+    let bs = c.args.bindings.now in
+    let group = c.in-Some.group in
+    let g = of_some (NotAllOfTerms s kinds bs) (λ (g : Group). IsGroup s kinds bs g) c.in_ok-group.field-0 group c.in-Some.is c.in_ok-group.ensures in
+    let inside = group_inside s kinds bs group c.as_slice.result.now outer c.with_group-inner.result c.requires.ready g c.as_slice.ensures.value c.with_group-inner.ensures.types c.with_group-inner.ensures.kinds in
+    (omega (arith, c.decreases), (inside.set, c.requires.table))
 
 pub infer_letrec-returns-then-not-branch : goal.infer_letrec-returns-then-not-branch
 infer_letrec-returns-then-not-branch t c =
     let s = setting_in c.args.scene.now in
     let kinds = reverse c.args.kinds.now in
+    let outer = c.args.vars.now in
+    let vars = outer.vars in
     let bs = c.args.bindings.now in
-    let_types bs (λ h. not_true _ c.if-not-branch.true (c.in_ok-have_their_types.ensures.1 (subst (λ vars. HaveTheirTypes s kinds vars bs) (sym c.with_group-inner.ensures) h)))
+    let group = c.in-Some.group in
+    let g = of_some (NotAllOfTerms s kinds bs) (λ (g : Group). IsGroup s kinds bs g) c.in_ok-group.field-0 group c.in-Some.is c.in_ok-group.ensures in
+    let inside = group_inside s kinds bs group c.as_slice.result.now outer c.with_group-inner.result c.requires.ready g c.as_slice.ensures.value c.with_group-inner.ensures.types c.with_group-inner.ensures.kinds in
+    let_types bs (λ h. not_true _ c.if-not-branch.true (c.in_ok-have_their_types.ensures.1 (subst (λ vars. HaveTheirTypes s kinds vars bs) (sym inside.vars) h)))
 
 pub infer_letrec-returns : goal.infer_letrec-returns
 infer_letrec-returns t c =
     let s = setting_in c.args.scene.now in
     let kinds = reverse c.args.kinds.now in
-    let body = c.args.body.now in
+    let outer = c.args.vars.now in
+    let vars = outer.vars in
     let bs = c.args.bindings.now in
+    let group = c.in-Some.group in
+    let g = of_some (NotAllOfTerms s kinds bs) (λ (g : Group). IsGroup s kinds bs g) c.in_ok-group.field-0 group c.in-Some.is c.in_ok-group.ensures in
+    let inside = group_inside s kinds bs group c.as_slice.result.now outer c.with_group-inner.result c.requires.ready g c.as_slice.ensures.value c.with_group-inner.ensures.types c.with_group-inner.ensures.kinds in
+    let body = c.args.body.now in
     let found = c.in-Some-2.found in
-    let typed = subst (λ vars. IsTyped s kinds vars body found) c.with_group-inner.ensures (answer_some s kinds c.with_group-inner.result.vars body c.in_ok-found.field-0 found c.in-Some-2.is c.in_ok-found.ensures) in
-    let have = subst (λ vars. HaveTheirTypes s kinds vars bs) c.with_group-inner.ensures (c.in_ok-have_their_types.ensures.0 c.if-not-branch.false) in
-    let_typed bs c.in-Some.kind found c.in-Some.ensures typed (sym c.has_functions.ensures ∙ c.if-not-has_functions.false) have
+    let typed = subst (λ vars. IsTyped s kinds vars body found) inside.vars (answer_some s kinds c.with_group-inner.result.vars body c.in_ok-found.field-0 found c.in-Some-2.is c.in_ok-found.ensures) in
+    let have = subst (λ vars. HaveTheirTypes s kinds vars bs) inside.vars (c.in_ok-have_their_types.ensures.0 c.if-not-branch.false) in
+    let_typed bs group.kind found g.kind typed (sym c.has_functions.ensures ∙ c.if-not-has_functions.false) have
 
 pub have_their_types-has_type-requires : goal.have_their_types-has_type-requires
 have_their_types-has_type-requires t c =
@@ -379,8 +428,9 @@ has_type-returns-in_ok-same-in-Some t c =
     let s = setting_in c.args.scene.now in
     let kinds = reverse c.args.kinds.now in
     let vars = c.args.vars.now.vars in
-    up_to_told c.args.ty.now c.in-Some.found c.in_ok-same-in-Some.field-0 c.requires.ready
-    (answer_some s kinds vars c.args.term.now c.in_ok-found.field-0 c.in-Some.found c.in-Some.is c.in_ok-found.ensures) c.in_ok-same-in-Some.ensures
+    up_to_told c.args.ty.now c.in-Some.found c.in_ok-same-in-Some.field-0 c.requires.ready.0
+    (answer_some s kinds vars c.args.term.now c.in_ok-found.field-0 c.in-Some.found c.in-Some.is c.in_ok-found.ensures)
+    (subst (λ (u : TypeTree). IsTrue c.in_ok-same-in-Some.field-0 ↔ SameTypes c.args.ty.now u) c.ty.ensures c.in_ok-same-in-Some.ensures)
 
 pub has_type-returns-in-None : goal.has_type-returns-in-None
 has_type-returns-in-None t c =
@@ -413,7 +463,7 @@ infer_vector-returns t c =
     let count : c.in_ok-len.len ≡ length c.args.elements.now = omega (arith, c.in_ok-len.ensures.narrow) in
     vec_typed c.args.ty.now c.in-Some.kind c.args.elements.now c.in_ok-len.len _ c.in-Some.ensures
     (each_all P c.args.elements.now c.loop-e.e-index (omega (arith, c.loop-e-test.false)) c.loop-e.invariant) count
-    (c.in_ok-ty.ensures ∙ (λ i. vector (c.nat.ensures i) (c.in_ok-copy.ensures i))) refl
+    c.in_ok-ty.ensures refl
 
 -- cases
 pub infer_case-infer-requires : goal.infer_case-infer-requires
@@ -432,8 +482,8 @@ infer_case-returns-then-not-is_looked_at t c =
     let kinds = reverse c.args.kinds.now in
     let vars = c.args.vars.now.vars in
     let on = c.in-Some.on in
-    case_looked c.args.alts.now on c.requires.ready (answer_some s kinds vars c.args.on.now c.in_ok-on.field-0 on c.in-Some.is c.in_ok-on.ensures)
-    (looked_none on.ty (sym c.is_looked_at.ensures ∙ c.if-not-is_looked_at.true))
+    case_looked c.args.alts.now on c.requires.ready.0 (answer_some s kinds vars c.args.on.now c.in_ok-on.field-0 on c.in-Some.is c.in_ok-on.ensures)
+    (looked_none on.ty (sym (ap is_looked_at c.ty.ensures) ∙ sym c.is_looked_at.ensures ∙ c.if-not-is_looked_at.true))
 
 pub infer_case-returns-then-not-branch : goal.infer_case-returns-then-not-branch
 infer_case-returns-then-not-branch t c =
@@ -455,7 +505,7 @@ infer_case-returns t c =
     let on = c.in-Some.on in
     let alts = c.args.alts.now in
     let typed = answer_some s kinds vars c.args.on.now c.in_ok-on.field-0 on c.in-Some.is c.in_ok-on.ensures in
-    let looked = looked_found on.ty (sym c.is_looked_at.ensures ∙ c.if-not-is_looked_at.false) in
+    let looked = looked_found on.ty (sym (ap is_looked_at c.ty.ensures) ∙ sym c.is_looked_at.ensures ∙ c.if-not-is_looked_at.false) in
     let hidden = c.in_ok-none_hidden.ensures.0 c.if-not-branch.false in
     ok_more c.infer_alts.result (λ r. (e : TermTree) → IsTyped s kinds vars e on → IsLookedAt on.ty → NoneHidden (alts_of alts) → IsAnswer s kinds vars (case_of e (alts_of alts)) r) (IsAnswer s kinds vars (case_of c.args.on.now (alts_of alts)))
     (λ r h. h c.args.on.now typed looked hidden) c.infer_alts.ensures
@@ -471,7 +521,7 @@ infer_alts-returns-in_default t c e d looked hidden =
     let vars = c.args.vars.now.vars in
     let on = c.args.on.now in
     let a = c.alt-item.result in
-    case_alt c.args.alts.now on c.loop-alt.alt-index a _ c.requires.ready d c.loop-alt-test.true c.alt-item.is
+    case_alt c.args.alts.now on c.loop-alt.alt-index a _ c.requires.ready.0 d c.loop-alt-test.true c.alt-item.is
     (of_none (GivesNothing s kinds vars on.ty a) (λ f. Gives s kinds vars on.ty a f) c.in_ok-next.field-0 c.in_default.not-Some c.in_ok-next.ensures)
 
 pub infer_alts-returns-in_default-2 : goal.infer_alts-returns-in_default-2
@@ -483,7 +533,7 @@ infer_alts-returns-in_default-2 t c e d looked hidden =
     let a = c.alt-item.result in
     let next = c.in-Some.next in
     let gives = of_some (GivesNothing s kinds vars on.ty a) (λ f. Gives s kinds vars on.ty a f) c.in_ok-next.field-0 next c.in-Some.is c.in_ok-next.ensures in
-    joined_none on c.args.alts.now c.loop-alt.alt-index a _ c.loop-alt.given next c.requires.ready d c.loop-alt-test.true c.alt-item.is c.loop-alt.invariant gives
+    joined_none on c.args.alts.now c.loop-alt.alt-index a _ c.loop-alt.given next c.requires.ready.0 d c.loop-alt-test.true c.alt-item.is c.loop-alt.invariant gives
     (nothing_joined on c.loop-alt.given next c.in_ok-so_far.field-0 c.in_default-2.not-Some c.in_ok-so_far.ensures)
 
 pub infer_alts-loop-alt-preserved : goal.infer_alts-loop-alt-preserved
@@ -504,37 +554,43 @@ infer_alts-returns t c e d looked hidden =
     together_told c.args.on.now c.args.alts.now c.loop-alt.alt-index c.loop-alt.given (omega (arith, c.loop-alt-test.false)) c.loop-alt.invariant d looked hidden
 
 pub infer_alt-bound_types-requires : goal.infer_alt-bound_types-requires
-infer_alt-bound_types-requires t c = record { sound = c.requires.ready.0; table = c.requires.table; kinded = (c.args.on.now.kind, c.requires.on) }
+infer_alt-bound_types-requires t c =
+    record { sound = c.requires.ready.0.0; table = c.requires.table; kinded = (c.args.on.now.kind, subst (λ (u : TypeTree). HasKind (setting_in c.args.scene.now) (reverse c.args.kinds.now) u c.args.on.now.kind) (sym c.ty.ensures) c.requires.on) }
 
 pub infer_alt-returns-in_default : goal.infer_alt-returns-in_default
 infer_alt-returns-in_default t c bound u b d =
     let s = setting_in c.args.scene.now in
     let kinds = reverse c.args.kinds.now in
     let on = c.args.on.now in
-    let q = c.args.alt.now.pattern in
-    of_none (BindsNothing s kinds on.ty q) (λ (bound : Vec TypeTree Global). BindsFound s kinds on.ty q bound.items) c.in_ok-bound.field-0 c.in_default.not-Some c.in_ok-bound.ensures bound b
+    let a = c.args.alt.now in
+    let told = subst (λ (u : TypeTree). MatchOption c.in_ok-bound.field-0 (BindsNothing s kinds u a.pattern) (λ (b : Vec Found Global). BindsKinded s kinds u a.pattern b.items)) c.ty.ensures c.in_ok-bound.ensures in
+    of_none (BindsNothing s kinds on.ty a.pattern) (λ (b : Vec Found Global). BindsKinded s kinds on.ty a.pattern b.items) c.in_ok-bound.field-0 c.in_default.not-Some told bound b
 
 pub infer_alt-infer-requires : goal.infer_alt-infer-requires
 infer_alt-infer-requires t c =
     let s = setting_in c.args.scene.now in
     let kinds = reverse c.args.kinds.now in
-    let vars = c.args.vars.now.vars in
+    let outer = c.args.vars.now in
+    let vars = outer.vars in
     let on = c.args.on.now in
-    let q = c.args.alt.now.pattern in
-    let bound = c.in-Some.bound.items in
-    let binds = of_some (BindsNothing s kinds on.ty q) (λ (bound : Vec TypeTree Global). BindsFound s kinds on.ty q bound.items) c.in_ok-bound.field-0 c.in-Some.bound c.in-Some.is c.in_ok-bound.ensures in
-    let inner = c.with_fields-inner.ensures ∙ ap (λ ts. with_more ts vars) c.deref.ensures.value in
-    (omega (arith, c.decreases), (subst (IsReady s kinds) (sym inner) (ready_more s kinds vars bound c.requires.ready binds.typed), c.requires.table))
+    let a = c.args.alt.now in
+    let told = subst (λ (u : TypeTree). MatchOption c.in_ok-bound.field-0 (BindsNothing s kinds u a.pattern) (λ (b : Vec Found Global). BindsKinded s kinds u a.pattern b.items)) c.ty.ensures c.in_ok-bound.ensures in
+    let bound = c.in-Some.bound in
+    let binds = of_some (BindsNothing s kinds on.ty a.pattern) (λ (b : Vec Found Global). BindsKinded s kinds on.ty a.pattern b.items) c.in_ok-bound.field-0 bound c.in-Some.is told in
+    let inside = fields_inside s kinds bound.items c.deref.result.now outer c.with_fields-inner.result c.requires.ready binds.0.typed binds.1 c.deref.ensures.value c.with_fields-inner.ensures.types c.with_fields-inner.ensures.kinds in
+    (omega (arith, c.decreases), (inside.set, c.requires.table))
 
 pub infer_alt-returns : goal.infer_alt-returns
 infer_alt-returns t c =
     let s = setting_in c.args.scene.now in
     let kinds = reverse c.args.kinds.now in
-    let vars = c.args.vars.now.vars in
+    let outer = c.args.vars.now in
+    let vars = outer.vars in
     let on = c.args.on.now in
     let a = c.args.alt.now in
-    let bound = c.in-Some.bound.items in
-    let binds = of_some (BindsNothing s kinds on.ty a.pattern) (λ (bound : Vec TypeTree Global). BindsFound s kinds on.ty a.pattern bound.items) c.in_ok-bound.field-0 c.in-Some.bound c.in-Some.is c.in_ok-bound.ensures in
-    let inner = c.with_fields-inner.ensures ∙ ap (λ ts. with_more ts vars) c.deref.ensures.value in
+    let told = subst (λ (u : TypeTree). MatchOption c.in_ok-bound.field-0 (BindsNothing s kinds u a.pattern) (λ (b : Vec Found Global). BindsKinded s kinds u a.pattern b.items)) c.ty.ensures c.in_ok-bound.ensures in
+    let bound = c.in-Some.bound in
+    let binds = of_some (BindsNothing s kinds on.ty a.pattern) (λ (b : Vec Found Global). BindsKinded s kinds on.ty a.pattern b.items) c.in_ok-bound.field-0 bound c.in-Some.is told in
+    let inside = fields_inside s kinds bound.items c.deref.result.now outer c.with_fields-inner.result c.requires.ready binds.0.typed binds.1 c.deref.ensures.value c.with_fields-inner.ensures.types c.with_fields-inner.ensures.kinds in
     ok_more c.infer.result (IsAnswer s kinds c.with_fields-inner.result.vars a.body) (λ r. MatchOption r (GivesNothing s kinds vars on.ty a) (λ f. Gives s kinds vars on.ty a f))
-    (λ r h. gives_told s kinds vars on.ty a bound on.kind r c.requires.ready c.requires.on binds (subst (λ vars. IsAnswer s kinds vars a.body r) inner h)) c.infer.ensures
+    (λ r h. gives_told s kinds vars on.ty a (found_types bound.items) on.kind r c.requires.ready.0 c.requires.on binds.0 (subst (λ vars. IsAnswer s kinds vars a.body r) inside.vars h)) c.infer.ensures

@@ -35,6 +35,9 @@ decreases-infer_args l = 4 * args_size l.args.now + 1
 abbrev pub decreases-infer_applied : goal.decreases-infer_applied
 decreases-infer_applied l = 4 * args_size (l.arg.now ∷ [])
 
+abbrev pub decreases-infer_at_term : goal.decreases-infer_at_term
+decreases-infer_at_term l = 4 * tree_size l.term.now + 4
+
 abbrev pub decreases-infer_head : goal.decreases-infer_head
 decreases-infer_head l = 4 * tree_size (tree_of l.head.now) + 2
 

@@ -1,46 +1,55 @@
-use Rattle.std.proofs.Common.{◌≡◌, ◌-◌, length, sym, ap, ◌∙◌, arith}
+use Rattle.std.proofs.Common.{Some, Option, refl, sym, ap, ◌∙◌, subst, arith}
 use Rattle.std.specs.List.{slice_get}
 use Rattle.chw_types.specs.TypeMoves.{shift}
-use Rattle.chw_terms.specs.declared.term.Binding.{Binding}
-use Rattle.term_types.specs.VarsView.{in_scope}
-use Rattle.term_types.proofs.VarsFound.{raised_all, raised_under, inner_raised, outer_raised, bound_raised, types_of, types_length}
+use Rattle.chw_typing.specs.Scopes.{under_binder}
+use Rattle.term_types.specs.declared.found.Found.{Found}
+use Rattle.term_types.specs.declared.found.Kinded.{Kinded}
+use Rattle.term_types.specs.InScope.{InScope}
+use Rattle.term_types.specs.VarsView.{in_scope, IsAt}
+use Rattle.term_types.proofs.VarsFound.{raised_all, raised_under, at_moved, at_bound, at_past}
 use Rattle.term_types.proofs.vars.Vars.+at.Goals as goal
 
 pub returns-in_ok-at-in-UnderType : goal.returns-in_ok-at-in-UnderType
 returns-in_ok-at-in-UnderType t c =
     let outer = c.in-UnderType.outer.now in
-    c.in_ok-at-in-UnderType.ensures
-    ∙ ap (λ by. slice_get (raised_all by outer.vars) c.args.number) c.in_ok-by-in-UnderType.ensures
-    ∙ ap (λ ts. slice_get ts c.args.number) (raised_under outer.vars c.args.by)
-    ∙ ap (λ v. slice_get (raised_all c.args.by v.vars) c.args.number) (ap in_scope (sym c.in-UnderType.is) ∙ c.self.view_is)
+    let n = c.args.number in
+    let r = c.in_ok-at-in-UnderType.field-0 in
+    subst (λ (v : InScope). IsAt (raised_all c.args.by v.vars) v.kinds n r) (ap in_scope (sym c.in-UnderType.is) ∙ c.self.view_is)
+    (at_moved _ (raised_all c.args.by (under_binder outer.vars)) outer.kinds outer.kinds n n r
+    (ap (λ by. slice_get (raised_all by outer.vars) n) c.in_ok-by-in-UnderType.ensures ∙ ap (λ ts. slice_get ts n) (raised_under outer.vars c.args.by)) refl c.in_ok-at-in-UnderType.ensures)
 
-pub returns-then-number-bound : goal.returns-then-number-bound
-returns-then-number-bound t c =
+pub returns-then-number-count : goal.returns-then-number-count
+returns-then-number-count t c =
     let outer = c.in-OfGroup.outer.now in
-    bound_raised c.in-OfGroup.bindings.now outer.vars c.args.number c.args.by c.index-bindings-bound.result c.in_ok-raised-in-OfGroup.field-0 (omega (arith, c.if-number-bound.true)) c.index-bindings-bound.is
-    (c.in_ok-raised-in-OfGroup.ensures ∙ ap (λ (b : Binding). shift b.ty 0 c.args.by) (sym c.index-bindings-bound.is))
-    ∙ ap (λ v. slice_get (raised_all c.args.by v.vars) c.args.number) (ap in_scope (sym c.in-OfGroup.is) ∙ c.self.view_is)
+    let n = c.args.number in
+    let r = c.in_ok-written-in-OfGroup.field-0 in
+    subst (λ (v : InScope). IsAt (raised_all c.args.by v.vars) v.kinds n (Some r)) (ap in_scope (sym c.in-OfGroup.is) ∙ c.self.view_is)
+    (at_bound (λ (k : Kinded). k.ty.now) (λ (k : Kinded). k.kind) c.in-OfGroup.bound.now outer.vars outer.kinds n c.args.by c.index-bound-count.result r (omega (arith, c.if-number-count.true)) c.index-bound-count.is
+    (c.in_ok-written-in-OfGroup.ensures.0 ∙ ap (λ (k : Kinded). shift k.ty.now 0 c.args.by) (sym c.index-bound-count.is))
+    (c.in_ok-written-in-OfGroup.ensures.1 ∙ ap (λ (k : Kinded). k.kind) (sym c.index-bound-count.is)))
 
 pub returns-in_ok-at-in-OfGroup : goal.returns-in_ok-at-in-OfGroup
 returns-in_ok-at-in-OfGroup t c =
     let outer = c.in-OfGroup.outer.now in
-    let new = types_of c.in-OfGroup.bindings.now in
-    let many : length new ≡ length c.in-OfGroup.bindings.now = types_length c.in-OfGroup.bindings.now in
-    c.in_ok-at-in-OfGroup.ensures
-    ∙ ap (λ n. slice_get (raised_all c.args.by outer.vars) (c.args.number - n)) (sym many)
-    ∙ outer_raised new outer.vars c.args.number c.args.by (omega (arith, many, c.if-number-bound.false))
-    ∙ ap (λ v. slice_get (raised_all c.args.by v.vars) c.args.number) (ap in_scope (sym c.in-OfGroup.is) ∙ c.self.view_is)
+    let n = c.args.number in
+    let r = c.in_ok-at-in-OfGroup.field-0 in
+    subst (λ (v : InScope). IsAt (raised_all c.args.by v.vars) v.kinds n r) (ap in_scope (sym c.in-OfGroup.is) ∙ c.self.view_is)
+    (at_past (λ (k : Kinded). k.ty.now) (λ (k : Kinded). k.kind) c.in-OfGroup.bound.now outer.vars outer.kinds n c.args.by r (omega (arith, c.if-number-count.false)) c.in_ok-at-in-OfGroup.ensures)
 
-pub returns-then-number-bound-2 : goal.returns-then-number-bound-2
-returns-then-number-bound-2 t c =
+pub returns-then-number-count-2 : goal.returns-then-number-count-2
+returns-then-number-count-2 t c =
     let outer = c.in-OfPattern.outer.now in
-    c.in_ok-raised_last-in-OfPattern.ensures
-    ∙ inner_raised c.in-OfPattern.types.now outer.vars c.args.number c.args.by (omega (arith, c.if-number-bound-2.true))
-    ∙ ap (λ v. slice_get (raised_all c.args.by v.vars) c.args.number) (ap in_scope (sym c.in-OfPattern.is) ∙ c.self.view_is)
+    let n = c.args.number in
+    let r = c.in_ok-found_again-in-OfPattern.field-0 in
+    subst (λ (v : InScope). IsAt (raised_all c.args.by v.vars) v.kinds n (Some r)) (ap in_scope (sym c.in-OfPattern.is) ∙ c.self.view_is)
+    (at_bound (λ (f : Found). f.ty) (λ (f : Found). f.kind) c.in-OfPattern.bound.now outer.vars outer.kinds n c.args.by c.index-bound-count-then-number-count-2.result r (omega (arith, c.if-number-count-2.true)) c.index-bound-count-then-number-count-2.is
+    (c.in_ok-found_again-in-OfPattern.ensures.0 ∙ ap (λ (f : Found). shift f.ty 0 c.args.by) (sym c.index-bound-count-then-number-count-2.is))
+    (c.in_ok-found_again-in-OfPattern.ensures.1 ∙ ap (λ (f : Found). f.kind) (sym c.index-bound-count-then-number-count-2.is)))
 
 pub returns-in_ok-at-in-OfPattern : goal.returns-in_ok-at-in-OfPattern
 returns-in_ok-at-in-OfPattern t c =
     let outer = c.in-OfPattern.outer.now in
-    c.in_ok-at-in-OfPattern.ensures
-    ∙ outer_raised c.in-OfPattern.types.now outer.vars c.args.number c.args.by (omega (arith, c.if-number-bound-2.false))
-    ∙ ap (λ v. slice_get (raised_all c.args.by v.vars) c.args.number) (ap in_scope (sym c.in-OfPattern.is) ∙ c.self.view_is)
+    let n = c.args.number in
+    let r = c.in_ok-at-in-OfPattern.field-0 in
+    subst (λ (v : InScope). IsAt (raised_all c.args.by v.vars) v.kinds n r) (ap in_scope (sym c.in-OfPattern.is) ∙ c.self.view_is)
+    (at_past (λ (f : Found). f.ty) (λ (f : Found). f.kind) c.in-OfPattern.bound.now outer.vars outer.kinds n c.args.by r (omega (arith, c.if-number-count-2.false)) c.in_ok-at-in-OfPattern.ensures)

@@ -1,0 +1,46 @@
+-- The kinds of the declared types of definitions.
+use Rattle.std.proofs.Common.{◌≡◌, ℕ, Option, Some, None, refl, sym, ap, ◌∙◌, subst, List, [], ◌∷◌, map, length}
+use Rattle.std.specs.List.{slice_get}
+use Rattle.std.proofs.lemmas.Option.{same_Some}
+use Rattle.chw_types.specs.declared.kind.Kind.{Kind}
+use Rattle.chw_types.specs.declared.declarations.Data.{Data}
+use Rattle.chw_types.specs.TypeTree.{TypeTree}
+use Rattle.chw_types.specs.KindFound.{kind_found}
+use Rattle.chw_types.specs.Kinds.{HasNoKind}
+use Rattle.chw_types.proofs.KindsFound.{found_is_kind, kind_is_found}
+use Rattle.chw_types.proofs.KindsKept.{closed_anywhere}
+use Rattle.chw_terms.specs.TermTree.{global}
+use Rattle.chw_terms.specs.declared.program.Def.{Def}
+use Rattle.chw_typing.specs.Scopes.{Setting, HasKind}
+use Rattle.chw_typing.proofs.Lists.{found_in_map}
+use Rattle.found_types.specs.Finding.{f_global}
+use Rattle.term_types.specs.Answers.{HasNoType, IsTyped, IsReady}
+use Rattle.term_types.specs.declared.found.Found.{Found}
+
+pub nothing_found : (datas : List Data) (domains : ℕ) (scope : List Kind) (t : TypeTree) → HasNoKind datas domains scope t → kind_found datas domains scope t ≡ None
+nothing_found datas domains scope t never = at (kind_found datas domains scope t) refl
+  where
+    at : (o : Option Kind) → kind_found datas domains scope t ≡ o → o ≡ None
+    at None e = refl
+    at (Some k) e = absurd (never k (found_is_kind datas domains scope t k e))
+
+-- the kind in the signature is the definition's
+kind_read : (s : Setting) (defs : List Def) (ks : List (Option Kind)) (n : ℕ) (it : Def) (k : Kind) → ks ≡ map (λ d. kind_found s.datas s.domains [] d.ty) defs → slice_get defs n ≡ Some it → slice_get ks n ≡ Some (Some k) → HasKind s [] it.ty k
+kind_read s defs ks n it k all at e =
+    let f = λ (d : Def). kind_found s.datas s.domains [] d.ty in
+    let read : Some (f it) ≡ Some (Some k) = sym (found_in_map f defs n it at) ∙ ap (λ xs. slice_get xs n) (sym all) ∙ e in
+    found_is_kind s.datas s.domains [] it.ty k (same_Some (f it) (Some k) read)
+
+-- a definition whose kind is in the signature
+pub global_signed : (s : Setting) (kinds : List Kind) (vars : List TypeTree) (defs : List Def) (ks : List (Option Kind)) (n : ℕ) (it : Def) (f : Found) → s.defs ≡ map (λ d. d.ty) defs → ks ≡ map (λ d. kind_found s.datas s.domains [] d.ty) defs → slice_get defs n ≡ Some it → slice_get ks n ≡ Some (Some f.kind) → f.ty ≡ it.ty → IsTyped s kinds vars (global n) f
+global_signed s kinds vars defs ks n it f types all at e is =
+    let typed : slice_get s.defs n ≡ Some f.ty = ap (λ ts. slice_get ts n) types ∙ found_in_map (λ (d : Def). d.ty) defs n it at ∙ ap Some (sym is) in
+    let kind = kind_read s defs ks n it f.kind all at e in
+    (f_global typed, subst (λ t. HasKind s kinds t f.kind) (sym is) (closed_anywhere kind kinds))
+
+-- each definition of a sound setting has one there
+pub global_unsigned : (s : Setting) (kinds : List Kind) (vars : List TypeTree) (defs : List Def) (ks : List (Option Kind)) (n : ℕ) (it : Def) → IsReady s kinds vars → s.defs ≡ map (λ d. d.ty) defs → ks ≡ map (λ d. kind_found s.datas s.domains [] d.ty) defs → slice_get defs n ≡ Some it → ((k : Kind) → slice_get ks n ≡ Some (Some k) → ⊥) → HasNoType s kinds vars (global n)
+global_unsigned s kinds vars defs ks n it h types all at never t d =
+    let f = λ (d : Def). kind_found s.datas s.domains [] d.ty in
+    let closed = h.0.defs n it.ty (ap (λ ts. slice_get ts n) types ∙ found_in_map (λ (d : Def). d.ty) defs n it at) in
+    never closed.kind (ap (λ xs. slice_get xs n) all ∙ found_in_map f defs n it at ∙ ap Some (kind_is_found closed.has))
