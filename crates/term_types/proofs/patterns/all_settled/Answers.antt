@@ -14,13 +14,8 @@ loop-field-preserved c =
     let l = c.loop-field in
     let u = c.in_ok-ty.ty in
     let found = c.in-Some.found in
-<<<<<<< HEAD
-    let settled = of_some (LacksKindUpTo s kinds u) (λ (f : Found). IsSettled s kinds u f) c.in_ok-found.field-0 found c.in-Some.is c.in_ok-found.ensures in
-    settled_more s kinds c.args.fields.now c.args.args.now l.bound.items c.push.new.self.items l.field-index c.field-item.result _ found.ty u found.kind c.loop-field-test.true c.field-item.is c.in_ok-ty.ensures.is settled c.in_ok-push-in-Some.ensures.items l.invariant
-=======
     let each = of_some (LacksKindUpTo s kinds u) (λ (f : Found). IsSettled s kinds u f) c.in_ok-found.field-0 found c.in-Some.is c.in_ok-found.ensures in
-    settled_more s kinds c.args.fields.now c.args.args.now l.bound.items c.push.new.self.items l.field-index c.field-item.result _ u found c.loop-field-test.true c.field-item.is c.in_ok-ty.ensures each c.in_ok-push-in-Some.ensures.items l.invariant
->>>>>>> e398b1d343d0657a0df887ca0d1000720ed59a1f
+    settled_more s kinds c.args.fields.now c.args.args.now l.bound.items c.push.new.self.items l.field-index c.field-item.result _ u found c.loop-field-test.true c.field-item.is c.in_ok-ty.ensures.is each c.in_ok-push-in-Some.ensures.items l.invariant
 
 pub returns-in-None : goal.returns-in-None
 returns-in-None c =

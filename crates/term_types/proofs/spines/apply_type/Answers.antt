@@ -18,10 +18,5 @@ returns-then-not-same_kind c =
 
 pub returns : goal.returns
 returns c =
-<<<<<<< HEAD
-    type_told (setting_in c.args.scene.now) (reverse c.args.kinds.now) c.args.fun.ty c.args.arg.now c.in-Some.of c.in_ok-ty.ty c.in-Some-kind_in.of_arg c.in-Some.kind c.in_ok-settled.field-0
-    (bound_is c.args.fun.ty c.in-Some.of c.in-Some.kind c.in-Some.ensures) c.in-Some-kind_in.ensures (sym c.same_kind.ensures ∙ c.if-not-same_kind.false) c.in_ok-ty.ensures.is c.in_ok-settled.ensures
-=======
     type_told (setting_in c.args.scene.now) (reverse c.args.kinds.now) c.args.fun.ty c.args.arg.now c.in-Some.of.now c.in_ok-ty.ty c.in-Some-kind_in.of_arg c.in-Some.kind c.in_ok-settled.field-0
-    (sym c.ty.ensures ∙ c.in-Some.ensures) c.in-Some-kind_in.ensures (sym c.same_kind.ensures ∙ c.if-not-same_kind.false) c.in_ok-ty.ensures c.in_ok-settled.ensures
->>>>>>> e398b1d343d0657a0df887ca0d1000720ed59a1f
+    (sym c.ty.ensures ∙ c.in-Some.ensures) c.in-Some-kind_in.ensures (sym c.same_kind.ensures ∙ c.if-not-same_kind.false) c.in_ok-ty.ensures.is c.in_ok-settled.ensures
