@@ -2,10 +2,9 @@
 use Rattle.std.proofs.Common.{◌≡◌, true, false, Option, refl, sym, ap, ◌∙◌, subst, List, [], ◌∷◌}
 use Rattle.std.specs.Prelude.{Some, None, MatchOption}
 use Rattle.std.proofs.lemmas.Bool.{false≢true}
-use Rattle.std.proofs.lemmas.Option.{none-some, same_Some}
 use Rattle.chw_types.specs.declared.kind.Kind.{Kind}
 use Rattle.chw_types.specs.declared.kind.Kind.TheVariants.{Nat, Dom, Val, Cir}
-use Rattle.chw_types.specs.TypeTree.{TypeTree, ty_var, nat_lit, nat_sum, nat_product, domain, scalar, vector, data_of, fun, signal, for_all}
+use Rattle.chw_types.specs.TypeTree.{TypeTree, fun, for_all}
 use Rattle.chw_types.specs.TypeMoves.{put}
 use Rattle.chw_types.specs.SameFound.{same_kind}
 use Rattle.chw_types.specs.SameTypes.{SameTypes}

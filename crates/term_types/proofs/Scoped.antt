@@ -1,15 +1,15 @@
 -- The kinds of the variables in scope.
-use Rattle.std.proofs.Common.{◌≡◌, ℕ, suc, zero, ◌+◌, ◌<◌, ◌≤◌, Option, Some, None, refl, sym, ap, ◌∙◌, subst, List, [], ◌∷◌, ◌++◌, map, length, reverse, take, get_or, arith}
+use Rattle.std.proofs.Common.{◌≡◌, ℕ, suc, zero, ◌+◌, ◌<◌, ◌≤◌, Some, refl, sym, ap, ◌∙◌, subst, List, [], ◌∷◌, ◌++◌, map, length, reverse, take, get_or, arith}
 use Rattle.std.specs.List.{slice_get}
 use Rattle.std.proofs.lemmas.List.{map-append, take_all, reverse-reverse, append-nil}
 use Rattle.std.proofs.lemmas.Option.{same_Some}
 use Rattle.chw_types.specs.declared.kind.Kind.{Kind}
 use Rattle.chw_types.specs.TypeTree.{TypeTree}
 use Rattle.chw_types.specs.Kinds.{IsOfTerms}
-use Rattle.chw_types.specs.TypeMoves.{raised, shift}
+use Rattle.chw_types.specs.TypeMoves.{raised}
 use Rattle.chw_types.proofs.KindsKept.{kind_renamed, renames_shift}
 use Rattle.chw_terms.specs.declared.term.Binding.{Binding}
-use Rattle.chw_typing.specs.Scopes.{Setting, HasKind, IsTermType, AreTermTypes, under_binder, with_more}
+use Rattle.chw_typing.specs.Scopes.{Setting, HasKind, AreTermTypes, under_binder, with_more}
 use Rattle.chw_typing.proofs.Kinded.{typed_reverse}
 use Rattle.chw_typing.proofs.Lists.{reverse_cons}
 use Rattle.term_types.specs.Answers.{IsReady, IsSet}

@@ -9,7 +9,7 @@ use Rattle.chw_types.specs.TypeMoves.{sub}
 use Rattle.chw_types.specs.Arguments.{arguments}
 use Rattle.chw_types.specs.SameTypes.{SameTypes}
 use Rattle.chw_terms.specs.declared.term.Pattern.{Pattern}
-use Rattle.chw_typing.specs.Scopes.{Setting, HasKind, AreTermTypes}
+use Rattle.chw_typing.specs.Scopes.{Setting, AreTermTypes}
 use Rattle.chw_typing.specs.HeadTypes.{widest, literal_type, PatternOf}
 use Rattle.chw_typing.specs.Typing.{Binds}
 use Rattle.found_types.specs.Finding.{settled}

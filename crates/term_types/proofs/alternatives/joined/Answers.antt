@@ -1,4 +1,4 @@
-use Rattle.std.proofs.Common.{◌≡◌, Some, None, refl, sym, subst, ◌∙◌, ◌↔◌, IsTrue}
+use Rattle.std.proofs.Common.{Some, None, refl, sym, subst, ◌∙◌, ◌↔◌, IsTrue}
 use Rattle.chw_types.specs.SameTypes.{SameTypes}
 use Rattle.chw_types.specs.TypeTree.{TypeTree}
 use Rattle.term_types.specs.Cases.{IsJoined}

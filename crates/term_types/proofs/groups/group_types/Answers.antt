@@ -1,4 +1,4 @@
-use Rattle.std.proofs.Common.{arith, refl, sym, subst, take, ◌+◌, ap, map, []}
+use Rattle.std.proofs.Common.{arith, refl, sym, subst, take, ◌+◌, []}
 use Rattle.std.specs.Prelude.{reverse}
 use Rattle.chw_types.specs.Kinds.{IsOfTerms}
 use Rattle.chw_terms.specs.declared.term.Binding.{Binding}

@@ -1,6 +1,4 @@
-use Rattle.std.proofs.Common.{◌≡◌, Some, None, Option, length, refl, sym, ap, ◌∙◌, subst, []}
-use Rattle.std.specs.Prelude.{reverse}
-use Rattle.chw_types.specs.declared.kind.Kind.{Kind}
+use Rattle.std.proofs.Common.{length, sym, subst, []}
 use Rattle.chw_types.specs.Kinds.{KindOf, HasNoKind}
 use Rattle.chw_types.proofs.KindsFound.{kind_is_found}
 use Rattle.term_types.proofs.Signed.{nothing_found}

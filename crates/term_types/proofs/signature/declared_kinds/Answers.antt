@@ -1,4 +1,4 @@
-use Rattle.std.proofs.Common.{arith, length, [], map, ap, sym, ◌∙◌}
+use Rattle.std.proofs.Common.{arith, length, [], map, ap, ◌∙◌}
 use Rattle.chw_types.specs.KindFound.{kind_found}
 use Rattle.chw_terms.specs.declared.program.Def.{Def}
 use Rattle.term_types.proofs.EachItem.{mapped_next, mapped_all}

@@ -1,6 +1,5 @@
-use Rattle.std.proofs.Common.{◌≡◌, sym, ◌∙◌, subst}
+use Rattle.std.proofs.Common.{sym, ◌∙◌}
 use Rattle.std.specs.Prelude.{reverse}
-use Rattle.chw_types.specs.TypeTree.{TypeTree, for_all}
 use Rattle.chw_typing.specs.Scopes.{setting_in}
 use Rattle.term_types.proofs.Applied.{type_unkinded, type_of_other, type_told}
 use Rattle.term_types.proofs.spines.apply_type.Goals as goal

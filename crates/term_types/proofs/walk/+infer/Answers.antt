@@ -11,9 +11,9 @@ use Rattle.chw_terms.specs.TermTree.{TermTree, app, ty_app, lam, ty_lam, letrec,
 use Rattle.chw_terms.specs.TermView.{tree_of, applied_to, applied, terms_of, group_of, alts_of}
 use Rattle.chw_typing.specs.Alternatives.{NoneHidden}
 use Rattle.chw_typing.specs.HeadTypes.{IsLookedAt}
-use Rattle.chw_typing.specs.Scopes.{HasKind, with_more, setting_in}
+use Rattle.chw_typing.specs.Scopes.{HasKind, setting_in}
 use Rattle.chw_typing.specs.Typing.{HasType, HasTypeUpTo}
-use Rattle.term_types.specs.Answers.{HasNoType, IsTyped, IsAnswer, IsReady}
+use Rattle.term_types.specs.Answers.{HasNoType, IsTyped, IsAnswer}
 use Rattle.term_types.specs.Binding.{BindsKinded, BindsNothing, is_looked_at}
 use Rattle.term_types.specs.Cases.{Gives, GivesNothing, IsJoined}
 use Rattle.term_types.specs.Forms.{Takes, TakesNot, TakesType, TakesTypeNot}

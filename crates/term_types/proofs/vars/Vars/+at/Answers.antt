@@ -1,4 +1,4 @@
-use Rattle.std.proofs.Common.{Some, Option, refl, sym, ap, ◌∙◌, subst, arith}
+use Rattle.std.proofs.Common.{Some, refl, sym, ap, ◌∙◌, subst, arith}
 use Rattle.std.specs.List.{slice_get}
 use Rattle.chw_types.specs.TypeMoves.{shift}
 use Rattle.chw_typing.specs.Scopes.{under_binder}
