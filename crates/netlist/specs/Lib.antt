@@ -5,6 +5,8 @@ pub mod Names
 pub mod NetValue
 pub mod Operators
 pub mod Orders
+pub mod PortsHold
 pub mod Sound
 pub mod Text
+pub mod WellFormed
 pub mod Wires
