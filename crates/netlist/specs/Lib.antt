@@ -1,6 +1,7 @@
 pub mod Drivers
 pub mod Feeds
 pub mod Flattened
+pub mod Marks
 pub mod Names
 pub mod NetValue
 pub mod Operators

@@ -25,12 +25,16 @@ full_name port = port.dom.number ∷ port.name
 abbrev pub FitPorts : ℕ → List Port → Type 0
 FitPorts domains ports = AllByRecursion (FitsPort domains) ports × AreDistinct (map full_name ports)
 
--- at least one domain, distinct names, resets in order and each once, inputs apart, outputs apart
-pub record PortsHold (ports : Ports) : Type 0 where
-  pub some_domain : 1 ≤ length ports.domains
+-- there is a domain, the names are distinct, and the domains with a reset stand in order, each once
+pub record DomainsHold (ports : Ports) : Type 0 where
+  pub some : 1 ≤ length ports.domains
   -- a domain's name is a capital, and then letters and digits
-  pub domain_names : AllByRecursion IsUpper ports.domains
-  pub domains_differ : AreDistinct ports.domains
-  pub resets : RiseWithin 0 (length ports.domains) ports.resets
+  pub names : AllByRecursion IsUpper ports.domains
+  pub differ : AreDistinct ports.domains
+  pub rise : RiseWithin 0 (length ports.domains) ports.resets
+
+-- the rules on domains, on inputs and on outputs hold
+pub record PortsHold (ports : Ports) : Type 0 where
+  pub domains : DomainsHold ports
   pub inputs : FitPorts (length ports.domains) ports.inputs
   pub outputs : FitPorts (length ports.domains) ports.outputs

@@ -1,5 +1,5 @@
 -- Well formed nets: the rules on the names, the widths, the drivers and the numbers of each module, in this order.
-use Rattle.std.specs.Prelude.{◌≡◌, ℕ, ◌+◌, ◌<◌, ◌≤◌, Bool, List, [], length, map, take, Some, slice_get, flat_map}
+use Rattle.std.specs.Prelude.{◌≡◌, ℕ, ◌+◌, ◌<◌, ◌≤◌, Bool, List, [], length, take, Option, Some, option_map, slice_get, IfSome, flat_map}
 use Rattle.std.specs.List.{AllByRecursion}
 use Rattle.chw_base.specs.declared.limits.TheConstants.{ADDRESS_BITS, MODULES, RAM_WORDS}
 use Rattle.chw_base.specs.declared.index.WireId.{WireId}
@@ -73,7 +73,7 @@ abbrev pub WidthsAgree : List Module → List ℕ → Cell → Type 0
 WidthsAgree earlier widths (Reg w domain initial a) = HasWidth widths w (length initial) × HasWidth widths a (length initial)
 WidthsAgree earlier widths (Ram w domain words inputs) = AgreesRam widths w words inputs
 WidthsAgree earlier widths (Use m reads drives) =
-    (used : Module) → slice_get earlier m.number ≡ Some used → AgreesUse widths used reads drives
+    IfSome (slice_get earlier m.number) (λ used. AgreesUse widths used reads drives)
 WidthsAgree earlier widths cell = FitsCell 0 widths cell
 
 -- the module's inputs, which are its first wires, and its outputs are as wide as the ports
@@ -86,15 +86,15 @@ pub record WidthsHold (net : Net) (i : ℕ) (m : Module) : Type 0 where
   pub cells : AllByRecursion (WidthsAgree (take i net.modules) m.widths) m.cells
   pub top : i + 1 ≡ length net.modules → TopWidthsHold net.ports m
 
--- the numbers of the wires that cells drive, in order
-abbrev pub all_driven : List Cell → List ℕ
-all_driven cells = map (λ w. w.number) (flat_map driven cells)
+-- the wire at this place among those that the cells drive, in order
+abbrev pub wire_driven_at : List WireId → ℕ → Option ℕ
+wire_driven_at driven place = option_map (λ w. w.number) (slice_get driven place)
 
 -- the module at this place of the net has its inputs among its wires, each other wire is driven once, and if it isn't the last, it
 -- has an output
 pub record DriversHold (net : Net) (i : ℕ) (m : Module) : Type 0 where
   pub inputs : m.inputs ≤ length m.widths
-  pub drivers : EachOnce m.inputs (length m.widths) (slice_get (all_driven m.cells))
+  pub drivers : EachOnce m.inputs (length m.widths) (wire_driven_at (flat_map driven m.cells))
   pub outputs : i + 1 < length net.modules → 1 ≤ length m.outputs
 
 -- a RAM has from one word to the most that it may have
@@ -122,18 +122,26 @@ place_of Width = 1
 place_of Driver = 2
 place_of Limit = 3
 
+-- each rule holds of the module at this place of the net
+abbrev pub EachRuleHolds : Net → ℕ → Module → Type 0
+EachRuleHolds net i m = (code : NetCode) → Holds net i m code
+
+-- the module at this place of the net breaks the rule of this code, and none before it
+pub record IsBrokenIn (net : Net) (i : ℕ) (m : Module) (code : NetCode) : Type 0 where
+  pub before : (c : NetCode) → place_of c < place_of code → Holds net i m c
+  pub broken : Holds net i m code → ⊥
+
 -- there is a module, and each rule holds of each
 pub record WellFormed (net : Net) : Type 0 where
   pub some : 1 ≤ length net.modules
-  pub rules : (i : ℕ) (m : Module) (code : NetCode) → slice_get net.modules i ≡ Some m → Holds net i m code
+  pub rules : (i : ℕ) (m : Module) → slice_get net.modules i ≡ Some m → EachRuleHolds net i m
 
 -- the rule of this code is the first that a net breaks, in its first module that breaks one
 pub record IsFirstBroken (net : Net) (i : ℕ) (code : NetCode) : Type 0 where
   pub broken_in : Module
   pub found : slice_get net.modules i ≡ Some broken_in
-  pub earlier : (j : ℕ) (m : Module) (c : NetCode) → j < i → slice_get net.modules j ≡ Some m → Holds net j m c
-  pub before : (c : NetCode) → place_of c < place_of code → Holds net i broken_in c
-  pub broken : Holds net i broken_in code → ⊥
+  pub earlier : (j : ℕ) (m : Module) → j < i → slice_get net.modules j ≡ Some m → EachRuleHolds net j m
+  pub breaks : IsBrokenIn net i broken_in code
 
 -- what is wrong with a net: it has no module, which is a limit of module 0, or this is the first rule that it breaks
 pub data IsNetFault (net : Net) : NetFault → Type 0 where
