@@ -1,5 +1,5 @@
 -- What a flat net meets as a module: widths that agree, and one driver for each wire that is no input.
-use Rattle.std.specs.Prelude.{◌≡◌, ℕ, ◌+◌, ◌-◌, ◌<◌, ◌≤◌, Bool, List, [], ◌∷◌, length, map, take, sum_by, Some, slice_get, slice_index}
+use Rattle.std.specs.Prelude.{◌≡◌, ℕ, ◌+◌, ◌-◌, ◌<◌, ◌≤◌, Bool, List, [], ◌∷◌, length, map, take, sum_by, Option, Some, slice_get, slice_index}
 use Rattle.std.specs.List.{AllByRecursion}
 use Rattle.chw_base.specs.declared.limits.TheConstants.{ADDRESS_BITS, ARITHMETIC_BITS, FLAT_WIRES, RAM_WORDS, WIRE_BITS}
 use Rattle.chw_base.specs.declared.index.WireId.{WireId}
@@ -11,6 +11,10 @@ use Rattle.netlist.specs.declared.net.Op1.{Op1}
 use Rattle.netlist.specs.declared.net.Op1.TheVariants.{Not}
 use Rattle.netlist.specs.declared.net.Op2.{Op2}
 use Rattle.netlist.specs.declared.net.Op2.TheVariants.{Add, Sub, Mul, And, Or, Xor, Eq, LtU, LtS, Shl, Shr, Sar}
+
+-- a wire may have this width
+abbrev pub IsWireWidth : ℕ → Type 0
+IsWireWidth n = (1 ≤ n) × (n ≤ WIRE_BITS)
 
 -- the wire exists, and has this width
 abbrev pub HasWidth : List ℕ → WireId → ℕ → Type 0
@@ -82,14 +86,18 @@ FitsCell domains widths (Ram w domain words inputs) =
     (domain.number < domains) × FitsRam widths w words inputs.read inputs.enable inputs.place inputs.value
 FitsCell domains widths (Use m reads drives) = ⊥
 
--- of so many wires, each but the first ones, which are inputs, is driven by exactly one of the cells
-pub record DrivenOnce (inputs wires : ℕ) (cells : List Cell) : Type 0 where
-  -- no cell drives an input
-  pub free : (place w : ℕ) → target_at cells place ≡ Some w → inputs ≤ w
+-- of so many wires, each but the first ones, which are inputs, is driven at exactly one place
+pub record EachOnce (inputs wires : ℕ) (driven_at : ℕ → Option ℕ) : Type 0 where
+  -- no input is driven
+  pub free : (place w : ℕ) → driven_at place ≡ Some w → inputs ≤ w
   -- every other wire is driven
-  pub driven : (w : ℕ) → inputs ≤ w → w < wires → (place : ℕ) × (target_at cells place ≡ Some w)
-  -- no two cells drive one wire
-  pub once : (p q w : ℕ) → target_at cells p ≡ Some w → target_at cells q ≡ Some w → p ≡ q
+  pub driven : (w : ℕ) → inputs ≤ w → w < wires → (place : ℕ) × (driven_at place ≡ Some w)
+  -- no wire is driven at two places
+  pub once : (p q w : ℕ) → driven_at p ≡ Some w → driven_at q ≡ Some w → p ≡ q
+
+-- each wire that is no input is driven by exactly one of the cells
+abbrev pub DrivenOnce : (inputs wires : ℕ) → List Cell → Type 0
+DrivenOnce inputs wires cells = EachOnce inputs wires (target_at cells)
 
 -- the cells drive the wires in order, from this one on
 abbrev pub DrivesFrom : ℕ → List Cell → Type 0
@@ -101,7 +109,7 @@ pub record Sound (flat : Flat) : Type 0 where
   -- there are at most as many wires as the limit
   pub few : length flat.widths ≤ FLAT_WIRES
   -- a wire has from 1 to 4,096 bits
-  pub widths : AllByRecursion (λ n. (1 ≤ n) × (n ≤ WIRE_BITS)) flat.widths
+  pub widths : AllByRecursion IsWireWidth flat.widths
   -- the first wires are the inputs of the ports
   pub inputs : map (λ port. port.width) flat.ports.inputs ≡ take (length flat.ports.inputs) flat.widths
   -- the outputs are wires as wide as those of the ports
