@@ -1,6 +1,6 @@
 -- The text of a stimulus. A line of it is `12* Sys! Clk: x=05 y=1f`: a count of equal events, which
--- may be missing, the domains that tick, with `!` where their reset is asserted, and each input with
--- its digits.
+-- may be missing, the domains that tick, with `!` where their reset is asserted, and each input
+-- with its digits.
 use Rattle.std.specs.Prelude.{◌≡◌, ℕ, ◌+◌, ◌<◌, ◌≤◌, Bool, IsTrue, if◌then◌else◌, ◌⊎◌}
 use Rattle.std.specs.Prelude.{List, [], ◌∷◌, ◌++◌, length, map, drop, replicate, Option, None, Some}
 use Rattle.std.specs.List.{AllByRecursion, filter, flat_map}
