@@ -4,3 +4,4 @@ pub mod Lists
 pub mod Places
 pub mod Progress
 pub mod Splits
+pub mod Unique

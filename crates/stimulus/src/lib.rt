@@ -7,6 +7,7 @@ mod cut;
 mod event;
 pub mod fault;
 mod form;
+pub mod laws;
 mod names;
 mod printing;
 mod reading;

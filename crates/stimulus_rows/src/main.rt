@@ -1,0 +1,160 @@
+//! Rows of stimuli: the events of a text, or the line that isn't taken, and the printed lines.
+//!
+//! `read "DOMAINS" "INPUTS" "TEXT"` gives the events of the text, each run of equal ones behind its
+//! count, or the fault. `lines "DOMAINS" "INPUTS" "OUTPUTS" "TEXT"` prints the lines of its events,
+//! where each output has the bits of the input in its place. DOMAINS are names, with `!` where the
+//! domain has a reset. INPUTS and OUTPUTS are a domain, a name and a width each, with `, ` between.
+#![tactic(auto)]
+
+mod ports;
+
+use chw_base::limits::DOMAINS;
+use chw_base::{DomId, NoMemory, Or, Seq};
+use chw_bits::Bits;
+use chw_clock::Event;
+use ports::{ports_of, quoted};
+use row_tables::{Unread, bytes_of, print_rows, put, put_bytes, put_number};
+use std::alloc::Global;
+use std::io;
+use stimulus::{StimCode, StimFault, print_line, read_stimulus};
+
+fn main(rt: HostRuntime) -> io::Result<()> {
+    print_rows(&rt, answer)
+}
+
+// Writes what a call gives.
+fn answer(alloc: Global, call: &str, text: &str, out: &mut Vec<u8>) -> Result<(), Or<Unread>> {
+    let words = quoted(alloc, text)?;
+    match (call, words.as_slice()) {
+        ("read", [domains, inputs, text]) => put_events(alloc, domains, inputs, text, out),
+        ("lines", [domains, inputs, outputs, text]) => {
+            put_lines(alloc, domains, inputs, outputs, text, out)
+        }
+        _ => Err(Or::Fault(Unread)),
+    }
+}
+
+fn put_events(
+    alloc: Global,
+    domains: &str,
+    inputs: &str,
+    text: &str,
+    out: &mut Vec<u8>,
+) -> Result<(), Or<Unread>> {
+    let ports = ports_of(alloc, domains, inputs, "")?;
+    let text = bytes_of(alloc, text)?;
+    match read_stimulus(alloc, &text, &ports) {
+        Ok(events) if events.is_empty() => Ok(put(out, "no events")?),
+        Ok(events) => Ok(put_runs(alloc, &events, out)?),
+        Err(Or::Fault(fault)) => Ok(put_fault(fault, out)?),
+        Err(Or::Memory) => Err(Or::Memory),
+    }
+}
+
+fn put_fault(fault: StimFault, out: &mut Vec<u8>) -> Result<(), NoMemory> {
+    put(
+        out,
+        match fault.code {
+            StimCode::S01 => "S01",
+            StimCode::S02 => "S02",
+            StimCode::S03 => "S03",
+            StimCode::S05 => "S05",
+        },
+    )?;
+    put_number(out, " line ", fault.line)
+}
+
+// Writes each run of equal events behind its count.
+fn put_runs(alloc: Global, events: &Seq<Event>, out: &mut Vec<u8>) -> Result<(), NoMemory> {
+    let mut last = Vec::new(alloc);
+    let mut count: u32 = 0;
+    for event in events.as_slice() {
+        let mut this = Vec::new(alloc);
+        put_event(event, &mut this)?;
+        if this == last {
+            count = count.saturating_add(1);
+        } else {
+            put_run(&last, count, out)?;
+            last = this;
+            count = 1;
+        }
+    }
+    put_run(&last, count, out)
+}
+
+fn put_run(event: &[u8], count: u32, out: &mut Vec<u8>) -> Result<(), NoMemory> {
+    if count > 0 {
+        put_number(out, if out.is_empty() { "" } else { "; " }, count)?;
+        out.extend_from_slice(event)?;
+    }
+    Ok(())
+}
+
+fn put_event(event: &Event, out: &mut Vec<u8>) -> Result<(), NoMemory> {
+    put(out, " ticks ")?;
+    put_domains(event.ticks.as_slice(), out)?;
+    put(out, " resets ")?;
+    put_domains(event.resets.as_slice(), out)?;
+    put(out, " inputs ")?;
+    put_inputs(event.inputs.as_slice(), out)
+}
+
+// Writes the numbers of the domains, which are a set, from the least on.
+fn put_domains(domains: &[DomId], out: &mut Vec<u8>) -> Result<(), NoMemory> {
+    if domains.is_empty() {
+        return put(out, "-");
+    }
+    let mut sign = "";
+    for number in 0..DOMAINS {
+        if domains.iter().any(|domain| domain.number == number) {
+            put_number(out, sign, number)?;
+            sign = ",";
+        }
+    }
+    Ok(())
+}
+
+fn put_inputs(inputs: &[Bits], out: &mut Vec<u8>) -> Result<(), NoMemory> {
+    if inputs.is_empty() {
+        return put(out, "-");
+    }
+    for (place, bits) in inputs.iter().enumerate() {
+        put(out, if place == 0 { "" } else { "," })?;
+        for bit in bits.as_slice() {
+            put(out, if *bit { "1" } else { "0" })?;
+        }
+    }
+    Ok(())
+}
+
+fn put_lines(
+    alloc: Global,
+    domains: &str,
+    inputs: &str,
+    outputs: &str,
+    text: &str,
+    out: &mut Vec<u8>,
+) -> Result<(), Or<Unread>> {
+    let ports = ports_of(alloc, domains, inputs, outputs)?;
+    let text = bytes_of(alloc, text)?;
+    let Ok(events) = read_stimulus(alloc, &text, &ports) else {
+        return Err(Or::Fault(Unread));
+    };
+    if events.is_empty() {
+        return Ok(put(out, "no lines")?);
+    }
+    let mut lines = Vec::new(alloc);
+    let mut number: u32 = 0;
+    for event in events.as_slice() {
+        print_line(
+            alloc,
+            number,
+            &ports,
+            event,
+            event.inputs.as_slice(),
+            &mut lines,
+        )?;
+        number = number.saturating_add(1);
+    }
+    Ok(put_bytes(out, &lines)?)
+}
