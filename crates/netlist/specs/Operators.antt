@@ -8,11 +8,13 @@ use Rattle.chw_bits.specs.Bits.{cut_of, number_of}
 use Rattle.chw_bits.specs.Bitwise.{bit_by_bit, differ, one_bit}
 use Rattle.chw_bits.specs.Integers.{signed, word_of}
 use Rattle.netlist.specs.declared.net.Cell.{Cell}
-use Rattle.netlist.specs.declared.net.Cell.TheVariants.{Const, Copy, Join, Cut, Un, Bin, Mux, Reg, Ram, Use}
+use Rattle.netlist.specs.declared.net.Cell.TheVariants.{Const, Copy, Join, Cut, Un, Bin, Mux, Reg}
+use Rattle.netlist.specs.declared.net.Cell.TheVariants.{Ram, Use}
 use Rattle.netlist.specs.declared.net.Op1.{Op1}
 use Rattle.netlist.specs.declared.net.Op1.TheVariants.{Not, RedAnd, RedOr, RedXor}
 use Rattle.netlist.specs.declared.net.Op2.{Op2}
-use Rattle.netlist.specs.declared.net.Op2.TheVariants.{Add, Sub, Mul, And, Or, Xor, Eq, LtU, LtS, Shl, Shr, Sar}
+use Rattle.netlist.specs.declared.net.Op2.TheVariants.{Add, Sub, Mul, And, Or, Xor, Eq, LtU, LtS}
+use Rattle.netlist.specs.declared.net.Op2.TheVariants.{Shl, Shr, Sar}
 
 -- `~`, and the reductions `&`, `|` and `^`, of a word
 abbrev pub operator1 : Op1 → List Bool → List Bool
