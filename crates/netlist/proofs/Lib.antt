@@ -11,6 +11,7 @@ pub mod Lengths
 pub mod Lists
 pub mod Marking
 pub mod NameForms
+pub mod OneFault
 pub mod OneValue
 pub mod Places
 pub mod Placing
