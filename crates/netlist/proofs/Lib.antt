@@ -15,6 +15,7 @@ pub mod Lengths
 pub mod Lists
 pub mod Marking
 pub mod NameForms
+pub mod OneFault
 pub mod OneValue
 pub mod Ordered
 pub mod Periods

@@ -1,6 +1,8 @@
 //! Well formed nets, and what is wrong with others.
 ghost use Rattle.std.specs.Prelude.{◌≡◌, ◌<◌, length, slice_get, Some, IfOk, MatchOption};
 ghost use Rattle.chw_base.specs.Outcome.{IfFault};
+ghost use Rattle.netlist.specs.declared.net.Net.{Net};
+ghost use Rattle.netlist.specs.declared.well_formed.NetFault.{NetFault};
 ghost use Rattle.netlist.specs.WellFormed.{EachRuleHolds, IsBrokenIn, IsNetFault, WellFormed};
 
 mod drivers;
@@ -85,3 +87,14 @@ pub fn well_formed(alloc: Global, net: &Net) -> Result<(), Or<NetFault>>
     }
     Ok(())
 }
+
+/// A well formed net has no fault.
+pub fn a_well_formed_net_has_no_fault()
+    ensures { (net : Net) (fault : NetFault) → WellFormed net → IsNetFault net fault → ⊥ }
+{}
+
+/// A net has at most one fault.
+pub fn a_net_has_one_fault()
+    ensures { (net : Net) (a b : NetFault) → IsNetFault net a → IsNetFault net b
+        → (a.module.number ≡ b.module.number) × (a.code ≡ b.code) }
+{}
