@@ -63,6 +63,7 @@ one_code net i j a b x y = by (cases_lt (place_of a) (place_of b)) (cases_lt (pl
   where
     same : i ≡ j
     same = one_module net i j a b x y
+
     by : (place_of a < place_of b) ⊎ (place_of b ≤ place_of a) → (place_of b < place_of a) ⊎ (place_of a ≤ place_of b) → a ≡ b
     by (inl h) k = absurd (not_before net i j a b same x y h)
     by (inr h) (inl k) = absurd (not_before net j i b a (sym same) y x k)

@@ -7,12 +7,11 @@ use Rattle.netlist.specs.WellFormed.{wire_driven_at}
 abbrev pub IsUnmarked : List Bool → Type 0
 IsUnmarked marks = (w : ℕ) → slice_index_or marks w false ≡ false
 
--- the wires of this list so far are those that are marked, none of them is an input, and none
--- stands twice
+-- the wires of this list so far are those that are marked, none is an input, and none stands twice
 pub record Marks (inputs : ℕ) (driven : List WireId) (marks : List Bool) (so_far : ℕ) : Type 0 where
-  pub marked : (p w : ℕ) → p < so_far → wire_driven_at driven p ≡ Some w → (inputs ≤ w)
-      × (slice_index_or marks w false ≡ true)
-  pub from : (w : ℕ) → slice_index_or marks w false ≡ true → (p : ℕ) × (p < so_far)
-      × (wire_driven_at driven p ≡ Some w)
+  pub marked : (p w : ℕ) → p < so_far → wire_driven_at driven p ≡ Some w
+      → (inputs ≤ w) × (slice_index_or marks w false ≡ true)
+  pub from : (w : ℕ) → slice_index_or marks w false ≡ true
+      → (p : ℕ) × (p < so_far) × (wire_driven_at driven p ≡ Some w)
   pub apart : (p q w : ℕ) → p < so_far → q < so_far → wire_driven_at driven p ≡ Some w
       → wire_driven_at driven q ≡ Some w → p ≡ q

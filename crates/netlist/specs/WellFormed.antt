@@ -1,7 +1,6 @@
--- Well formed nets: the rules on the names, the widths, the drivers and the numbers of each module,
--- in this order.
-use Rattle.std.specs.Prelude.{◌≡◌, ℕ, ◌+◌, ◌<◌, ◌≤◌, Bool, List, [], length, take, Option, Some}
-use Rattle.std.specs.Prelude.{option_map, slice_get, IfSome, flat_map}
+-- Well formed nets: the rules on names, widths, drivers and numbers of each module, in this order.
+use Rattle.std.specs.Prelude.{◌≡◌, ℕ, ◌+◌, ◌<◌, ◌≤◌, Bool, List, [], length, take, flat_map}
+use Rattle.std.specs.Prelude.{Option, Some, option_map, slice_get, IfSome}
 use Rattle.std.specs.List.{AllByRecursion}
 use Rattle.chw_base.specs.declared.limits.TheConstants.{ADDRESS_BITS, MODULES, RAM_WORDS}
 use Rattle.chw_base.specs.declared.index.WireId.{WireId}
@@ -39,8 +38,8 @@ PartExists domains earlier (Use m reads drives) = UseExists earlier m.number rea
 PartExists domains earlier _ = Unit {0}
 
 -- all that a cell names exists
-pub record NamesExist (domains : ℕ) (earlier : List Module) (widths : List ℕ)
-    (cell : Cell) : Type 0 where
+pub record NamesExist (domains : ℕ) (earlier : List Module) (widths : List ℕ) (cell : Cell)
+    : Type 0 where
   pub driven : AllByRecursion (IsWire widths) (driven cell)
   pub read : AllByRecursion (IsWire widths) (read_by cell)
   pub part : PartExists domains earlier cell
@@ -53,13 +52,14 @@ pub record TopNamesHold (ports : Ports) (top : Module) : Type 0 where
 
 -- what the module at this place of the net names exists
 pub record NamesHold (net : Net) (i : ℕ) (m : Module) : Type 0 where
-  pub cells : AllByRecursion (NamesExist (length net.ports.domains) (take i net.modules) m.widths) m.cells
+  pub cells : AllByRecursion
+      (NamesExist (length net.ports.domains) (take i net.modules) m.widths) m.cells
   pub outputs : AllByRecursion (IsWire m.widths) m.outputs
   pub top : i + 1 ≡ length net.modules → TopNamesHold net.ports m
 
 -- a RAM has addresses of 12 bits, and what it shows, writes and holds has one width
-pub record AgreesRam (widths : List ℕ) (w : WireId) (words : List (List Bool))
-    (inputs : RamIn) : Type 0 where
+pub record AgreesRam (widths : List ℕ) (w : WireId) (words : List (List Bool)) (inputs : RamIn)
+    : Type 0 where
   pub read : HasWidth widths inputs.read ADDRESS_BITS
   pub enable : HasWidth widths inputs.enable 1
   pub place : HasWidth widths inputs.place ADDRESS_BITS
@@ -72,7 +72,9 @@ pub record AgreesRam (widths : List ℕ) (w : WireId) (words : List (List Bool))
 -- its outputs
 pub record AgreesUse (widths : List ℕ) (used : Module) (reads drives : List WireId) : Type 0 where
   pub inputs : Together (HasWidth widths) reads used.widths
-  pub outputs : Together (λ w output. slice_get widths w.number ≡ slice_get used.widths output.number) drives used.outputs
+  pub outputs : Together
+      (λ w output. slice_get widths w.number ≡ slice_get used.widths output.number)
+      drives used.outputs
 
 -- the widths of a cell's wires agree: those of a cell without a domain or module as in a flat net
 abbrev pub WidthsAgree : List Module → List ℕ → Cell → Type 0
@@ -86,7 +88,8 @@ WidthsAgree earlier widths cell = FitsCell 0 widths cell
 -- the module's inputs, which are its first wires, and its outputs are as wide as the ports
 pub record TopWidthsHold (ports : Ports) (top : Module) : Type 0 where
   pub inputs : Together (λ (port : Port) width. port.width ≡ width) ports.inputs top.widths
-  pub outputs : Together (λ (port : Port) w. HasWidth top.widths w port.width) ports.outputs top.outputs
+  pub outputs : Together
+      (λ (port : Port) w. HasWidth top.widths w port.width) ports.outputs top.outputs
 
 -- the widths of the module at this place of the net agree
 pub record WidthsHold (net : Net) (i : ℕ) (m : Module) : Type 0 where
@@ -98,8 +101,7 @@ abbrev pub wire_driven_at : List WireId → ℕ → Option ℕ
 wire_driven_at driven place = option_map (λ w. w.number) (slice_get driven place)
 
 -- the module at this place of the net has its inputs among its wires, each other wire is driven
--- once, and if it isn't the last, it
--- has an output
+-- once, and if it isn't the last, it has an output
 pub record DriversHold (net : Net) (i : ℕ) (m : Module) : Type 0 where
   pub inputs : m.inputs ≤ length m.widths
   pub drivers : EachOnce m.inputs (length m.widths) (wire_driven_at (flat_map driven m.cells))
