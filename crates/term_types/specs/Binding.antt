@@ -21,8 +21,10 @@ use Rattle.term_types.specs.declared.found.Found.{Found}
 abbrev pub BindsNothing : Setting → List Kind → TypeTree → Pattern → Type 0
 BindsNothing s kinds u q = (bound : List TypeTree) → Binds s kinds u q bound → ⊥
 
--- the pattern is one for values of the type, and binds variables of the types of its fields, each settled
-pub record BindsFound (s : Setting) (kinds : List Kind) (u : TypeTree) (q : Pattern) (bound : List TypeTree) : Type 0 where
+-- the pattern is one for values of the type, and binds variables of the types of its fields, each
+-- settled
+pub record BindsFound (s : Setting) (kinds : List Kind) (u : TypeTree) (q : Pattern)
+    (bound : List TypeTree) : Type 0 where
   pub fields : List TypeTree
   pub pattern : PatternOf s.datas u q fields
   pub are : map (λ a. settled s kinds a) fields ≡ bound
@@ -30,7 +32,8 @@ pub record BindsFound (s : Setting) (kinds : List Kind) (u : TypeTree) (q : Patt
 
 -- so it is, and these are the types with their kinds
 abbrev pub BindsKinded : Setting → List Kind → TypeTree → Pattern → List Found → Type 0
-BindsKinded s kinds u q fs = BindsFound s kinds u q (found_types fs) × HaveKinds s kinds (found_types fs) (found_kinds fs)
+BindsKinded s kinds u q fs =
+    BindsFound s kinds u q (found_types fs) × HaveKinds s kinds (found_types fs) (found_kinds fs)
 
 -- the literal isn't too wide, and its type is the same as this one
 abbrev pub IsLiteralOf : TypeTree → Scalar → List Bool → Type 0
@@ -39,12 +42,15 @@ IsLiteralOf u r bits = (length bits ≤ widest) × SameTypes u (literal_type r b
 -- for each field its type at these arguments, settled, with its kind
 abbrev pub AreSettled : Setting → List Kind → List TypeTree → List TypeTree → List Found → Type 0
 AreSettled s kinds [] args [] = Unit {0}
-AreSettled s kinds (f ∷ fs) args (r ∷ rs) = IsSettled s kinds (sub f (arguments (trees_of args))) r × AreSettled s kinds fs args rs
+AreSettled s kinds (f ∷ fs) args (r ∷ rs) =
+    IsSettled s kinds (sub f (arguments (trees_of args))) r × AreSettled s kinds fs args rs
 AreSettled s kinds _ args _ = ⊥
 
 -- there is none for some field
 abbrev pub NoneSettled : Setting → List Kind → List TypeTree → List TypeTree → Type 0
-NoneSettled s kinds fs args = (i : ℕ) × (f : TypeTree) × (slice_get fs i ≡ Some f) × LacksKindUpTo s kinds (sub f (arguments (trees_of args)))
+NoneSettled s kinds fs args =
+    (i : ℕ) × (f : TypeTree) × (slice_get fs i ≡ Some f)
+    × LacksKindUpTo s kinds (sub f (arguments (trees_of args)))
 
 -- a case may look at values of the type
 abbrev pub is_looked_at : TypeTree → Bool

@@ -9,7 +9,8 @@ use Rattle.chw_typing.specs.Scopes.{Setting, HasKind}
 use Rattle.found_types.specs.Finding.{settled}
 use Rattle.term_types.specs.declared.found.Found.{Found}
 
--- the type is one of functions from what is the same as the argument's type, and this is found for the result
+-- the type is one of functions from what is the same as the argument's type, and this is found for
+-- the result
 pub record Takes (f : Found) (arg : TypeTree) (r : Found) : Type 0 where
   pub from : TypeTree
   pub is : f.ty ≡ fun from r.ty
@@ -20,7 +21,8 @@ pub record Takes (f : Found) (arg : TypeTree) (r : Found) : Type 0 where
 abbrev pub TakesNot : TypeTree → TypeTree → Type 0
 TakesNot t arg = (a b : TypeTree) → t ≡ fun a b → SameTypes a arg → ⊥
 
--- the type has a parameter of the argument's kind, and what is found is the type with the argument put in, settled
+-- the type has a parameter of the argument's kind, and what is found is the type with the argument
+-- put in, settled
 pub record TakesType (s : Setting) (kinds : List Kind) (t arg : TypeTree) (r : Found) : Type 0 where
   pub j : Kind
   pub of : TypeTree
@@ -32,4 +34,5 @@ pub record TakesType (s : Setting) (kinds : List Kind) (t arg : TypeTree) (r : F
 -- it has no such parameter, or nothing with a kind is the same
 abbrev pub TakesTypeNot : Setting → List Kind → TypeTree → TypeTree → Type 0
 TakesTypeNot s kinds t arg =
-    (j k : Kind) (of u : TypeTree) → AreOfTerms s.datas → t ≡ for_all j of → HasKind s kinds arg j → SameTypes (put of 0 arg) u → HasKind s kinds u k → ⊥
+    (j k : Kind) (of u : TypeTree) → AreOfTerms s.datas → t ≡ for_all j of → HasKind s kinds arg j
+    → SameTypes (put of 0 arg) u → HasKind s kinds u k → ⊥

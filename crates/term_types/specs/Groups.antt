@@ -27,7 +27,8 @@ abbrev pub GoWith : Setting → List Kind → Kind → List Binding → Type 0
 GoWith s kinds k bs = Each (λ b. GoesWith s kinds k b.ty) bs
 
 -- terms have the declared types, and the kind goes with the same kinds as these together
-pub record IsGroupKind (s : Setting) (kinds : List Kind) (bs : List Binding) (all : Kind) : Type 0 where
+pub record IsGroupKind (s : Setting) (kinds : List Kind) (bs : List Binding)
+    (all : Kind) : Type 0 where
   pub typed : AreOfTerms s kinds bs
   pub go : (k : Kind) → HasFunctions all k → GoWith s kinds k bs
   pub goes : (k : Kind) → IsOfTerms k → GoWith s kinds k bs → HasFunctions all k
@@ -35,7 +36,8 @@ pub record IsGroupKind (s : Setting) (kinds : List Kind) (bs : List Binding) (al
 -- the types are these with their kinds
 abbrev pub AreKinded : Setting → List Kind → List TypeTree → List Kinded → Type 0
 AreKinded s kinds [] [] = Unit {0}
-AreKinded s kinds (t ∷ ts) (k ∷ ks) = ((k.ty.now ≡ t) × HasKind s kinds t k.kind) × AreKinded s kinds ts ks
+AreKinded s kinds (t ∷ ts) (k ∷ ks) =
+    ((k.ty.now ≡ t) × HasKind s kinds t k.kind) × AreKinded s kinds ts ks
 AreKinded s kinds _ _ = ⊥
 
 -- the bindings' types with their kinds, and the kind that stands for them

@@ -17,5 +17,6 @@ pub record InScope : Type 0 where
 -- it is stored as the pairs of its fields
 abbrev pub coded_scope : Coded InScope
 coded_scope =
-    code_by ((List TypeTree × List Kind) × ℕ) (coded× (coded× (coded_list coded_tree) (coded_list kind_type.the_row.coded)) coded_ℕ)
+    code_by ((List TypeTree × List Kind) × ℕ)
+    (coded× (coded× (coded_list coded_tree) (coded_list kind_type.the_row.coded)) coded_ℕ)
     (λ s. ((s.vars, s.kinds), s.depth)) (λ p. record { vars = p.0.0; kinds = p.0.1; depth = p.1 }) (λ _. refl)

@@ -1,5 +1,6 @@
 -- The types of the variables in scope as a list, the innermost first, and their kinds.
-use Rattle.std.specs.Prelude.{◌≡◌, ℕ, ◌+◌, List, [], ◌∷◌, ◌++◌, reverse, map, Option, Some, None, MatchOption}
+use Rattle.std.specs.Prelude.{◌≡◌, ℕ, ◌+◌, List, [], ◌∷◌, ◌++◌, reverse, map, Option, Some, None}
+use Rattle.std.specs.Prelude.{MatchOption}
 use Rattle.std.specs.List.{slice_get}
 use Rattle.chw_types.specs.declared.kind.Kind.{Kind}
 use Rattle.chw_types.specs.TypeTree.{TypeTree}
@@ -8,7 +9,8 @@ use Rattle.term_types.specs.InScope.{InScope}
 use Rattle.term_types.specs.declared.found.Found.{Found}
 use Rattle.term_types.specs.declared.found.Kinded.{Kinded}
 use Rattle.term_types.specs.declared.vars.Frame.{Frame}
-use Rattle.term_types.specs.declared.vars.Frame.TheVariants.{Empty, UnderType, OfLambda, OfGroup, OfPattern}
+use Rattle.term_types.specs.declared.vars.Frame.TheVariants.{Empty, UnderType, OfLambda, OfGroup}
+use Rattle.term_types.specs.declared.vars.Frame.TheVariants.{OfPattern}
 
 -- the types and kinds of written types
 abbrev pub written_types : List Kinded → List TypeTree
@@ -35,10 +37,14 @@ in_scope (UnderType outer) =
     record { vars = under_binder outer.now.vars; kinds = outer.now.kinds; depth = outer.now.depth + 1 }
 in_scope (OfLambda ty kind outer) =
     record { vars = ty.now ∷ outer.now.vars; kinds = kind ∷ outer.now.kinds; depth = outer.now.depth + 1 }
-in_scope (OfGroup bound outer) = bound_inside (written_types bound.now) (written_kinds bound.now) outer.now
-in_scope (OfPattern bound outer) = bound_inside (found_types bound.now) (found_kinds bound.now) outer.now
+in_scope (OfGroup bound outer) =
+    bound_inside (written_types bound.now) (written_kinds bound.now) outer.now
+in_scope (OfPattern bound outer) =
+    bound_inside (found_types bound.now) (found_kinds bound.now) outer.now
 
--- what is found of the variable of this number among these: its type with its kind, where it is in scope
+-- what is found of the variable of this number among these: its type with its kind, where it is in
+-- scope
 abbrev pub IsAt : List TypeTree → List Kind → ℕ → Option Found → Type 0
 IsAt ts ks n r =
-    MatchOption r (slice_get ts n ≡ None) (λ f. (slice_get ts n ≡ Some f.ty) × (slice_get ks n ≡ Some f.kind))
+    MatchOption r (slice_get ts n ≡ None)
+    (λ f. (slice_get ts n ≡ Some f.ty) × (slice_get ks n ≡ Some f.kind))
