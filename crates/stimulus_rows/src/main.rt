@@ -16,9 +16,13 @@ use ports::{ports_of, quoted};
 use row_tables::{Unread, bytes_of, print_rows, put, put_bytes, put_number};
 use std::alloc::Global;
 use std::io;
+use stimulus::laws::{no_fault, one_fault, one_stimulus};
 use stimulus::{StimFault, print_line, read_stimulus};
 
 fn main(rt: HostRuntime) -> io::Result<()> {
+    one_stimulus();
+    one_fault();
+    no_fault();
     print_rows(&rt, answer)
 }
 
