@@ -16,9 +16,13 @@ use ports::{ports_of, quoted};
 use row_tables::{Unread, bytes_of, print_rows, put, put_bytes, put_number};
 use std::alloc::Global;
 use std::io;
-use stimulus::{StimCode, StimFault, print_line, read_stimulus};
+use stimulus::laws::{no_fault, one_fault, one_stimulus};
+use stimulus::{StimFault, print_line, read_stimulus};
 
 fn main(rt: HostRuntime) -> io::Result<()> {
+    one_stimulus();
+    one_fault();
+    no_fault();
     print_rows(&rt, answer)
 }
 
@@ -46,22 +50,14 @@ fn put_events(
     match read_stimulus(alloc, &text, &ports) {
         Ok(events) if events.is_empty() => Ok(put(out, "no events")?),
         Ok(events) => Ok(put_runs(alloc, &events, out)?),
-        Err(Or::Fault(fault)) => Ok(put_fault(fault, out)?),
+        Err(Or::Fault(fault)) => Ok(put_fault(alloc, fault, out)?),
         Err(Or::Memory) => Err(Or::Memory),
     }
 }
 
-fn put_fault(fault: StimFault, out: &mut Vec<u8>) -> Result<(), NoMemory> {
-    put(
-        out,
-        match fault.code {
-            StimCode::S01 => "S01",
-            StimCode::S02 => "S02",
-            StimCode::S03 => "S03",
-            StimCode::S05 => "S05",
-        },
-    )?;
-    put_number(out, " line ", fault.line)
+fn put_fault(alloc: Global, fault: StimFault, out: &mut Vec<u8>) -> Result<(), NoMemory> {
+    let shown = format!(in alloc; "{fault}")?;
+    put(out, shown.as_str())
 }
 
 // Writes each run of equal events behind its count.
