@@ -8,7 +8,7 @@ use std::alloc::{AllocError, Global};
 const CHAIN: u32 = 100_000;
 
 // The graph of a text: nodes are parted by semicolons, the numbers that one names by spaces.
-fn graph(alloc: Global, text: &str) -> Result<Vec<Vec<u32>>, Or<Unread>> {
+pub(crate) fn graph(alloc: Global, text: &str) -> Result<Vec<Vec<u32>>, Or<Unread>> {
     let mut graph = Vec::new(alloc);
     if text != "none" {
         for node in text.split(';') {
@@ -18,7 +18,7 @@ fn graph(alloc: Global, text: &str) -> Result<Vec<Vec<u32>>, Or<Unread>> {
     Ok(graph)
 }
 
-fn names(alloc: Global, node: &str) -> Result<Vec<u32>, Or<Unread>> {
+pub(crate) fn names(alloc: Global, node: &str) -> Result<Vec<u32>, Or<Unread>> {
     let mut names = Vec::new(alloc);
     for word in node.split_whitespace() {
         let Ok(name) = word.parse::<u32>() else {

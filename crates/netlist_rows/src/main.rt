@@ -1,11 +1,13 @@
 //! Rows of graphs and of small nets: the order that each has, or the cycle.
 #![tactic(auto)]
 
+mod formed;
 mod graphs;
 mod nets;
 mod slow;
 
 use chw_base::Or;
+use formed::put_formed;
 use graphs::{put_chain, put_graph};
 use nets::{put_flattened, put_found};
 use row_tables::{Unread, print_rows};
@@ -23,6 +25,7 @@ fn answer(alloc: Global, call: &str, text: &str, out: &mut Vec<u8>) -> Result<()
         "graph" => put_graph(alloc, text, out),
         "chain" => put_chain(alloc, text, out),
         "has" | "order" => put_found(alloc, call, text, out),
+        "formed" => put_formed(alloc, text, out),
         "flatten" => put_flattened(alloc, out),
         _ => Err(Or::Fault(Unread)),
     }
