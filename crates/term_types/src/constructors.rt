@@ -1,9 +1,11 @@
 //! The types of constructors.
-ghost use Rattle.std.specs.Prelude.{◌≡◌, IfOk};
+ghost use Rattle.std.specs.Prelude.{◌≡◌, ◌+◌, ◌≤◌, length, IfOk, IsTrue, ◌↔◌};
+ghost use Rattle.chw_base.specs.declared.limits.TheConstants.{TYPE_DEPTH};
 ghost use Rattle.chw_types.specs.TypeView.{trees_of};
 ghost use Rattle.chw_typing.specs.HeadTypes.{con_type, for_each, from_each, variables};
 ghost use Rattle.con_places.specs.Constructing.{constructor_of};
 
+use chw_base::limits::TYPE_DEPTH;
 use chw_base::{NoMemory, TyIx};
 use chw_types::{Kind, Ty};
 use con_places::Constructor;
@@ -47,10 +49,25 @@ fn for_each(alloc: Global, kinds: &[Kind], of: Ty) -> Result<Ty, NoMemory>
     Ok(done)
 }
 
-/// The type of a constructor: its data type's parameters as type parameters, then its fields as parameters, then the data type.
-pub(crate) fn con_type(alloc: Global, con: &Constructor<'_>) -> Result<Ty, NoMemory>
-    ensures { IfOk result (λ t. t ≡ con_type (constructor_of con.now)) }
+// Whether a constructor's fields and its data type's parameters are at most as many as types are deep.
+fn is_shallow(con: &Constructor<'_>) -> bool
+    ensures { IsTrue result ↔ (length con.now.decl.now.fields + length con.now.it.now.params ≤ TYPE_DEPTH) }
 {
+    let fields = con.decl.fields.len();
+    let most = TYPE_DEPTH as usize;
+    fields <= most && con.it.params.len() <= most - fields
+}
+
+/// The type of a constructor: its data type's parameters as type parameters, then its fields as parameters, then the data type.
+///
+/// Where fields and parameters are more than `TYPE_DEPTH` together, the answer is want of memory, since the type would be deeper.
+pub(crate) fn con_type(alloc: Global, con: &Constructor<'_>) -> Result<Ty, NoMemory>
+    ensures is { IfOk result (λ t. t ≡ con_type (constructor_of con.now)) }
+    ensures shallow { IfOk result (λ _. length con.now.decl.now.fields + length con.now.it.now.params ≤ TYPE_DEPTH) }
+{
+    if !is_shallow(con) {
+        return Err(NoMemory);
+    }
     let params = con.it.params.as_slice();
     let to = Ty::data_of(con.of, variables(alloc, params.len())?);
     let from = from_each(alloc, con.decl.fields.as_slice(), to)?;
