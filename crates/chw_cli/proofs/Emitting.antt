@@ -18,11 +18,11 @@ use Rattle.flat_form.specs.declared.flat.NotFlat.{NotFlat}
 use Rattle.flat_form.specs.declared.flat.Right.{Right}
 use Rattle.flat_form.specs.declared.flat.Right.TheVariants.{Same, Register, Sum}
 use Rattle.netlist.specs.Orders.{IsLoop}
-use Rattle.netlist.specs.declared.flatten.TooLarge.{TooLarge}
+use Rattle.net_flat.specs.declared.flatten.TooLarge.{TooLarge}
 use Rattle.netlist.specs.declared.net.Loop.{Loop}
 use Rattle.flat_form.specs.declared.flat.FlatText.{FlatText}
 use Rattle.flat_law.specs.FlatOf.{flat_of}
-use Rattle.netlist.specs.Flattened.{IsFlatOf, IsPlain, NoUse, flat_cells, flat_outputs, flat_widths}
+use Rattle.net_flat.specs.Flattened.{IsFlatOf, IsPlain, NoUse, flat_cells, flat_outputs, flat_widths}
 use Rattle.netlist.specs.declared.net.Flat.{Flat}
 use Rattle.netlist.specs.declared.net.Net.{Net}
 

@@ -31,7 +31,7 @@ use Rattle.flat_form.specs.Grammar.{IsFlatText}
 use Rattle.flat_form.specs.declared.flat.FlatText.{FlatText}
 use Rattle.flat_law.specs.FlatOf.{flat_of, SameBits}
 use Rattle.netlist.specs.Orders.{IsLoop}
-use Rattle.netlist.specs.Text.{net_text}
+use Rattle.verilog_text.specs.Text.{net_text}
 use Rattle.chw_resolve.specs.Programs.{IsProgramOf}
 
 -- at every history of its ports the net of the description has, on its output, the bits that the description means

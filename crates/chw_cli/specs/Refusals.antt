@@ -20,7 +20,7 @@ use Rattle.flat_form.specs.declared.flat.FlatText.{FlatText}
 use Rattle.flat_form.specs.declared.flat.NotFlat.{NotFlat}
 use Rattle.flat_law.specs.FlatOf.{flat_of}
 use Rattle.netlist.specs.Orders.{IsLoop}
-use Rattle.netlist.specs.declared.flatten.TooLarge.{TooLarge}
+use Rattle.net_flat.specs.declared.flatten.TooLarge.{TooLarge}
 use Rattle.netlist.specs.declared.net.Loop.{Loop}
 
 abbrev pub of_words_fault : Or WordsFault → Refusal

@@ -10,7 +10,7 @@ use crate::refusal::Refusal;
 use flat_form::FlatText;
 use flat_law::laws::{net_has_the_bits, net_is_sound};
 use netlist::Net;
-use netlist::flatten::flatten;
+use net_flat::flatten::flatten;
 use netlist::laws::an_order_excludes_loops;
 use netlist::ordering::order;
 use std::alloc::Global;

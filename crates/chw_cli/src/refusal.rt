@@ -10,7 +10,8 @@ use chw_parser::ParseFault;
 use chw_resolve::NameFault;
 use chw_words::WordsFault;
 use flat_form::NotFlat;
-use netlist::{Loop, TooLarge};
+use net_flat::TooLarge;
+use netlist::Loop;
 
 /// Why the program gave no answer, with what its line shows.
 #[derive(Debug, Drop)]

@@ -7,7 +7,7 @@ use Rattle.flat_form.specs.declared.flat.Binding.{Binding}
 use Rattle.flat_form.specs.declared.flat.Parameter.{Parameter}
 use Rattle.flat_form.specs.declared.flat.Right.{Right}
 use Rattle.flat_form.specs.declared.flat.Right.TheVariants.{Same, Register, Sum}
-use Rattle.netlist.specs.Text.{HasLine}
+use Rattle.verilog_text.specs.Text.{HasLine}
 
 cells_push : (names : List (List ℕ)) (k : ℕ) (xs : List Binding) (x : Binding) → cells_of names k (xs ++ x ∷ []) ≡ cells_of names k xs ++ cell_of names (k + length xs) x.right ∷ []
 cells_push names k [] x = ap (λ n. cell_of names n x.right ∷ []) (sym (add-zero k))

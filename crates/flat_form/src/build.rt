@@ -3,7 +3,7 @@ ghost use Rattle.std.specs.Prelude.{◌≡◌, ℕ, ◌+◌, ◌^◌, ◌<◌, L
 ghost use Rattle.flat_form.specs.FlatNet.{cell_of, cells_of, input_ports, module_of, net_of, port, ports_of, wire_of};
 ghost use Rattle.flat_form.specs.Holds.{Holds, names_of, signals};
 ghost use Rattle.flat_form.specs.Tables.{Tables, texts};
-ghost use Rattle.netlist.specs.Text.{HasText};
+ghost use Rattle.verilog_text.specs.Text.{HasText};
 
 use crate::flat::{Binding, FlatText, Parameter, Right};
 use crate::owned::owned;

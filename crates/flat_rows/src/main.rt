@@ -2,7 +2,7 @@
 #![tactic(auto)]
 
 ghost use Rattle.std.specs.Prelude.{◌<◌, ◌^◌, length, IfOk};
-ghost use Rattle.netlist.specs.Text.{HasText};
+ghost use Rattle.verilog_text.specs.Text.{HasText};
 
 use chw_base::Or;
 use flat_form::{NotFlat, net, read};

@@ -2,7 +2,7 @@
 use Rattle.std.proofs.Common.{◌≡◌, ℕ, ◌+◌, ◌<◌, ◌≤◌, List, [], ◌∷◌, length, map, replicate, refl, ap, arith, ◌∙◌, sym}
 use Rattle.std.specs.List.{AllByRecursion}
 use Rattle.std.proofs.lemmas.List.{length-replicate, length-map, take-replicate}
-use Rattle.netlist.specs.Flattened.{IsFlatOf, NoUse, flat_cells, flat_outputs, flat_widths}
+use Rattle.net_flat.specs.Flattened.{IsFlatOf, NoUse, flat_cells, flat_outputs, flat_widths}
 use Rattle.netlist.specs.Sound.{DrivenOnce, DrivesFrom, FitsCell, Sound}
 use Rattle.netlist.specs.declared.net.Cell.{Cell}
 use Rattle.netlist.specs.declared.net.Cell.TheVariants.{Const, Copy, Join, Cut, Un, Bin, Mux, Reg, Ram, Use}

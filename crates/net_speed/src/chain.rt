@@ -2,7 +2,7 @@
 ghost use Rattle.std.specs.Prelude.{◌≡◌, ◌<◌, ◌≤◌, replicate, IfOk, Some};
 ghost use Rattle.chw_base.specs.declared.limits.TheConstants.{FLAT_WIRES};
 ghost use Rattle.netlist.specs.Feeds.{target};
-ghost use Rattle.netlist.specs.Flattened.{IsFlatOf, IsPlain, flat_widths};
+ghost use Rattle.net_flat.specs.Flattened.{IsFlatOf, IsPlain, flat_widths};
 ghost use Rattle.netlist.specs.Sound.{FitsCell, Sound};
 ghost use Rattle.netlist.specs.declared.net.Flat.{Flat};
 

@@ -10,7 +10,7 @@ mod chain;
 use chain::chain;
 use chw_base::limits::FLAT_WIRES;
 use chw_base::{NoMemory, Or};
-use netlist::flatten::flatten;
+use net_flat::flatten::flatten;
 use netlist::ordering::order;
 use std::alloc::Global;
 use std::env;

@@ -1,14 +1,8 @@
 pub mod Drivers
 pub mod Examples
 pub mod Feeds
-pub mod Flattened
-pub mod Marks
-pub mod Names
 pub mod NetValue
 pub mod Operators
 pub mod Orders
-pub mod PortsHold
 pub mod Sound
-pub mod Text
-pub mod WellFormed
 pub mod Wires

@@ -2,8 +2,9 @@
 use crate::graphs::{graph, names};
 use chw_base::{DomId, ModId, Name, NoMemory, Or, Seq, WireId};
 use chw_clock::{Bits, Port, Ports};
-use netlist::well_formed::well_formed;
-use netlist::{Cell, Module, Net, NetCode, Op1, Op2, RamIn};
+use net_rules::well_formed::well_formed;
+use net_rules::NetCode;
+use netlist::{Cell, Module, Net, Op1, Op2, RamIn};
 use row_tables::{Unread, bytes_of, put, put_number};
 use std::alloc::Global;
 

@@ -2,14 +2,14 @@
 ghost use Rattle.std.specs.Prelude.{◌≡◌, ◌+◌, ◌<◌, length, replicate, IfOk, Some};
 ghost use Rattle.std.specs.List.{AllByRecursion};
 ghost use Rattle.netlist.specs.Feeds.{target};
-ghost use Rattle.netlist.specs.Flattened.{IsPlain, NoUse};
+ghost use Rattle.net_flat.specs.Flattened.{IsPlain, NoUse};
 ghost use Rattle.netlist.specs.Sound.{DrivesFrom, FitsCell, Sound};
 
 use crate::graphs::put_numbers;
 use crate::slow::{is_loop, is_order, slow_order};
 use chw_base::{DomId, NoMemory, Or, Seq, WireId};
 use chw_clock::Bits;
-use netlist::flatten::flatten;
+use net_flat::flatten::flatten;
 use netlist::ordering::order;
 use netlist::samples::one_input;
 use netlist::{Cell, Flat, Module, Net, Op2};

@@ -1,7 +1,7 @@
 -- The step of the loop that declares the wires.
 use Rattle.std.proofs.Common.{◌≡◌, ℕ, ◌+◌, ◌<◌, List, ◌++◌, length, get_or, drop, Option, sym, ap, ◌∙◌, append_assoc}
 use Rattle.std.proofs.lemmas.List.{drop_more}
-use Rattle.netlist.specs.Text.{Scope, declaration, declarations}
+use Rattle.verilog_text.specs.Text.{Scope, declaration, declarations}
 use Rattle.netlist.specs.Wires.{driver}
 use Rattle.netlist.specs.declared.net.Cell.{Cell}
 

@@ -4,7 +4,7 @@ use Rattle.std.proofs.Math.Seq.{drop-cons}
 use Rattle.std.proofs.lemmas.List.{append-nil, drop_all}
 use Rattle.std.specs.List.{flat_map}
 use Rattle.chw_base.specs.declared.index.DomId.{DomId}
-use Rattle.netlist.specs.Text.{clock_items, commas, domain_items}
+use Rattle.verilog_text.specs.Text.{clock_items, commas, domain_items}
 use Rattle.verilog_print.specs.Header.{comma_if, items_text}
 
 -- whether an item stands before what follows these

@@ -2,8 +2,8 @@
 use Rattle.std.specs.Prelude.{ℕ, List, ◌++◌, codes, decimal, Bool, if◌then◌else◌}
 use Rattle.chw_base.specs.declared.index.DomId.{DomId}
 use Rattle.chw_base.specs.declared.index.WireId.{WireId}
-use Rattle.netlist.specs.Names.{clock_name, domain_name, reset_name, wire_text}
-use Rattle.netlist.specs.Text.{Scope, name_in, signed_text, left_text, right_text, sign2, line, range_text, literal_text, taken_text}
+use Rattle.verilog_text.specs.Names.{clock_name, domain_name, reset_name, wire_text}
+use Rattle.verilog_text.specs.Text.{Scope, name_in, signed_text, left_text, right_text, sign2, line, range_text, literal_text, taken_text}
 use Rattle.netlist.specs.declared.net.Op2.{Op2}
 
 -- an assignment, up to its value

@@ -1,8 +1,8 @@
 //! The lines of cells.
 ghost use Rattle.std.specs.Prelude.{◌≡◌, ◌++◌, ℕ, List, map, codes, decimal, OnOk};
 ghost use Rattle.std.specs.List.{flat_map};
-ghost use Rattle.netlist.specs.Names.{clock_name, domain_name};
-ghost use Rattle.netlist.specs.Text.{name_in, top_scope, sign1, sign2, left_text, right_text, assign_line, cell_line, commas, taken_text, HasLine};
+ghost use Rattle.verilog_text.specs.Names.{clock_name, domain_name};
+ghost use Rattle.verilog_text.specs.Text.{name_in, top_scope, sign1, sign2, left_text, right_text, assign_line, cell_line, commas, taken_text, HasLine};
 ghost use Rattle.verilog_print.specs.Parts.{assign_start, bounds, choice, edge, operand, operation, register_line, taken_with_reset};
 
 use crate::names::{put_clock, put_name, put_reset};

@@ -1,6 +1,6 @@
 //! The list of ports in a module's header.
 ghost use Rattle.std.specs.Prelude.{◌≡◌, ◌++◌, Bool, List, map, if◌then◌else◌, codes, false, OnOk};
-ghost use Rattle.netlist.specs.Text.{clock_item, clock_items, domain_items, reset_item, input_item, output_item, header_items, commas};
+ghost use Rattle.verilog_text.specs.Text.{clock_item, clock_items, domain_items, reset_item, input_item, output_item, header_items, commas};
 ghost use Rattle.verilog_print.specs.Header.{comma_if, items_text};
 
 use crate::names::{put_input, put_output};

@@ -1,7 +1,7 @@
 //! The names of domains, ports and wires.
 ghost use Rattle.std.specs.Prelude.{◌≡◌, ◌++◌, OnOk};
-ghost use Rattle.netlist.specs.Names.{clock_name, domain_name, input_name, output_name, reset_name, wire_text};
-ghost use Rattle.netlist.specs.Text.{name_in, top_scope};
+ghost use Rattle.verilog_text.specs.Names.{clock_name, domain_name, input_name, output_name, reset_name, wire_text};
+ghost use Rattle.verilog_text.specs.Text.{name_in, top_scope};
 
 use crate::pieces::{put, put_number};
 use chw_base::{DomId, NoMemory, WireId};

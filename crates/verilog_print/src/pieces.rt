@@ -1,6 +1,6 @@
 //! The smallest pieces of a text: bytes, numbers, ranges of bits and literals.
 ghost use Rattle.std.specs.Prelude.{◌≡◌, ◌++◌, codes, decimal, OnOk};
-ghost use Rattle.netlist.specs.Text.{range_text, literal_text};
+ghost use Rattle.verilog_text.specs.Text.{range_text, literal_text};
 
 use chw_base::NoMemory;
 use chw_clock::Bits;

@@ -1,8 +1,8 @@
 //! A net's whole text.
 ghost use Rattle.std.specs.Prelude.{◌≡◌, ◌++◌, OnOk, IfOk};
 ghost use Rattle.std.specs.List.{flat_map, AllByRecursion};
-ghost use Rattle.netlist.specs.Text.{HasLine, HasText, assign_line, cell_line, name_in, net_text, output_lines, top_scope, top_text};
-ghost use Rattle.netlist.specs.Names.{output_name};
+ghost use Rattle.verilog_text.specs.Text.{HasLine, HasText, assign_line, cell_line, name_in, net_text, output_lines, top_scope, top_text};
+ghost use Rattle.verilog_text.specs.Names.{output_name};
 
 use crate::cells::put_cell;
 use crate::header::put_header;

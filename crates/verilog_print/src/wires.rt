@@ -1,7 +1,7 @@
 //! The declarations of wires, by the cells that drive them.
 ghost use Rattle.std.specs.Prelude.{◌≡◌, ◌++◌, ◌==◌, ◌<◌, ℕ, length, drop, slice_index_or, if◌then◌else◌, Some, None, OnOk, IfOk};
 ghost use Rattle.std.specs.List.{list_any};
-ghost use Rattle.netlist.specs.Text.{Scope, declaration, declarations};
+ghost use Rattle.verilog_text.specs.Text.{Scope, declaration, declarations};
 ghost use Rattle.netlist.specs.Wires.{driven, driver};
 ghost use Rattle.verilog_print.specs.Parts.{register_declaration, wire_declaration};
 ghost use Rattle.verilog_print.specs.Drivers.{cell_at};

@@ -1,7 +1,7 @@
 //! Writes the Verilog texts of two nets: an accumulator, and a net with each form of cell that has a text.
 #![tactic(auto)]
 
-ghost use Rattle.netlist.specs.Text.{HasText};
+ghost use Rattle.verilog_text.specs.Text.{HasText};
 
 mod nets;
 

@@ -1,7 +1,7 @@
 //! The nets.
 ghost use Rattle.std.specs.Prelude.{IfOk, OnOk};
 ghost use Rattle.std.specs.List.{AllByRecursion};
-ghost use Rattle.netlist.specs.Text.{HasLine, HasText, IsOneModule};
+ghost use Rattle.verilog_text.specs.Text.{HasLine, HasText, IsOneModule};
 
 use chw_base::{DomId, Name, NoMemory, Seq, WireId};
 use chw_clock::{Bits, Port, Ports};

@@ -4,7 +4,7 @@ use Rattle.chw_cli.specs.Answer.{EmitAnswer}
 use Rattle.chw_cli.specs.Answer.EmitAnswer.{emitted}
 use Rattle.chw_cli.proofs.Emitting.{form_refuses, net_refuses_text}
 use Rattle.flat_form.specs.FlatNet.{net_of}
-use Rattle.netlist.specs.Text.{net_text}
+use Rattle.verilog_text.specs.Text.{net_text}
 use Rattle.chw_cli.proofs.emit.emitted.Goals as goal
 
 pub returns-in_err-flat-clause-refused : goal.returns-in_err-flat-clause-refused

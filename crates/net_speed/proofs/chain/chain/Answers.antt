@@ -1,7 +1,7 @@
 use Rattle.std.proofs.Common.{◌≡◌, ◌+◌, ◌∙◌, [], ◌∷◌, length, replicate, arith, ap, sym, rules, subst, Some}
 use Rattle.std.proofs.lemmas.List.{length-append}
 use Rattle.netlist.specs.Feeds.{target}
-use Rattle.netlist.specs.Flattened.{IsPlain, flat_widths}
+use Rattle.net_flat.specs.Flattened.{IsPlain, flat_widths}
 use Rattle.netlist.specs.Sound.{FitsCell}
 use Rattle.netlist.specs.declared.net.Module.{Module}
 use Rattle.netlist.proofs.Chains.{all_and_one, next_driven}

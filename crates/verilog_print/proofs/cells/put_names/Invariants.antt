@@ -1,7 +1,7 @@
 -- what is written, with the names that are left, is all
 use Rattle.std.proofs.Common.{◌≡◌, ◌++◌, map, drop}
 use Rattle.std.specs.List.{flat_map}
-use Rattle.netlist.specs.Text.{name_in, top_scope}
+use Rattle.verilog_text.specs.Text.{name_in, top_scope}
 use Rattle.verilog_print.specs.Parts.{after_comma}
 use Rattle.verilog_print.proofs.cells.put_names.Given as goal
 

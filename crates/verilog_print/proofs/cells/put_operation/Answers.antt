@@ -1,5 +1,5 @@
 use Rattle.std.proofs.Common.{◌≡◌, List, ℕ, ◌++◌, ap, ◌∙◌, append_assoc}
-use Rattle.netlist.specs.Text.{name_in, top_scope}
+use Rattle.verilog_text.specs.Text.{name_in, top_scope}
 use Rattle.verilog_print.proofs.cells.put_operation.Goals as goal
 
 -- three texts that were written one after another, the first and the last of which are equal to others

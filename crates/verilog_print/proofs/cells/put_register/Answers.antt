@@ -1,6 +1,6 @@
 use Rattle.std.proofs.Common.{◌≡◌, ◌++◌, codes, ap, sym, ◌∙◌, append_assoc}
-use Rattle.netlist.specs.Names.{domain_name}
-use Rattle.netlist.specs.Text.{name_in, taken_text, top_scope}
+use Rattle.verilog_text.specs.Names.{domain_name}
+use Rattle.verilog_text.specs.Text.{name_in, taken_text, top_scope}
 use Rattle.verilog_print.specs.Parts.{edge}
 use Rattle.verilog_print.proofs.Joined.{five_pieces}
 use Rattle.verilog_print.proofs.cells.put_register.Goals as goal

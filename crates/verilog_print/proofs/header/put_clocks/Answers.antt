@@ -1,5 +1,5 @@
 use Rattle.std.proofs.Common.{◌≡◌, ◌++◌, false, refl, ap, ◌∙◌}
-use Rattle.netlist.specs.Text.{clock_items}
+use Rattle.verilog_text.specs.Text.{clock_items}
 use Rattle.verilog_print.specs.Header.{items_text}
 use Rattle.verilog_print.proofs.Items.{all_domains, next_domain}
 use Rattle.verilog_print.proofs.header.put_clocks.Goals as goal

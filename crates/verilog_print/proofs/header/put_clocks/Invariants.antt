@@ -1,6 +1,6 @@
 -- what is written, with the clocks that are left, is all
 use Rattle.std.proofs.Common.{◌≡◌, ◌++◌, drop, false, nat_lt}
-use Rattle.netlist.specs.Text.{clock_items}
+use Rattle.verilog_text.specs.Text.{clock_items}
 use Rattle.verilog_print.specs.Header.{items_text}
 use Rattle.verilog_print.proofs.header.put_clocks.Given as goal
 

@@ -1,5 +1,5 @@
 use Rattle.std.proofs.Common.{◌≡◌, [], ◌∷◌, ◌++◌, if◌then◌else◌, sym, ap, ◌∙◌, subst}
-use Rattle.netlist.specs.Text.{clock_item, reset_item}
+use Rattle.verilog_text.specs.Text.{clock_item, reset_item}
 use Rattle.verilog_print.specs.Header.{items_text}
 use Rattle.verilog_print.proofs.Items.{with_reset}
 use Rattle.verilog_print.proofs.header.put_domain_items.Goals as goal

@@ -1,5 +1,5 @@
 use Rattle.std.proofs.Common.{◌≡◌, Bool, true, false, not, if◌then◌else◌, map, sym, ap, ◌∙◌}
-use Rattle.netlist.specs.Text.{clock_items, input_item, output_item}
+use Rattle.verilog_text.specs.Text.{clock_items, input_item, output_item}
 use Rattle.verilog_print.proofs.Items.{stands, stands_clocks, stands_map, three_runs}
 use Rattle.verilog_print.proofs.header.put_header.Goals as goal
 use Rattle.verilog_print.proofs.header.put_header.Goals.{then-clocks, else-clocks}

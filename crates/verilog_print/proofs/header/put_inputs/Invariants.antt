@@ -1,6 +1,6 @@
 -- what is written, with the inputs that are left, is all
 use Rattle.std.proofs.Common.{◌≡◌, ◌++◌, map, drop}
-use Rattle.netlist.specs.Text.{input_item}
+use Rattle.verilog_text.specs.Text.{input_item}
 use Rattle.verilog_print.specs.Header.{items_text}
 use Rattle.verilog_print.proofs.header.put_inputs.Given as goal
 

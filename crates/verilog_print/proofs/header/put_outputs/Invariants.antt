@@ -1,6 +1,6 @@
 -- what is written, with the outputs that are left, is all
 use Rattle.std.proofs.Common.{◌≡◌, ◌++◌, map, drop}
-use Rattle.netlist.specs.Text.{output_item}
+use Rattle.verilog_text.specs.Text.{output_item}
 use Rattle.verilog_print.specs.Header.{items_text}
 use Rattle.verilog_print.proofs.header.put_outputs.Given as goal
 

@@ -1,6 +1,6 @@
 -- what is written, with the assignments that are left, is all
 use Rattle.std.proofs.Common.{◌≡◌, ◌++◌, drop}
-use Rattle.netlist.specs.Text.{output_lines, top_scope}
+use Rattle.verilog_text.specs.Text.{output_lines, top_scope}
 use Rattle.verilog_print.proofs.printer.put_output_lines.Given as goal
 
 abbrev pub invariant-loop-place : goal.invariant-loop-place

@@ -1,5 +1,5 @@
 use Rattle.std.proofs.Common.{◌≡◌, ℕ, List, ◌++◌, append_assoc}
-use Rattle.netlist.specs.Text.{top_scope}
+use Rattle.verilog_text.specs.Text.{top_scope}
 use Rattle.verilog_print.proofs.printer.put_top.Goals as goal
 
 -- seven texts one after another

@@ -1,6 +1,6 @@
 -- what is written, with the declarations that are left, is all
 use Rattle.std.proofs.Common.{◌≡◌, ◌++◌, drop}
-use Rattle.netlist.specs.Text.{Scope, declarations}
+use Rattle.verilog_text.specs.Text.{Scope, declarations}
 use Rattle.verilog_print.proofs.wires.put_declarations.Given as goal
 
 abbrev pub invariant-loop-wire : goal.invariant-loop-wire

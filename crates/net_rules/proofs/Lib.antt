@@ -1,0 +1,10 @@
+pub mod Distinct
+pub mod DrivenWires
+pub mod EachItem
+pub mod FirstFault
+pub mod FullNames
+pub mod JoinedWidths
+pub mod Marking
+pub mod NameForms
+pub mod OneFault
+pub mod Rising

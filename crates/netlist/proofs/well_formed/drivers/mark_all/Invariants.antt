@@ -1,7 +1,0 @@
-use Rattle.std.proofs.Common.{◌≡◌, length}
-use Rattle.netlist.specs.Marks.{Marks}
-use Rattle.netlist.proofs.well_formed.drivers.mark_all.Given as goal
-
--- the wires so far are marked
-abbrev pub invariant-loop-w : goal.invariant-loop-w
-invariant-loop-w l = record { marks : Marks l.inputs l.driven l.marks l.w-index; size : length l.marks ≡ length l.fn.marks }

@@ -1,0 +1,2 @@
+//! The Verilog text of a net, as definitions.
+#![tactic(auto)]
