@@ -39,7 +39,7 @@ use Rattle.chw_words.specs.declared.command.Command.{Command}
 use Rattle.chw_words.specs.declared.command.Command.TheVariants.{Emit, Check}
 use Rattle.flat_form.specs.Grammar.{IsFlatText}
 use Rattle.flat_form.specs.declared.flat.FlatText.{FlatText}
-use Rattle.flat_law.specs.FlatOf.{flat_of}
+use Rattle.flat_form.specs.FlatNet.{flat_of}
 use Rattle.netlist.specs.Orders.{IsLoop}
 use Rattle.data_kinds.specs.Laws.{OneProgram}
 

@@ -29,7 +29,8 @@ use Rattle.chw_words.specs.declared.command.Command.TheVariants.{Emit, Check}
 use Rattle.flat_form.specs.FlatNet.{net_of}
 use Rattle.flat_form.specs.Grammar.{IsFlatText}
 use Rattle.flat_form.specs.declared.flat.FlatText.{FlatText}
-use Rattle.flat_law.specs.FlatOf.{flat_of, SameBits}
+use Rattle.flat_form.specs.FlatNet.{flat_of}
+use Rattle.flat_law.specs.FlatOf.{SameBits}
 use Rattle.netlist.specs.Orders.{IsLoop}
 use Rattle.verilog_text.specs.Text.{net_text}
 use Rattle.chw_resolve.specs.Programs.{IsProgramOf}

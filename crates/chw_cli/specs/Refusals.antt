@@ -18,9 +18,8 @@ use Rattle.chw_words.specs.declared.command.Command.{Command}
 use Rattle.chw_words.specs.declared.command.WordsFault.{WordsFault}
 use Rattle.flat_form.specs.declared.flat.FlatText.{FlatText}
 use Rattle.flat_form.specs.declared.flat.NotFlat.{NotFlat}
-use Rattle.flat_law.specs.FlatOf.{flat_of}
+use Rattle.flat_form.specs.FlatNet.{flat_of}
 use Rattle.netlist.specs.Orders.{IsLoop}
-use Rattle.net_flat.specs.declared.flatten.TooLarge.{TooLarge}
 use Rattle.netlist.specs.declared.net.Loop.{Loop}
 
 abbrev pub of_words_fault : Or WordsFault → Refusal
@@ -47,10 +46,6 @@ of_type_fault (Fault f) = refusal.Types f
 abbrev pub of_not_flat : Or NotFlat → Refusal
 of_not_flat Memory = refusal.Memory
 of_not_flat (Fault f) = refusal.Form
-
-abbrev pub of_too_large : Or TooLarge → Refusal
-of_too_large Memory = refusal.Memory
-of_too_large (Fault f) = refusal.TooLarge
 
 abbrev pub of_loop : Or Loop → Refusal
 of_loop Memory = refusal.Memory

@@ -3,14 +3,14 @@ ghost use Rattle.std.specs.Prelude.{◌≡◌, ◌≤◌, length, Ok, IfOk, IfEr
 ghost use Rattle.chw_base.specs.declared.limits.TheConstants.{DESCRIPTION_BYTES};
 ghost use Rattle.chw_cli.specs.Answer.{EmitAnswer, CanBeEmitted};
 ghost use Rattle.chw_cli.specs.Refusals.{RefusesEmit, RefusesNet};
-ghost use Rattle.flat_form.specs.FlatNet.{net_of};
+ghost use Rattle.flat_form.specs.FlatNet.{flat_of};
 ghost use Rattle.flat_form.specs.Holds.{Holds};
 
 use crate::refusal::Refusal;
+use chw_base::limits::FLAT_WIRES;
 use flat_form::FlatText;
 use flat_law::laws::{net_has_the_bits, net_is_sound};
-use netlist::Net;
-use net_flat::flatten::flatten;
+use netlist::Flat;
 use netlist::laws::an_order_excludes_loops;
 use netlist::ordering::order;
 use std::alloc::Global;
@@ -21,23 +21,26 @@ pub(crate) fn emitted(alloc: Global, text: &[u8]) -> Result<Vec<u8>, Refusal>
     ensures emitted { IfOk result (λ bytes. EmitAnswer text.now (Ok bytes.items)) }
     ensures refused { IfErr result (RefusesEmit text.now) }
 {
-    let flat = flat_form::read(alloc, text)?;
-    let net = flat_form::net(alloc, &flat)?;
-    check(alloc, &flat, &net)?;
+    let description = flat_form::read(alloc, text)?;
+    let flat = flat_form::flat_net(alloc, &description)?;
+    check(alloc, &description, &flat)?;
+    let net = flat_form::net(alloc, &description, flat)?;
     let bytes = verilog_print::print(alloc, &net)?;
     Ok(bytes)
 }
 
 /// Whether the net of the description can be emitted: it has no more wires than the limit, and no loop.
-fn check(alloc: Global, flat: &FlatText, net: &Net) -> Result<(), Refusal>
-    requires holds { Holds flat.now }
-    requires net { net.now ≡ net_of flat.now }
-    ensures ok { OnOk result (CanBeEmitted flat.now) }
-    ensures refused { IfErr result (RefusesNet flat.now) }
+fn check(alloc: Global, description: &FlatText, flat: &Flat) -> Result<(), Refusal>
+    requires holds { Holds description.now }
+    requires flat { flat.now ≡ flat_of description.now }
+    ensures ok { OnOk result (CanBeEmitted description.now) }
+    ensures refused { IfErr result (RefusesNet description.now) }
 {
-    let wires = flatten(alloc, net)?;
+    if flat.widths.len() > FLAT_WIRES as usize {
+        return Err(Refusal::TooLarge);
+    }
     net_is_sound();
-    order(alloc, &wires)?;
+    order(alloc, flat)?;
     net_has_the_bits();
     an_order_excludes_loops();
     Ok(())

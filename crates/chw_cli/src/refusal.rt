@@ -1,6 +1,6 @@
 //! Why the program gave no answer.
 ghost use Rattle.std.specs.Prelude.{◌≡◌};
-ghost use Rattle.chw_cli.specs.Refusals.{of_lex_fault, of_loop, of_name_fault, of_not_flat, of_parse_fault, of_too_large, of_type_fault, of_words_fault};
+ghost use Rattle.chw_cli.specs.Refusals.{of_lex_fault, of_loop, of_name_fault, of_not_flat, of_parse_fault, of_type_fault, of_words_fault};
 ghost use Rattle.chw_cli.specs.declared.refusal.Refusal.TheVariants.{Memory};
 
 use chw_base::{Name, NoMemory, Or, Seq, WireId};
@@ -10,7 +10,6 @@ use chw_parser::ParseFault;
 use chw_resolve::NameFault;
 use chw_words::WordsFault;
 use flat_form::NotFlat;
-use net_flat::TooLarge;
 use netlist::Loop;
 
 /// Why the program gave no answer, with what its line shows.
@@ -115,17 +114,6 @@ impl From<Or<NotFlat>> for Refusal {
         match error {
             Or::Memory => Refusal::Memory,
             Or::Fault(_) => Refusal::Form,
-        }
-    }
-}
-
-impl From<Or<TooLarge>> for Refusal {
-    ghost from_gives = { λ e r. r ≡ of_too_large e };
-
-    fn from(error: Or<TooLarge>) -> Refusal {
-        match error {
-            Or::Memory => Refusal::Memory,
-            Or::Fault(_) => Refusal::TooLarge,
         }
     }
 }

@@ -13,6 +13,7 @@ use Rattle.flat_form.specs.declared.flat.Right.{Right}
 use Rattle.flat_form.specs.declared.flat.Right.TheVariants.{Same, Register, Sum}
 use Rattle.netlist.specs.declared.net.Cell.{Cell}
 use Rattle.netlist.specs.declared.net.Cell.TheVariants.{Copy, Reg, Bin}
+use Rattle.netlist.specs.declared.net.Flat.{Flat}
 use Rattle.netlist.specs.declared.net.Module.{Module}
 use Rattle.netlist.specs.declared.net.Net.{Net}
 use Rattle.netlist.specs.declared.net.Op2.TheVariants.{Add}
@@ -64,3 +65,12 @@ ports_of f = record { domains = f.domain ∷ []; resets = []; inputs = input_por
 
 abbrev pub net_of : FlatText → Net
 net_of f = record { ports = ports_of f; modules = module_of f ∷ [] }
+
+-- the same as a flat net
+abbrev pub flat_of : FlatText → Flat
+flat_of f = record {
+  ports = ports_of f;
+  widths = (module_of f).widths;
+  outputs = (module_of f).outputs;
+  cells = (module_of f).cells;
+}

@@ -1,16 +1,15 @@
 //! The net of a flat description.
 ghost use Rattle.std.specs.Prelude.{◌≡◌, ℕ, ◌+◌, ◌^◌, ◌<◌, List, length, IfOk};
-ghost use Rattle.flat_form.specs.FlatNet.{cell_of, cells_of, input_ports, module_of, net_of, port, ports_of, wire_of};
-ghost use Rattle.flat_form.specs.Holds.{Holds, names_of, signals};
-ghost use Rattle.flat_form.specs.Tables.{Tables, texts};
-ghost use Rattle.verilog_text.specs.Text.{HasText};
+ghost use Rattle.flat_form.specs.FlatNet.{cell_of, cells_of, flat_of, input_ports, net_of, port, ports_of, wire_of};
+ghost use Rattle.flat_form.specs.Holds.{Holds};
+ghost use Rattle.flat_form.specs.Tables.{texts};
 
 use crate::flat::{Binding, FlatText, Parameter, Right};
 use crate::owned::owned;
 use crate::table::{Table, table_of};
-use chw_base::{DomId, Name, NoMemory, Seq, WireId};
+use chw_base::{DomId, Name, NoMemory, Seq, WireId, narrow};
 use chw_clock::{Port, Ports};
-use netlist::{Cell, Module, Net, Op2};
+use netlist::{Cell, Flat, Module, Net, Op2};
 use std::alloc::Global;
 
 /// The one domain.
@@ -101,39 +100,43 @@ fn ports_of(alloc: Global, f: &FlatText) -> Result<Ports, NoMemory>
     })
 }
 
-/// The module of a description, by the table of its signals.
-fn module_of(alloc: Global, f: &FlatText, table: Table) -> Result<Module, NoMemory>
-    requires { Tables table.names.keys table.widths.items (signals f.now) }
-    ensures { IfOk result (λ m. m ≡ module_of f.now) }
+/// The flat net of a description: its wires are the parameters and then the bindings, in order, with a cell for each binding.
+///
+/// A net of more wires than can be numbered finds no memory.
+pub fn flat_net(alloc: Global, f: &FlatText) -> Result<Flat, NoMemory>
+    requires { Holds f.now }
+    ensures { IfOk result (λ flat. flat ≡ flat_of f.now) }
 {
-    let inputs = f.parameters.len() as u32;
-    let cells = table.cells(alloc, inputs, f.bindings.as_slice())?;
+    let Some(table) = table_of(alloc, f)? else {
+        unreachable!();
+    };
+    let ports = ports_of(alloc, f)?;
+    let cells = table.cells(alloc, f.parameters.len() as u32, f.bindings.as_slice())?;
     let mut outputs = Vec::new(alloc);
     outputs.push(table.wire(&f.body))?;
-    Ok(Module {
-        inputs,
+    Ok(Flat {
+        ports,
         widths: Seq::from(table.widths),
         outputs: Seq::from(outputs),
         cells: Seq::from(cells),
     })
 }
 
-/// The net of a description: a module whose wires are the parameters and then the bindings, in order, with a cell for each binding.
-///
-/// A net of more wires than can be numbered finds no memory.
-pub fn net(alloc: Global, f: &FlatText) -> Result<Net, NoMemory>
-    requires { Holds f.now }
-    ensures net { IfOk result (λ n. n ≡ net_of f.now) }
-    ensures text { IfOk result (λ n. HasText n) }
+/// The net of a description, made of its flat net: one module.
+pub fn net(alloc: Global, f: &FlatText, flat: Flat) -> Result<Net, NoMemory>
+    requires { flat ≡ flat_of f.now }
+    ensures { IfOk result (λ n. n ≡ net_of f.now) }
 {
-    let Some(table) = table_of(alloc, f)? else {
-        unreachable!();
-    };
-    let ports = ports_of(alloc, f)?;
+    let inputs = narrow(f.parameters.len())?;
     let mut modules = Vec::new(alloc);
-    modules.push(module_of(alloc, f, table)?)?;
+    modules.push(Module {
+        inputs,
+        widths: flat.widths,
+        outputs: flat.outputs,
+        cells: flat.cells,
+    })?;
     Ok(Net {
-        ports,
+        ports: flat.ports,
         modules: Seq::from(modules),
     })
 }

@@ -15,6 +15,6 @@ mod reader;
 mod table;
 mod words;
 
-pub use build::net;
+pub use build::{flat_net, net};
 pub use flat::{Binding, FlatText, NotFlat, Parameter, Right};
 pub use reader::{one_description, read};

@@ -11,7 +11,7 @@ use Rattle.flat_form.specs.declared.flat.FlatText.{FlatText}
 use Rattle.flat_form.specs.declared.flat.Parameter.{Parameter}
 use Rattle.flat_form.specs.declared.flat.Right.{Right}
 use Rattle.flat_form.specs.declared.flat.Right.TheVariants.{Same, Register, Sum}
-use Rattle.flat_law.specs.FlatOf.{flat_of}
+use Rattle.flat_form.specs.FlatNet.{flat_of}
 use Rattle.flat_law.proofs.Cells.{cell_at, binding_at}
 use Rattle.flat_law.proofs.Lists.{all_from_get, recursion_at, get_exists, length_mapped}
 use Rattle.flat_law.proofs.Signals.{stands, binding_signal, width_at, widths_of_signals}

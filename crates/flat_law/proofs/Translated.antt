@@ -14,7 +14,7 @@ use Rattle.flat_form.specs.declared.flat.FlatText.{FlatText}
 use Rattle.flat_form.specs.declared.flat.Parameter.{Parameter}
 use Rattle.flat_form.specs.declared.flat.Right.{Right}
 use Rattle.flat_form.specs.declared.flat.Right.TheVariants.{Same, Register, Sum}
-use Rattle.flat_law.specs.FlatOf.{flat_of}
+use Rattle.flat_form.specs.FlatNet.{flat_of}
 use Rattle.flat_law.proofs.Cells.{cell_at}
 use Rattle.flat_law.proofs.Lists.{get_exists, get_mapped, recursion_at}
 use Rattle.flat_law.proofs.Resets.{before_fits, taken_is_before}

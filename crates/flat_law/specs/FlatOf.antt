@@ -1,21 +1,11 @@
--- The flat net of a flat description, and what it is to have the description's bits.
+-- What it is for the flat net of a flat description to have the description's bits.
 use Rattle.std.specs.Prelude.{Bool, List}
 use Rattle.chw_clock.specs.declared.event.Event.{Event}
-use Rattle.flat_form.specs.FlatNet.{module_of, net_of, place_of}
+use Rattle.flat_form.specs.FlatNet.{flat_of, place_of}
 use Rattle.flat_form.specs.FlatValue.{FlatValue}
 use Rattle.flat_form.specs.Holds.{names_of, signals}
 use Rattle.flat_form.specs.declared.flat.FlatText.{FlatText}
 use Rattle.netlist.specs.NetValue.{NetValue}
-use Rattle.netlist.specs.declared.net.Flat.{Flat}
-
--- the flat net of the net of a flat description
-abbrev pub flat_of : FlatText → Flat
-flat_of f = record {
-  ports = (net_of f).ports;
-  widths = (module_of f).widths;
-  outputs = (module_of f).outputs;
-  cells = (module_of f).cells;
-}
 
 -- the wire of the result's name has, at this history, bits that the name has
 pub record SameBits (f : FlatText) (h : List Event) : Type 0 where

@@ -3,9 +3,10 @@ ghost use Rattle.std.specs.Prelude.{◌≡◌, ◌≤◌, ℕ, Bool, List, lengt
 ghost use Rattle.chw_base.specs.declared.limits.TheConstants.{FLAT_WIRES};
 ghost use Rattle.chw_clock.specs.Histories.{FitsPorts};
 ghost use Rattle.chw_clock.specs.declared.event.Event.{Event};
+ghost use Rattle.flat_form.specs.FlatNet.{flat_of};
 ghost use Rattle.flat_form.specs.Holds.{Holds};
 ghost use Rattle.flat_form.specs.declared.flat.FlatText.{FlatText};
-ghost use Rattle.flat_law.specs.FlatOf.{flat_of, SameBits};
+ghost use Rattle.flat_law.specs.FlatOf.{SameBits};
 ghost use Rattle.netlist.specs.Orders.{IsOrder};
 ghost use Rattle.netlist.specs.Sound.{Sound};
 

@@ -1,12 +1,10 @@
 //! Rows of texts: those that are flat, each with the Verilog text of its net, and others.
 #![tactic(auto)]
 
-ghost use Rattle.std.specs.Prelude.{◌<◌, ◌^◌, length, IfOk};
-ghost use Rattle.verilog_text.specs.Text.{HasText};
+ghost use Rattle.std.specs.Prelude.{◌<◌, ◌^◌, length};
 
 use chw_base::Or;
-use flat_form::{NotFlat, net, read};
-use netlist::Net;
+use flat_form::{NotFlat, flat_net, net, read};
 use row_tables::{Unread, print_rows, put};
 use std::alloc::Global;
 use std::io;
@@ -32,14 +30,8 @@ fn answer(alloc: Global, call: &str, text: &str, out: &mut Vec<u8>) -> Result<()
 fn text_of(alloc: Global, text: &str) -> Result<Vec<u8>, Or<NotFlat>>
     requires { length text.now < 2 ^ 32 }
 {
-    let net = net_of(alloc, text)?;
+    let description = read(alloc, text.as_bytes())?;
+    let flat = flat_net(alloc, &description)?;
+    let net = net(alloc, &description, flat)?;
     Ok(print(alloc, &net)?)
-}
-
-fn net_of(alloc: Global, text: &str) -> Result<Net, Or<NotFlat>>
-    requires { length text.now < 2 ^ 32 }
-    ensures { IfOk result HasText }
-{
-    let flat = read(alloc, text.as_bytes())?;
-    Ok(net(alloc, &flat)?)
 }

@@ -1,61 +1,137 @@
-//! Orders the cells of a chain of wires, of which there are as many as the one word says, and writes how many cells were ordered. It is
-//! there to be timed: bench/flat.sh does.
+//! Makes a large net, goes with it as far as a word says, and writes how many items were made last. It is there to be timed: bench/flat.sh
+//! does.
+//!
+//! Its words are a form of net, `chain` or `tower`, how many wires it has, and how far to go: `made`, `judged`, `flat`, `ordered` or
+//! `printed`.
 #![tactic(auto)]
 
-ghost use Rattle.std.specs.Prelude.{◌<◌, ◌≤◌};
-ghost use Rattle.chw_base.specs.declared.limits.TheConstants.{FLAT_WIRES};
+ghost use Rattle.net_rules.specs.WellFormed.{WellFormed};
 
-mod chain;
+mod nets;
 
-use chain::chain;
-use chw_base::limits::FLAT_WIRES;
 use chw_base::{NoMemory, Or};
 use net_flat::flatten::flatten;
+use net_rules::well_formed::well_formed;
+use netlist::Net;
 use netlist::ordering::order;
+use nets::{chain, tower};
 use std::alloc::Global;
 use std::env;
 use std::process::ExitCode;
 use std::rt::Env;
+use verilog_print::print;
+
+/// Of a tower, how many modules it has.
+const STOREYS: u32 = 1_000;
+
+/// How far to go with a net.
+enum Stage {
+    Made,
+    Judged,
+    Flat,
+    Ordered,
+    Printed,
+}
+
+/// Why nothing was made.
+enum Trouble {
+    Words,
+    Memory,
+    /// The net isn't well formed, is too large, or has a loop.
+    Net,
+}
+
+impl From<NoMemory> for Trouble {
+    fn from(_: NoMemory) -> Trouble {
+        Trouble::Memory
+    }
+}
 
 fn main(rt: HostRuntime) -> ExitCode {
-    let Some(wires) = wires(&rt) else {
-        return ExitCode::from(2);
-    };
-    if wires == 0 || wires > FLAT_WIRES {
-        return ExitCode::from(2);
-    }
-    match cells_ordered(rt.alloc(), wires) {
-        Ok(Some(count)) => match println!(rt; "{count}") {
-            Ok(()) => ExitCode::SUCCESS,
-            Err(_) => ExitCode::from(4),
+    let status = match made(&rt) {
+        Ok(count) => match println!(rt; "{count}") {
+            Ok(()) => return ExitCode::SUCCESS,
+            Err(_) => 4,
         },
-        Ok(None) => ExitCode::from(1),
-        Err(NoMemory) => ExitCode::from(6),
+        Err(Trouble::Net) => 1,
+        Err(Trouble::Words) => 2,
+        Err(Trouble::Memory) => 6,
+    };
+    ExitCode::from(status)
+}
+
+// Reads the words and goes as far as they say.
+fn made<R: Env + AllocGlobal>(rt: &R) -> Result<usize, Trouble> {
+    let Ok(words) = env::args(rt) else {
+        return Err(Trouble::Memory);
+    };
+    let mut words = words.skip(1);
+    let (Some(form), Some(wires), Some(stage)) = (words.next(), words.next(), words.next()) else {
+        return Err(Trouble::Words);
+    };
+    let Ok(wires) = wires.as_str().parse::<u32>() else {
+        return Err(Trouble::Words);
+    };
+    let Some(stage) = stage_of(stage.as_str()) else {
+        return Err(Trouble::Words);
+    };
+    let net = match form.as_str() {
+        "chain" => chain(rt.alloc(), wires)?,
+        "tower" => tower(rt.alloc(), STOREYS, wires / STOREYS)?,
+        _ => return Err(Trouble::Words),
+    };
+    go(rt.alloc(), &net, stage)
+}
+
+fn stage_of(word: &str) -> Option<Stage> {
+    match word {
+        "made" => Some(Stage::Made),
+        "judged" => Some(Stage::Judged),
+        "flat" => Some(Stage::Flat),
+        "ordered" => Some(Stage::Ordered),
+        "printed" => Some(Stage::Printed),
+        _ => None,
     }
 }
 
-// The number that is the one word.
-fn wires<R: Env + AllocGlobal>(rt: &R) -> Option<u32> {
-    let mut words = env::args(rt).ok()?.skip(1);
-    let word = words.next()?;
-    match words.next() {
-        Some(_) => None,
-        None => word.as_str().parse::<u32>().ok(),
+// Goes with a net as far as this stage, and counts what was made last: modules, wires, cells or bytes.
+fn go(alloc: Global, net: &Net, stage: Stage) -> Result<usize, Trouble> {
+    if let Stage::Made = stage {
+        return Ok(net.modules.len());
+    }
+    match well_formed(alloc, net) {
+        Ok(()) => further(alloc, net, stage),
+        Err(Or::Memory) => Err(Trouble::Memory),
+        Err(Or::Fault(_)) => Err(Trouble::Net),
     }
 }
 
-// How many cells of a chain of this many wires are ordered, and none where a loop was found.
-fn cells_ordered(alloc: Global, wires: u32) -> Result<Option<usize>, NoMemory>
-    requires some { 0 < wires }
-    requires few { wires ≤ FLAT_WIRES }
+// Goes further with a net that is well formed.
+fn further(alloc: Global, net: &Net, stage: Stage) -> Result<usize, Trouble>
+    requires { WellFormed net.now }
 {
-    let net = chain(alloc, wires)?;
-    let Ok(flat) = flatten(alloc, &net) else {
-        return Err(NoMemory);
+    match stage {
+        Stage::Made | Stage::Judged => Ok(net.modules.len()),
+        Stage::Flat => match flatten(alloc, net) {
+            Ok(flat) => Ok(flat.widths.len()),
+            Err(Or::Memory) => Err(Trouble::Memory),
+            Err(Or::Fault(_)) => Err(Trouble::Net),
+        },
+        Stage::Ordered => cells_ordered(alloc, net),
+        Stage::Printed => Ok(print(alloc, net)?.len()),
+    }
+}
+
+// How many cells of the flat net are ordered.
+fn cells_ordered(alloc: Global, net: &Net) -> Result<usize, Trouble>
+    requires { WellFormed net.now }
+{
+    let Ok(flat) = flatten(alloc, net) else {
+        return Err(Trouble::Net);
     };
     match order(alloc, &flat) {
-        Ok(order) => Ok(Some(order.cells.len())),
-        Err(Or::Memory) => Err(NoMemory),
-        Err(Or::Fault(_)) => Ok(None),
+        Ok(order) => Ok(order.cells.len()),
+        Err(Or::Memory) => Err(Trouble::Memory),
+        Err(Or::Fault(_)) => Err(Trouble::Net),
     }
 }

@@ -1,7 +1,7 @@
 use Rattle.std.proofs.lemmas.Option.{slice_get_within}
 use Rattle.flat_form.specs.FlatNet.{place_of}
 use Rattle.flat_form.specs.Holds.{names_of, signals}
-use Rattle.flat_law.specs.FlatOf.{flat_of}
+use Rattle.flat_form.specs.FlatNet.{flat_of}
 use Rattle.flat_law.proofs.Signals.{widths_of_signals, width_at, stands}
 use Rattle.flat_law.proofs.SoundNet.{few_signals, net_sound}
 use Rattle.flat_law.proofs.Translated.{reads_name, translated}

@@ -1,0 +1,80 @@
+//! Large nets: a chain of wires in one module, and modules in one another.
+
+use chw_base::{ModId, NoMemory, Seq, WireId};
+use netlist::samples::one_input;
+use netlist::{Cell, Module, Net};
+use std::alloc::Global;
+
+// The cell of a chain that drives this wire: it copies the next one, and the last copies the input.
+fn link(wires: u32, to: u32) -> Cell
+    requires { to < wires }
+{
+    let from = if to + 1 < wires { to + 1 } else { 0 };
+    Cell::Copy(WireId { number: to }, WireId { number: from })
+}
+
+// The cells of a chain from its second wire to this one. Each copies the next one, so they stand in reverse order.
+fn links(alloc: Global, wires: u32) -> Result<Vec<Cell>, NoMemory> {
+    let mut cells = Vec::new(alloc);
+    for to in 1..wires {
+        cells.push(link(wires, to))?;
+    }
+    Ok(cells)
+}
+
+/// A net of an input, wire 0, and a chain of wires of 8 bits.
+pub(crate) fn chain(alloc: Global, wires: u32) -> Result<Net, NoMemory> {
+    let cells = links(alloc, wires)?;
+    let top = module(alloc, wires, cells, Seq::from(Vec::new(alloc)))?;
+    Ok(Net {
+        ports: one_input(alloc)?,
+        modules: Seq::from(vec![in alloc; top]?),
+    })
+}
+
+// A module of so many wires of 8 bits, of which the first is its input.
+fn module(
+    alloc: Global,
+    wires: u32,
+    cells: Vec<Cell>,
+    outputs: Seq<WireId>,
+) -> Result<Module, NoMemory> {
+    Ok(Module {
+        inputs: 1,
+        widths: Seq::from(vec![in alloc; 8; wires as usize]?),
+        outputs,
+        cells: Seq::from(cells),
+    })
+}
+
+// A module with a chain of so many wires, and one wire more that the module of the number before drives, if there is one.
+fn storey(alloc: Global, number: u32, wires: u32) -> Result<Module, NoMemory> {
+    let last = WireId { number: wires };
+    let first = WireId { number: 1 };
+    let mut cells = links(alloc, wires)?;
+    let cell = match number.checked_sub(1) {
+        Some(below) => {
+            let reads = Seq::from(vec![in alloc; first]?);
+            let drives = Seq::from(vec![in alloc; last]?);
+            Cell::Use(ModId { number: below }, reads, drives)
+        }
+        None => Cell::Copy(last, first),
+    };
+    cells.push(cell)?;
+    let all = wires.checked_add(1).ok_or(NoMemory)?;
+    module(alloc, all, cells, Seq::from(vec![in alloc; last]?))
+}
+
+/// A net of so many modules of so many wires. Each but the first uses the one before it.
+pub(crate) fn tower(alloc: Global, modules: u32, wires: u32) -> Result<Net, NoMemory> {
+    let mut storeys = Vec::new(alloc);
+    for number in 0..modules {
+        storeys.push(storey(alloc, number, wires)?)?;
+    }
+    let mut ports = one_input(alloc)?;
+    ports.outputs = one_input(alloc)?.inputs;
+    Ok(Net {
+        ports,
+        modules: Seq::from(storeys),
+    })
+}
