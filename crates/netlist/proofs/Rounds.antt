@@ -3,11 +3,11 @@ use Rattle.std.proofs.Common.{◌≡◌, ℕ, ◌+◌, ◌-◌, ◌<◌, ◌⊎�
 use Rattle.std.proofs.lemmas.Bool.{cases_eq, cases_lt}
 use Rattle.std.proofs.lemmas.List.{get_or_append_left, get_or-append_right, get_or-drop, get_or-reverse, get_or-take, length-reverse, length-take-le}
 use Rattle.graph_order.specs.Orders.{IsCycle as IsRound, LeastFirst as LeastFirstOf}
-use Rattle.netlist.specs.Drivers.{IsTable, waits}
 use Rattle.netlist.specs.Feeds.{Feeds}
 use Rattle.netlist.specs.Orders.{IsCycle, LeastFirst}
+use Rattle.netlist.specs.Sound.{DrivesFrom}
+use Rattle.netlist.specs.Waits.{waits}
 use Rattle.netlist.specs.declared.net.Cell.{Cell}
-use Rattle.std.proofs.Common.{Option}
 use Rattle.netlist.proofs.Waiting.{feeds_by}
 
 abbrev round : List ℕ → List ℕ
@@ -47,8 +47,7 @@ round_at xs i l =
 Feeds_at : (cells : List Cell) (v w v' w' : ℕ) → v ≡ v' → w ≡ w' → Feeds cells v' w' → Feeds cells v w
 Feeds_at cells v w v' w' e f h = rw (e, f) h
 
-module _ (n : ℕ) (cells : List Cell) (drivers : List (Option ℕ)) (t : IsTable n cells drivers) (xs : List ℕ)
-    (c : IsRound (waits cells drivers) xs) where
+module _ (inputs : ℕ) (cells : List Cell) (d : DrivesFrom inputs cells) (xs : List ℕ) (c : IsRound (waits inputs cells) xs) where
   -- each wire feeds the one at the next place, or that of the first after the last
   round_feeds : (i j : ℕ) → i < length xs → ((j ≡ i + 1) × (j < length xs)) ⊎ ((i + 1 ≡ length xs) × (j ≡ 0))
       → Feeds cells (get_or (round xs) i 0) (get_or (round xs) j 0)
@@ -56,7 +55,7 @@ module _ (n : ℕ) (cells : List Cell) (drivers : List (Option ℕ)) (t : IsTabl
       let to : j < length xs = elim h [ inl x ↦ x.1 | inr x ↦ omega (arith, x.1) ] in
       let a = round_at xs i l in
       let b = round_at xs j to in
-      Feeds_at cells _ _ (get_or xs a.0 0) (get_or xs b.0 0) a.2 b.2 (feeds_by n cells drivers t (get_or xs b.0 0) (get_or xs a.0 0)
+      Feeds_at cells _ _ (get_or xs a.0 0) (get_or xs b.0 0) a.2 b.2 (feeds_by inputs cells d (get_or xs b.0 0) (get_or xs a.0 0)
       (elim (cases_lt (b.0 + 1) (length xs)) [
         | inl k ↦ let e : a.0 ≡ b.0 + 1 = omega (arith, a.1, a.3, b.3, h) in rw e (c.next b.0 k)
         | inr k ↦ let e : a.0 ≡ 0 = omega (arith, a.1, b.1, a.3, b.3, h) in rw e (c.closes b.0 (omega (arith, b.1)))

@@ -2,32 +2,26 @@
 ghost use Rattle.std.specs.Prelude.{◌≡◌, ◌<◌, ◌++◌, length, drop, take, reverse, IfOk};
 ghost use Rattle.chw_base.specs.Outcome.{IfFault};
 ghost use Rattle.graph_order.specs.Orders.{IsOrder as OrdersNodes};
-ghost use Rattle.netlist.specs.Drivers.{IsTable, waits};
 ghost use Rattle.netlist.specs.Orders.{IsLoop, IsOrder, wire_numbers};
 ghost use Rattle.netlist.specs.Sound.{Sound};
+ghost use Rattle.netlist.specs.Waits.{waits};
 
-use crate::drivers::{driver_of, drivers};
 use crate::net::{Flat, Loop, Order};
-use crate::waits::Waits;
+use crate::waits::{Waits, place_of};
 use chw_base::{NoMemory, Or, Seq, WireId};
 use graph_order::{Ordering, order_of};
 use std::alloc::Global;
 
 // The cells that drive these wires, in the order of the wires. An order of all wires gives one of all cells.
-fn cells_along(
-    alloc: Global,
-    flat: &Flat,
-    drivers: &[Option<u32>],
-    wires: &[u32],
-) -> Result<Order, NoMemory>
+fn cells_along(alloc: Global, flat: &Flat, wires: &[u32]) -> Result<Order, NoMemory>
     requires sound { Sound flat.now }
-    requires table { IsTable (length flat.now.widths) flat.now.cells drivers.now }
-    requires order { OrdersNodes (waits flat.now.cells drivers.now) wires.now }
+    requires order { OrdersNodes (waits (length flat.now.ports.inputs) flat.now.cells) wires.now }
     ensures { IfOk result (λ o. IsOrder flat.now o.cells) }
 {
+    let inputs = flat.ports.inputs.len();
     let mut places = Vec::new(alloc);
     for wire in wires {
-        if let Some(place) = driver_of(drivers, WireId { number: *wire }) {
+        if let Some(place) = place_of(inputs, *wire) {
             places.push(place)?;
         }
     }
@@ -65,13 +59,12 @@ pub fn order(alloc: Global, flat: &Flat) -> Result<Order, Or<Loop>>
     ensures order { IfOk result (λ o. IsOrder flat.now o.cells) }
     ensures loop_ { IfFault result (λ l. IsLoop flat.now l.cycle) }
 {
-    let drivers = drivers(alloc, flat)?;
     let graph = Waits {
+        inputs: flat.ports.inputs.as_slice(),
         cells: flat.cells.as_slice(),
-        drivers: &drivers,
     };
     match order_of(alloc, &graph)? {
-        Ordering::Order(wires) => Ok(cells_along(alloc, flat, &drivers, &wires)?),
+        Ordering::Order(wires) => Ok(cells_along(alloc, flat, &wires)?),
         Ordering::Cycle(wires) => Err(Or::Fault(Loop {
             cycle: turned_round(alloc, wires)?,
         })),

@@ -1,17 +1,26 @@
 //! The wires of a flat net as a graph: each refers to those that the cell that drives it waits for.
 ghost use Rattle.std.specs.Prelude.{◌≡◌, ◌-◌, ◌<◌, ◌≤◌, length, slice_get};
-ghost use Rattle.netlist.specs.Drivers.{waits, waits_at};
+ghost use Rattle.netlist.specs.Waits.{driving_place, waits, waits_at};
 
-use crate::drivers::driver_of;
 use crate::net::Cell;
-use chw_base::WireId;
+use chw_clock::Port;
 use graph_order::Graph;
 
-// How many wires the driver at a place waits for.
-fn waits_len(cells: &[Cell], driver: Option<u32>) -> usize
-    ensures { result ≡ length (waits_at cells.now driver) }
+/// The place of the cell that drives a wire, unless the wire is one of the inputs.
+pub(crate) fn place_of(inputs: usize, wire: u32) -> Option<u32>
+    ensures { result ≡ driving_place inputs wire }
 {
-    let Some(place) = driver else {
+    if (wire as usize) < inputs {
+        return None;
+    }
+    Some(wire - inputs as u32)
+}
+
+// How many wires the cell at a place waits for.
+fn waits_len(cells: &[Cell], place: Option<u32>) -> usize
+    ensures { result ≡ length (waits_at cells.now place) }
+{
+    let Some(place) = place else {
         return 0;
     };
     match cells.get(place as usize) {
@@ -20,41 +29,37 @@ fn waits_len(cells: &[Cell], driver: Option<u32>) -> usize
     }
 }
 
-// The wire that the driver at a place waits for where this many are left, itself among them. The last that it reads comes first.
-fn wait_at(cells: &[Cell], driver: Option<u32>, left: usize) -> Option<u32>
+// The wire that the cell at a place waits for where this many are left, itself among them. The last that it reads comes first.
+fn wait_at(cells: &[Cell], place: Option<u32>, left: usize) -> Option<u32>
     requires some { 0 < left }
-    requires fits { left ≤ length (waits_at cells.now driver) }
-    ensures { result ≡ slice_get (waits_at cells.now driver) (length (waits_at cells.now driver) - left) }
+    requires fits { left ≤ length (waits_at cells.now place) }
+    ensures { result ≡ slice_get (waits_at cells.now place) (length (waits_at cells.now place) - left) }
 {
-    let place = driver?;
+    let place = place?;
     let cell = cells.get(place as usize)?;
     let wire = cell.awaited(left - 1)?;
     Some(wire.number)
 }
 
-/// The cells of a flat net, and by the number of a wire the place of the one that drives it.
+/// The inputs of a flat net, and its cells, which drive the wires after the inputs in order.
 #[derive(Drop)]
 pub(crate) struct Waits<'a> {
+    pub inputs: &'a [Port],
     pub cells: &'a [Cell],
-    pub drivers: &'a [Option<u32>],
 }
 
 impl<'a> Graph for Waits<'a> {
-    ghost lists = { λ it. waits it.cells.now it.drivers.now };
+    ghost lists = { λ it. waits (length it.inputs.now) it.cells.now };
 
     fn node_count(&self) -> usize {
-        self.drivers.len()
+        self.inputs.len() + self.cells.len()
     }
 
     fn degree(&self, node: u32) -> usize {
-        waits_len(self.cells, driver_of(self.drivers, WireId { number: node }))
+        waits_len(self.cells, place_of(self.inputs.len(), node))
     }
 
     fn reference(&self, node: u32, left: usize) -> Option<u32> {
-        wait_at(
-            self.cells,
-            driver_of(self.drivers, WireId { number: node }),
-            left,
-        )
+        wait_at(self.cells, place_of(self.inputs.len(), node), left)
     }
 }
