@@ -1,15 +1,12 @@
 -- What a module of a Verilog text declares: its ports, its wires and its names; and what numbers
 -- and literals mean.
 use Rattle.std.specs.Prelude.{◌≡◌, ℕ, ◌+◌, ◌<◌, ◌^◌, Bool, List, [], ◌∷◌, ◌++◌, length, map}
-use Rattle.std.specs.Prelude.{Option, Some, option_map, slice_get, if◌then◌else◌}
+use Rattle.std.specs.Prelude.{Option, Some, option_map, slice_get}
 use Rattle.std.specs.List.{flat_map}
 use Rattle.std.specs.Str.Parse.{digits_value}
-use Rattle.chw_base.specs.declared.index.DomId.{DomId}
 use Rattle.chw_base.specs.declared.index.WireId.{WireId}
 use Rattle.chw_bits.specs.Bits.{number_of}
-use Rattle.chw_clock.specs.Histories.{is_one_of}
 use Rattle.name_tables.specs.Names.{place_of}
-use Rattle.verilog_text.specs.Names.{clock_name, reset_name}
 use Rattle.verilog_text.specs.Source.{Item, Line, Memory, ModuleItem, PortItem, Range, all_of}
 use Rattle.verilog_text.specs.Source.Item.{register_item, use_item, wire_item}
 use Rattle.verilog_text.specs.Source.PortItem.{input_port, output_port, signal_port}
@@ -132,12 +129,3 @@ IsOfKind wires w kind = option_map (λ d. d.kind) (slice_get wires w.number) ≡
 abbrev pub IsAsWide : List Declared → WireId → ℕ → Type 0
 IsAsWide wires w width =
     option_map (λ (d : Declared). width_of d.line.range) (slice_get wires w.number) ≡ Some width
-
--- the names of the clocks of the domains from this number on, each with its reset behind it where
--- it has one
-abbrev pub signal_names : List DomId → ℕ → List (List ℕ) → List (List ℕ)
-signal_names resets k [] = []
-signal_names resets k (domain ∷ domains) =
-    clock_name domain
-    ∷ ((if is_one_of resets (record { number = k }) then reset_name domain ∷ [] else [])
-    ++ signal_names resets (k + 1) domains)

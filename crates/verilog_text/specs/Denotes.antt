@@ -1,6 +1,6 @@
 -- The net that a Verilog text denotes: its wires are numbered in the order of their declarations,
 -- and its cells stand in the order of the items that drive them.
-use Rattle.std.specs.Prelude.{◌≡◌, ℕ, ◌+◌, Bool, false, true, ◌==◌, codes}
+use Rattle.std.specs.Prelude.{◌≡◌, ℕ, ◌+◌, Bool, false, true, ◌==◌}
 use Rattle.std.specs.Prelude.{List, [], ◌∷◌, ◌++◌, length, map}
 use Rattle.std.specs.Prelude.{Option, Some, None, slice_get, if◌then◌else◌}
 use Rattle.std.specs.List.{AllByRecursion}
@@ -23,14 +23,16 @@ use Rattle.netlist.specs.declared.net.RamIn.{RamIn}
 use Rattle.verilog_text.specs.Declared.{AreInOrder, AreNamesOf, Declared, IsAsWide, IsLiteralOf}
 use Rattle.verilog_text.specs.Declared.{IsNameOf, IsOfKind, MeansBits, declared_by, input_wires}
 use Rattle.verilog_text.specs.Declared.{inputs_of, lines_of, names_of, outputs_of, port_name}
-use Rattle.verilog_text.specs.Declared.{signal_names, signals_of, value, width_of, wires_of}
+use Rattle.verilog_text.specs.Declared.{signals_of, value, width_of, wires_of}
 use Rattle.verilog_text.specs.Declared.Kind.{a_register, a_wire}
 use Rattle.verilog_text.specs.Names.{clock_name, domain_name, input_name, output_name, reset_name}
+use Rattle.verilog_text.specs.Names.{top_name}
 use Rattle.verilog_text.specs.Source.{Access, Connection, Edge, FirstWord, Item, Line, Memory}
 use Rattle.verilog_text.specs.Source.{ModuleItem, OneOrMore, RamItem, Range, Reset, Right, Source}
 use Rattle.verilog_text.specs.Source.{UseItem, all_of, modules_of}
 use Rattle.verilog_text.specs.Source.Item.{assign_item, edge_item, ram_item, register_item}
 use Rattle.verilog_text.specs.Source.Item.{use_item, wire_item}
+use Rattle.verilog_text.specs.Text.{clock_names}
 use Rattle.verilog_text.specs.Source.Right.{binary, choice, constant, copy, cut, join, unary}
 
 -- where an item stands: the ports of the net, the outputs of its module, and the modules before it
@@ -223,7 +225,7 @@ pub record DenotesModule (ports : Ports) (earlier : List ModuleItem) (m : Module
     (made : Module) : Type 0 where
   pub order : AreInOrder (all_of m.ports)
   -- every module has the clocks and resets of all domains
-  pub signals : signals_of (all_of m.ports) ≡ signal_names ports.resets 0 ports.domains
+  pub signals : signals_of (all_of m.ports) ≡ clock_names ports.resets 0 ports.domains
   -- each name is declared once
   pub names : AreDistinct (names_of m)
   -- the range of bits of each declaration ends at 0
@@ -254,7 +256,7 @@ pub record ArePorts (name_of_port : Port → List ℕ) (lines : List Line) (port
 -- the text denotes the net
 pub record Denotes (source : Source) (net : Net) : Type 0 where
   -- the last module is the top, and no two modules have one name
-  pub last : source.last.name ≡ codes "chw_top"
+  pub last : source.last.name ≡ top_name
   pub names : AreDistinct (map (λ (m : ModuleItem). m.name) (modules_of source))
   -- its ports are those of the net
   pub inputs : ArePorts (input_name net.ports.domains)

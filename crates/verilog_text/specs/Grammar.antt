@@ -2,8 +2,6 @@
 -- production.
 use Rattle.std.specs.Prelude.{◌≡◌, ℕ, List, [], ◌∷◌, ◌++◌, codes, map, Option, Some, None}
 use Rattle.std.specs.List.{flat_map}
-use Rattle.netlist.specs.declared.net.Op1.{Op1}
-use Rattle.netlist.specs.declared.net.Op1.TheVariants.{Not, RedAnd, RedOr, RedXor}
 use Rattle.netlist.specs.declared.net.Op2.{Op2}
 use Rattle.netlist.specs.declared.net.Op2.TheVariants.{Add, Sub, Mul, And, Or, Xor, Eq, LtU, LtS}
 use Rattle.netlist.specs.declared.net.Op2.TheVariants.{Shl, Shr, Sar}
@@ -14,6 +12,7 @@ use Rattle.verilog_text.specs.Source.Item.{assign_item, edge_item, ram_item, reg
 use Rattle.verilog_text.specs.Source.Item.{use_item, wire_item}
 use Rattle.verilog_text.specs.Source.PortItem.{input_port, output_port, signal_port}
 use Rattle.verilog_text.specs.Source.Right.{binary, choice, constant, copy, cut, join, unary}
+use Rattle.verilog_text.specs.Text.{sign1}
 use Rattle.verilog_text.specs.VForms.{Token}
 use Rattle.verilog_text.specs.VForms.Sort.{keyword as a_keyword, literal as a_literal}
 use Rattle.verilog_text.specs.VForms.Sort.{name as a_name, number as a_number, sign as a_sign}
@@ -60,25 +59,19 @@ port_tokens (signal_port s) = keyword (codes "input") ∷ name s ∷ []
 port_tokens (input_port l) = keyword (codes "input") ∷ line_tokens l
 port_tokens (output_port l) = keyword (codes "output") ∷ line_tokens l
 
-abbrev pub sign1 : Op1 → List ℕ
-sign1 Not = codes "~"
-sign1 RedAnd = codes "&"
-sign1 RedOr = codes "|"
-sign1 RedXor = codes "^"
-
-abbrev pub sign2 : Op2 → List ℕ
-sign2 Add = codes "+"
-sign2 Sub = codes "-"
-sign2 Mul = codes "*"
-sign2 And = codes "&"
-sign2 Or = codes "|"
-sign2 Xor = codes "^"
-sign2 Eq = codes "=="
-sign2 LtU = codes "<"
-sign2 LtS = codes "<"
-sign2 Shl = codes "<<"
-sign2 Shr = codes ">>"
-sign2 Sar = codes ">>>"
+abbrev pub binary_sign : Op2 → List ℕ
+binary_sign Add = codes "+"
+binary_sign Sub = codes "-"
+binary_sign Mul = codes "*"
+binary_sign And = codes "&"
+binary_sign Or = codes "|"
+binary_sign Xor = codes "^"
+binary_sign Eq = codes "=="
+binary_sign LtU = codes "<"
+binary_sign LtS = codes "<"
+binary_sign Shl = codes "<<"
+binary_sign Shr = codes ">>"
+binary_sign Sar = codes ">>>"
 
 -- $signed(a)
 abbrev pub signed_tokens : List ℕ → List Token
@@ -86,9 +79,9 @@ signed_tokens a = signed ∷ sign (codes "(") ∷ name a ∷ sign (codes ")") �
 
 -- a + b; $signed(a) < $signed(b); $signed(a) >>> b
 abbrev pub binary_tokens : Op2 → List ℕ → List ℕ → List Token
-binary_tokens LtS a b = signed_tokens a ++ sign (sign2 LtS) ∷ signed_tokens b
-binary_tokens Sar a b = signed_tokens a ++ sign (sign2 Sar) ∷ name b ∷ []
-binary_tokens op a b = name a ∷ sign (sign2 op) ∷ name b ∷ []
+binary_tokens LtS a b = signed_tokens a ++ sign (binary_sign LtS) ∷ signed_tokens b
+binary_tokens Sar a b = signed_tokens a ++ sign (binary_sign Sar) ∷ name b ∷ []
+binary_tokens op a b = name a ∷ sign (binary_sign op) ∷ name b ∷ []
 
 -- 8'h1f; a; {a, b}; a[7:0]; ~a; a + b; c ? a : b
 abbrev pub right_tokens : Right → List Token
