@@ -55,7 +55,7 @@ AreHexDigits = BeginsThen is_hex_digit is_hex_digit
 pub record HasParts (bytes size digits : List ℕ) : Type 0 where
   pub size_is : IsNumber size
   pub digits_are : AreHexDigits digits
-  pub bytes_are : bytes ≡ size ++ codes "'h" ++ digits
+  pub bytes_are : bytes ≡ size ++ (codes "'h" ++ digits)
 
 -- a literal of some parts
 abbrev pub IsLiteral : List ℕ → Type 0

@@ -1,0 +1,4 @@
+pub mod Firsts
+pub mod Gaps
+pub mod Runs
+pub mod Uniqueness
