@@ -1,7 +1,9 @@
 pub mod Decoding
 pub mod Firsts
 pub mod Gaps
+pub mod OneModule
 pub mod OneRight
 pub mod OneSource
+pub mod Places
 pub mod Runs
 pub mod Uniqueness
