@@ -57,8 +57,7 @@ ram_decodes a b r s same =
     let read_count : a.read.count ≡ b.read.count = ap (bytes_at 29) tail in
     let shown : a.read.memory ≡ b.read.memory = ap (bytes_at 32) tail in
     let read_again : a.read.again ≡ b.read.again = ap (bytes_at 34) tail in
-    let zeros : a.zeros ≡ b.zeros = ap (bytes_at 37) tail in
-    (
+    let zeros : a.zeros ≡ b.zeros = ap (bytes_at 37) tail in (
       (λ i. record {
         words = record { first = first i; others = others i };
         clock = clock i;
