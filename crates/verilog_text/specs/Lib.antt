@@ -1,2 +1,9 @@
+pub mod Declared
+pub mod Denotes
+pub mod Grammar
 pub mod Names
+pub mod Source
 pub mod Text
+pub mod VForms
+pub mod VText
+pub mod VTokens

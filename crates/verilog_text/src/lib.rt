@@ -1,2 +1,4 @@
-//! The Verilog text of a net, as definitions.
+//! The Verilog text of a net, and the net that a Verilog text denotes, as definitions with their laws.
 #![tactic(auto)]
+
+pub mod laws;

@@ -1,0 +1,11 @@
+pub mod Decoding
+pub mod Firsts
+pub mod Gaps
+pub mod OneModule
+pub mod OneNet
+pub mod OnePorts
+pub mod OneRight
+pub mod OneSource
+pub mod Places
+pub mod Runs
+pub mod Uniqueness
