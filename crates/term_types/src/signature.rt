@@ -1,21 +1,33 @@
 //! What is kept of a program for finding the types of its terms.
 ghost use Rattle.std.specs.Prelude.{◌≡◌, [], length, map, IfOk, IfSome, IfNone};
 ghost use Rattle.std.specs.List.{slice_get};
+ghost use Rattle.chw_prims.specs.declared.names.TheConstants.{ALL};
+ghost use Rattle.chw_prims.specs.Schemas.{schema_type};
 ghost use Rattle.chw_types.specs.KindFound.{kind_found};
-ghost use Rattle.term_types.specs.Signatures.{IsSignature, kinds_declared};
+ghost use Rattle.term_types.specs.Signatures.{IsSignature, kinds_declared, head_type, primitive_types};
 
 use chw_base::NoMemory;
+use chw_prims::{ALL, Prim, schema};
 use chw_terms::Program;
 use chw_types::{Kind, Ty, kind_of};
 use con_places::Constructors;
 use std::alloc::Global;
 
-/// A program's constructors in a table, and the kinds of its definitions' types.
+/// The type of a head that is no variable, with its kind, where it has one.
+#[derive(Drop)]
+pub struct HeadType {
+    pub ty: Ty,
+    pub kind: Option<Kind>,
+}
+
+/// A program's constructors in a table, the kinds of its definitions' types, and the primitives' types.
 #[derive(Drop)]
 pub struct Signature<'p> {
     pub constructors: Constructors<'p>,
     /// The kind of each definition's declared type, where it has one.
     pub kinds: Vec<Option<Kind>>,
+    /// The type of each primitive, in the order of `ALL`.
+    pub primitives: Vec<HeadType>,
 }
 
 impl<'p> Signature<'p> {
@@ -27,9 +39,11 @@ impl<'p> Signature<'p> {
     {
         let constructors = Constructors::of(alloc, program.datas.as_slice())?;
         let kinds = declared_kinds(alloc, program)?;
+        let primitives = primitive_types(alloc, program)?;
         Ok(Signature {
             constructors,
             kinds,
+            primitives,
         })
     }
 
@@ -54,6 +68,34 @@ fn declared_kinds(alloc: Global, program: &Program) -> Result<Vec<Option<Kind>>,
         kinds.push(closed_kind(program, &it.ty))?;
     }
     Ok(kinds)
+}
+
+// The primitives' types, in the order of `ALL`.
+fn primitive_types(alloc: Global, program: &Program) -> Result<Vec<HeadType>, NoMemory>
+    ensures { IfOk result (λ ts. ts.items ≡ primitive_types program.now) }
+{
+    let all = ALL;
+    let mut types = Vec::new(alloc);
+    for which in &all {
+        types.push(primitive_type(alloc, program, *which)?)?;
+    }
+    Ok(types)
+}
+
+// A primitive's type.
+fn primitive_type(alloc: Global, program: &Program, which: Prim) -> Result<HeadType, NoMemory>
+    ensures { IfOk result (λ t. t ≡ head_type program.now (schema_type which)) }
+{
+    let ty = schema(alloc, which)?;
+    let kind = closed_kind(program, &ty);
+    Ok(HeadType { ty, kind })
+}
+
+/// The place of a primitive in `ALL`.
+pub(crate) fn place_in_all(which: Prim) -> usize
+    ensures { slice_get ALL result ≡ Some which }
+{
+    which as usize
 }
 
 // The kind of a type without variables, where it has one.
