@@ -13,18 +13,20 @@ use Rattle.chw_types.proofs.KindsKept.{closed_anywhere}
 use Rattle.chw_prims.specs.declared.names.TheConstants.{ALL}
 use Rattle.chw_prims.specs.declared.prim.Primitive.{Primitive}
 use Rattle.chw_prims.specs.Schemas.{schema_type}
-use Rattle.chw_terms.specs.TermTree.{global, prim}
+use Rattle.chw_terms.specs.Constructors.{Constructor, con_at}
+use Rattle.chw_terms.specs.TermTree.{global, con, prim}
 use Rattle.chw_terms.specs.declared.program.Def.{Def}
 use Rattle.chw_terms.specs.declared.program.Program.{Program}
 use Rattle.chw_typing.specs.Scopes.{Setting, HasKind}
 use Rattle.chw_typing.proofs.Lists.{found_in_map}
 use Rattle.found_types.specs.Finding.{f_global}
-use Rattle.chw_typing.specs.Typing.{h_prim}
+use Rattle.chw_typing.specs.HeadTypes.{con_type}
+use Rattle.chw_typing.specs.Typing.{h_con, h_prim}
 use Rattle.term_types.specs.Answers.{HasNoType, IsTyped, IsAnswer, IsReady}
 use Rattle.term_types.specs.Signatures.{head_type, primitive_types}
 use Rattle.term_types.specs.declared.found.Found.{Found}
 use Rattle.term_types.specs.declared.signature.HeadType.{HeadType}
-use Rattle.term_types.proofs.Plain.{IsKinded, prim_typed, prim_unkinded}
+use Rattle.term_types.proofs.Plain.{IsKinded, con_typed, con_unkinded, prim_typed, prim_unkinded}
 
 pub nothing_found : (datas : List Data) (domains : ℕ) (scope : List Kind) (t : TypeTree) → HasNoKind datas domains scope t → kind_found datas domains scope t ≡ None
 nothing_found datas domains scope t never = at (kind_found datas domains scope t) refl
@@ -68,3 +70,8 @@ head_kinded s t kind None is h = λ k has. let found = kind_is_found has in absu
 pub primitive_answered : (s : Setting) (kinds : List Kind) (vars : List TypeTree) (p : Primitive) (t : TypeTree) (r : Option Found) → IsReady s kinds vars → t ≡ schema_type p → IsKinded s [] t r → IsAnswer s kinds vars (prim p) r
 primitive_answered s kinds vars p t (Some f) h is k = prim_typed p t f is (k.0, closed_anywhere k.1 kinds)
 primitive_answered s kinds vars p t None h is k = absurd (prim_unkinded {s = s} {kinds = []} {vars = []} p t (h.0, tt) is k (schema_type p) h_prim)
+
+-- a kept type is the constructor's, and it has a kind, since no constructor is without a type
+pub kept_answered : (s : Setting) (kinds : List Kind) (vars : List TypeTree) (n : ℕ) (it : Constructor) (t : TypeTree) (r : Option Found) → IsReady s kinds vars → con_at s.datas n ≡ Some it → t ≡ con_type it → IsKinded s [] t r → IsAnswer s kinds vars (con n) r
+kept_answered s kinds vars n it t (Some f) h at is k = con_typed n it t f at is (k.0, closed_anywhere k.1 kinds)
+kept_answered s kinds vars n it t None h at is k = absurd (con_unkinded {s = s} {kinds = []} {vars = []} n it t (h.0, tt) at is k (con_type it) (h_con at))

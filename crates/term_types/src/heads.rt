@@ -78,6 +78,25 @@ pub(crate) fn made_definition<'t>(
 pub(crate) fn of_constructor<'t>(
     alloc: Global,
     scene: &Scene,
+    signature: &'t Signature,
+    kinds: &[Kind],
+    vars: &Vars,
+    at: ConId,
+) -> Result<Option<Found<'t>>, NoMemory>
+    requires ready { IsSet (setting_in scene.now) (reverse kinds.now) vars.now }
+    requires table { IsSignature scene.now.program.now signature.now }
+    ensures { IfOk result (IsAnswer (setting_in scene.now) (reverse kinds.now) vars.now.vars (con at.number)) }
+{
+    match signature.kept_type(at) {
+        Some(it) => Ok(found_head(it)),
+        None => made_constructor(alloc, scene, signature, kinds, vars, at),
+    }
+}
+
+// A constructor's type, made anew.
+fn made_constructor<'t>(
+    alloc: Global,
+    scene: &Scene,
     signature: &Signature,
     kinds: &[Kind],
     vars: &Vars,
