@@ -107,10 +107,6 @@ pub con_told : (s : Setting) (kinds : List Kind) (vars : List TypeTree) (x : ℕ
 con_told s kinds vars x it t (Some f) h e is k = con_typed x it t f e is k
 con_told s kinds vars x it t None h e is k = con_unkinded x it t h e is k
 
-pub prim_told : (s : Setting) (kinds : List Kind) (vars : List TypeTree) (p : Primitive) (t : TypeTree) (r : Option Found) → IsReady s kinds vars → t ≡ schema_type p → IsKinded s kinds t r → IsAnswer s kinds vars (prim p) r
-prim_told s kinds vars p t (Some f) h is k = prim_typed p t f is k
-prim_told s kinds vars p t None h is k = prim_unkinded p t h is k
-
 pub lit_typed : {s : Setting} {kinds : List Kind} {vars : List TypeTree} (r : Scalar) (bits : List Bool) (t : TypeTree) → length bits ≤ widest → t ≡ literal_type r bits → IsTyped s kinds vars (lit r bits) (record { ty = t; kind = Val })
 lit_typed {s} {kinds} {vars} r bits t l is = (subst (Finds s kinds vars (lit r bits)) (sym is) (f_lit l), subst (λ u. HasKind s kinds u Val) (sym is) (kind_scalar kind_nat))
 

@@ -44,9 +44,6 @@ reverse_last xs ys x e = sym (ap reverse e ∙ reverse-append xs (x ∷ []))
 pub inner_kinds : (kinds inner : List Kind) (k : Kind) → inner ≡ kinds ++ k ∷ [] → reverse inner ≡ k ∷ reverse kinds
 inner_kinds kinds inner k e = sym (reverse_last kinds inner k e)
 
-pub ready_as : (s : Setting) (k : Kind) (kinds : List Kind) (vars : List TypeTree) (ks : List Kind) (inner : List TypeTree) → ks ≡ k ∷ reverse kinds → inner ≡ under_binder vars → IsReady s (reverse kinds) vars → IsReady s ks inner
-ready_as s k kinds vars ks inner e f h = subst (λ xs. IsReady s xs inner) (sym e) (subst (IsReady s (k ∷ reverse kinds)) (sym f) (ready_under s (reverse kinds) vars k h))
-
 -- a term of whose type no kind is found has no type
 pub without_kind : {s : Setting} {kinds : List Kind} {vars : List TypeTree} {e : TermTree} (t : TypeTree) → IsReady s kinds vars → ((u : TypeTree) → HasType s kinds vars e u → u ≡ t) → LacksKind s kinds t → HasNoType s kinds vars e
 without_kind {s} {kinds} t h is never u d = let at = kinded h d in never at.kind (subst (λ w. HasKind s kinds w at.kind) (is u d) at.has)

@@ -1,5 +1,6 @@
--- The kinds of the declared types of definitions.
+-- What a signature keeps: the kinds of the declared types of definitions, and the types of heads.
 use Rattle.std.proofs.Common.{◌≡◌, ℕ, Option, Some, None, refl, sym, ap, ◌∙◌, subst, List, [], map}
+use Rattle.std.specs.Prelude.{MatchOption}
 use Rattle.std.specs.List.{slice_get}
 use Rattle.std.proofs.lemmas.Option.{same_Some}
 use Rattle.chw_types.specs.declared.kind.Kind.{Kind}
@@ -9,13 +10,23 @@ use Rattle.chw_types.specs.KindFound.{kind_found}
 use Rattle.chw_types.specs.Kinds.{HasNoKind}
 use Rattle.chw_types.proofs.KindsFound.{found_is_kind, kind_is_found}
 use Rattle.chw_types.proofs.KindsKept.{closed_anywhere}
-use Rattle.chw_terms.specs.TermTree.{global}
+use Rattle.chw_prims.specs.declared.names.TheConstants.{ALL}
+use Rattle.chw_prims.specs.declared.prim.Primitive.{Primitive}
+use Rattle.chw_prims.specs.Schemas.{schema_type}
+use Rattle.chw_terms.specs.Constructors.{Constructor, con_at}
+use Rattle.chw_terms.specs.TermTree.{global, con, prim}
 use Rattle.chw_terms.specs.declared.program.Def.{Def}
+use Rattle.chw_terms.specs.declared.program.Program.{Program}
 use Rattle.chw_typing.specs.Scopes.{Setting, HasKind}
 use Rattle.chw_typing.proofs.Lists.{found_in_map}
 use Rattle.found_types.specs.Finding.{f_global}
-use Rattle.term_types.specs.Answers.{HasNoType, IsTyped, IsReady}
+use Rattle.chw_typing.specs.HeadTypes.{con_type}
+use Rattle.chw_typing.specs.Typing.{h_con, h_prim}
+use Rattle.term_types.specs.Answers.{HasNoType, IsTyped, IsAnswer, IsReady}
+use Rattle.term_types.specs.Signatures.{head_type, primitive_types}
 use Rattle.term_types.specs.declared.found.Found.{Found}
+use Rattle.term_types.specs.declared.signature.HeadType.{HeadType}
+use Rattle.term_types.proofs.Plain.{IsKinded, con_typed, con_unkinded, prim_typed, prim_unkinded}
 
 pub nothing_found : (datas : List Data) (domains : ℕ) (scope : List Kind) (t : TypeTree) → HasNoKind datas domains scope t → kind_found datas domains scope t ≡ None
 nothing_found datas domains scope t never = at (kind_found datas domains scope t) refl
@@ -44,3 +55,23 @@ global_unsigned s kinds vars defs ks n it h types all at never t d =
     let f = λ (d : Def). kind_found s.datas s.domains [] d.ty in
     let closed = h.0.defs n it.ty (ap (λ ts. slice_get ts n) types ∙ found_in_map (λ (d : Def). d.ty) defs n it at) in
     never closed.kind (ap (λ xs. slice_get xs n) all ∙ found_in_map f defs n it at ∙ ap Some (kind_is_found closed.has))
+
+-- the type in the signature is the primitive's
+pub primitive_placed : (p : Program) (ts : List HeadType) (n : ℕ) (which : Primitive) → ts ≡ primitive_types p → slice_get ALL n ≡ Some which → slice_get ts n ≡ Some (head_type p (schema_type which))
+primitive_placed p ts n which all at =
+    ap (λ us. slice_get us n) all ∙ found_in_map (λ (q : Primitive). head_type p (schema_type q)) ALL n which at
+
+-- what is found of a type whose kind was found before
+pub head_kinded : (s : Setting) (t : TypeTree) (kind : Option Kind) (r : Option Found) → kind ≡ kind_found s.datas s.domains [] t → MatchOption r (kind ≡ None) (λ f. (f.ty ≡ t) × (kind ≡ Some f.kind)) → IsKinded s [] t r
+head_kinded s t kind (Some f) is h = (h.0, found_is_kind s.datas s.domains [] t f.kind (sym is ∙ h.1))
+head_kinded s t kind None is h = λ k has. let found = kind_is_found has in absurd (cc)
+
+-- a primitive's type is found, since no primitive is without a type
+pub primitive_answered : (s : Setting) (kinds : List Kind) (vars : List TypeTree) (p : Primitive) (t : TypeTree) (r : Option Found) → IsReady s kinds vars → t ≡ schema_type p → IsKinded s [] t r → IsAnswer s kinds vars (prim p) r
+primitive_answered s kinds vars p t (Some f) h is k = prim_typed p t f is (k.0, closed_anywhere k.1 kinds)
+primitive_answered s kinds vars p t None h is k = absurd (prim_unkinded {s = s} {kinds = []} {vars = []} p t (h.0, tt) is k (schema_type p) h_prim)
+
+-- a kept type is the constructor's, and it has a kind, since no constructor is without a type
+pub kept_answered : (s : Setting) (kinds : List Kind) (vars : List TypeTree) (n : ℕ) (it : Constructor) (t : TypeTree) (r : Option Found) → IsReady s kinds vars → con_at s.datas n ≡ Some it → t ≡ con_type it → IsKinded s [] t r → IsAnswer s kinds vars (con n) r
+kept_answered s kinds vars n it t (Some f) h at is k = con_typed n it t f at is (k.0, closed_anywhere k.1 kinds)
+kept_answered s kinds vars n it t None h at is k = absurd (con_unkinded {s = s} {kinds = []} {vars = []} n it t (h.0, tt) at is k (con_type it) (h_con at))

@@ -1,5 +1,5 @@
 //! The types of constructors.
-ghost use Rattle.std.specs.Prelude.{◌≡◌, ◌+◌, ◌≤◌, length, IfOk, IsTrue, ◌↔◌};
+ghost use Rattle.std.specs.Prelude.{◌≡◌, ◌+◌, ◌*◌, ◌≤◌, length, IfOk, IfSome, IsTrue, ◌↔◌};
 ghost use Rattle.chw_base.specs.declared.limits.TheConstants.{TYPE_DEPTH};
 ghost use Rattle.chw_types.specs.TypeView.{trees_of};
 ghost use Rattle.chw_typing.specs.HeadTypes.{con_type, for_each, from_each, variables};
@@ -72,4 +72,17 @@ pub(crate) fn con_type(alloc: Global, con: &Constructor<'_>) -> Result<Ty, NoMem
     let to = Ty::data_of(con.of, variables(alloc, params.len())?);
     let from = from_each(alloc, con.decl.fields.as_slice(), to)?;
     for_each(alloc, params, from)
+}
+
+/// How many of so many parts are left after the parameters of a constructor's type. Each parameter has
+/// a binder, and is an argument of the data type.
+///
+/// Nothing comes if there are too few parts, or if the type would be too deep to be made.
+pub(crate) fn parts_left_after(con: &Constructor<'_>, parts: u32) -> Option<u32>
+    ensures { IfSome result (λ left. 2 * length con.now.it.now.params + left ≡ parts) }
+{
+    if !is_shallow(con) {
+        return None;
+    }
+    parts.checked_sub(2 * con.it.params.len() as u32)
 }

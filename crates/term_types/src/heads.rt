@@ -9,12 +9,12 @@ ghost use Rattle.term_types.specs.Signatures.{IsSignature};
 use crate::constructors::con_type;
 use crate::found::{Found, with_kind};
 use crate::seen::Seen;
-use crate::signature::Signature;
+use crate::signature::{HeadType, Signature, place_in_all};
 use crate::vars::Vars;
 use chw_base::limits::SCALAR_BITS;
 use chw_base::{ConId, DefId, MadeId, NoMemory, VarIx};
 use chw_bits::Bits;
-use chw_prims::{Prim, schema};
+use chw_prims::Prim;
 use chw_terms::Scene;
 use chw_types::{Kind, Scalar, Ty};
 use std::alloc::Global;
@@ -78,6 +78,25 @@ pub(crate) fn made_definition<'t>(
 pub(crate) fn of_constructor<'t>(
     alloc: Global,
     scene: &Scene,
+    signature: &'t Signature,
+    kinds: &[Kind],
+    vars: &Vars,
+    at: ConId,
+) -> Result<Option<Found<'t>>, NoMemory>
+    requires ready { IsSet (setting_in scene.now) (reverse kinds.now) vars.now }
+    requires table { IsSignature scene.now.program.now signature.now }
+    ensures { IfOk result (IsAnswer (setting_in scene.now) (reverse kinds.now) vars.now.vars (con at.number)) }
+{
+    match signature.kept_type(at) {
+        Some(it) => Ok(found_head(it)),
+        None => made_constructor(alloc, scene, signature, kinds, vars, at),
+    }
+}
+
+// A constructor's type, made anew.
+fn made_constructor<'t>(
+    alloc: Global,
+    scene: &Scene,
     signature: &Signature,
     kinds: &[Kind],
     vars: &Vars,
@@ -98,17 +117,33 @@ pub(crate) fn of_constructor<'t>(
 
 /// A primitive's type.
 pub(crate) fn primitive<'t>(
-    alloc: Global,
     scene: &Scene,
+    signature: &'t Signature,
     kinds: &[Kind],
     vars: &Vars,
     which: Prim,
-) -> Result<Option<Found<'t>>, NoMemory>
-    requires { IsSet (setting_in scene.now) (reverse kinds.now) vars.now }
-    ensures { IfOk result (IsAnswer (setting_in scene.now) (reverse kinds.now) vars.now.vars (prim which)) }
+) -> Option<Found<'t>>
+    requires ready { IsSet (setting_in scene.now) (reverse kinds.now) vars.now }
+    requires table { IsSignature scene.now.program.now signature.now }
+    ensures { IsAnswer (setting_in scene.now) (reverse kinds.now) vars.now.vars (prim which) result }
 {
-    let ty = schema(alloc, which)?;
-    Ok(with_kind(scene, kinds, Seen::made(ty)))
+    match signature.primitives.as_slice().get(place_in_all(which)) {
+        Some(it) => found_head(it),
+        None => None,
+    }
+}
+
+// What is found of a head of this type, where the type has a kind.
+fn found_head(it: &HeadType) -> Option<Found<'_>>
+    ensures { MatchOption result (it.now.kind ≡ None) (λ f. (f.ty ≡ it.now.ty) × (it.now.kind ≡ Some f.kind)) }
+{
+    match it.kind {
+        Some(kind) => Some(Found {
+            ty: Seen::written(&it.ty),
+            kind,
+        }),
+        None => None,
+    }
 }
 
 /// The scalar of so many bits, where they aren't too many for a literal.

@@ -139,7 +139,7 @@ fn infer_head<'t>(
             infer_letrec(alloc, scene, signature, kinds, vars, bindings, body)
         }
         Head::Con(c) => of_constructor(alloc, scene, signature, kinds, vars, *c),
-        Head::PrimOf(which) => primitive(alloc, scene, kinds, vars, *which),
+        Head::PrimOf(which) => Ok(primitive(scene, signature, kinds, vars, *which)),
         Head::Lit(sort, bits) => literal(alloc, scene, kinds, vars, *sort, bits),
         Head::VecLit(ty, elements) => infer_vector(
             alloc, scene, signature, kinds, vars, ty, elements,

@@ -1,18 +1,17 @@
-use Rattle.std.proofs.Common.{◌≡◌, Some, None, subst, ◌∙◌}
+use Rattle.std.proofs.Common.{Some, ap, sym, ◌∙◌}
 use Rattle.std.specs.Prelude.{reverse}
-use Rattle.chw_terms.specs.Constructors.{con_at}
-use Rattle.con_places.specs.Constructing.{constructor_of}
 use Rattle.chw_typing.specs.Scopes.{setting_in}
-use Rattle.term_types.proofs.Plain.{con_told, con_missing}
+use Rattle.term_types.specs.Signatures.{head_type}
+use Rattle.term_types.specs.declared.signature.HeadType.{HeadType}
+use Rattle.term_types.proofs.Signed.{head_kinded, kept_answered}
 use Rattle.term_types.proofs.heads.of_constructor.Goals as goal
 
-pub returns-in_ok-ty-in-Some : goal.returns-in_ok-ty-in-Some
-returns-in_ok-ty-in-Some c =
+pub returns-in-Some : goal.returns-in-Some
+returns-in-Some c =
+    let p = c.args.scene.now.program.now in
     let s = setting_in c.args.scene.now in
     let n = c.args.at.number in
-    let it = c.in-Some.it in
-    let at = subst (λ ds. con_at ds n ≡ Some (constructor_of it)) c.requires.table.constructors c.in-Some.ensures.is in
-    con_told s (reverse c.args.kinds.now) c.args.vars.now.vars n (constructor_of it) c.made.result c.with_kind.result c.requires.ready.0 at (c.made.ensures ∙ c.in_ok-ty-in-Some.ensures.is) c.with_kind.ensures
-
-pub returns-in-None : goal.returns-in-None
-returns-in-None c = con_missing c.args.at.number (subst (λ ds. con_at ds c.args.at.number ≡ None) c.requires.table.constructors c.in-None.ensures)
+    let it = c.in-Some.it.now in
+    let of = c.requires.table.kept n (Some it) c.in-Some.ensures in
+    kept_answered s (reverse c.args.kinds.now) c.args.vars.now.vars n of.0 it.ty c.found_head.result c.requires.ready.0 of.1 (ap (λ (t : HeadType). t.ty) of.2)
+    (head_kinded s it.ty it.kind c.found_head.result (ap (λ (t : HeadType). t.kind) of.2 ∙ ap (λ (t : HeadType). (head_type p t.ty).kind) (sym of.2)) c.found_head.ensures)

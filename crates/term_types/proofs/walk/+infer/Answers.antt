@@ -208,7 +208,7 @@ infer_head-returns-in-Con t c =
 
 pub infer_head-returns-in-PrimOf : goal.infer_head-returns-in-PrimOf
 infer_head-returns-in-PrimOf t c =
-    subst (λ h. IfOk c.primitive.result (IsAnswer (setting_in c.args.scene.now) (reverse c.args.kinds.now) c.args.vars.now.vars (tree_of h))) (sym c.in-PrimOf.is) c.primitive.ensures
+    subst (λ h. IsAnswer (setting_in c.args.scene.now) (reverse c.args.kinds.now) c.args.vars.now.vars (tree_of h) c.primitive.result) (sym c.in-PrimOf.is) c.primitive.ensures
 
 pub infer_head-returns-in-Lit : goal.infer_head-returns-in-Lit
 infer_head-returns-in-Lit t c =
