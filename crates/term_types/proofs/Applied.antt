@@ -90,7 +90,7 @@ takes_not t arg from to is never a b e h =
     let same : a ≡ from = cc in
     never (subst (λ x. SameTypes x arg) same h)
 
-kinds_are : (j k : Kind) → same_kind j k ≡ true → j ≡ k
+pub kinds_are : (j k : Kind) → same_kind j k ≡ true → j ≡ k
 kinds_are Nat Nat e = refl
 kinds_are Dom Dom e = refl
 kinds_are Val Val e = refl

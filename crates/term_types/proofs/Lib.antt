@@ -17,4 +17,5 @@ pub mod Settled
 pub mod Signed
 pub mod Told
 pub mod VarsFound
+pub mod Waiting
 pub mod Walked

@@ -1,13 +1,13 @@
 -- The steps of the walk over a term, by what they answer.
 use Rattle.std.proofs.Common.{◌≡◌, Option, Some, None, refl, subst, List}
-use Rattle.std.specs.Prelude.{MatchOption}
 use Rattle.chw_types.specs.declared.kind.Kind.{Kind}
 use Rattle.chw_types.specs.TypeTree.{TypeTree}
 use Rattle.chw_terms.specs.TermTree.{TermTree, app, ty_app}
 use Rattle.chw_typing.specs.Scopes.{Setting}
 use Rattle.term_types.specs.Answers.{HasNoType, IsTyped, IsAnswer, IsReady}
-use Rattle.term_types.specs.Forms.{Takes, TakesNot, TakesType, TakesTypeNot}
+use Rattle.term_types.specs.Spines.{spine_found, AtTerm, AtType, IsSpineOf}
 use Rattle.term_types.specs.declared.found.Found.{Found}
+use Rattle.term_types.specs.declared.spines.Spine.{Spine}
 use Rattle.term_types.proofs.Applied.{app_typed, app_untyped, ty_app_typed, ty_app_untyped}
 
 pub answer_some : (s : Setting) (kinds : List Kind) (vars : List TypeTree) (e : TermTree) (o : Option Found) (f : Found) → o ≡ Some f → IsAnswer s kinds vars e o → IsTyped s kinds vars e f
@@ -21,11 +21,11 @@ pub answer_is_none : (s : Setting) (kinds : List Kind) (vars : List TypeTree) (e
 answer_is_none s kinds vars e o is h = subst (IsAnswer s kinds vars e) is h
 
 -- a function at an argument that was typed
-pub app_told : (s : Setting) (kinds : List Kind) (vars : List TypeTree) (e a : TermTree) (g found : Found) (r : Option Found) → IsReady s kinds vars → IsTyped s kinds vars a found → MatchOption r (TakesNot g.ty found.ty) (λ f. Takes g found.ty f) → IsTyped s kinds vars e g → IsAnswer s kinds vars (app e a) r
-app_told s kinds vars e a g found (Some f) h d t k = app_typed g found.ty f k d.0 t
+pub app_told : (s : Setting) (kinds : List Kind) (vars : List TypeTree) (e a : TermTree) (g found : Found) (r : Option Spine) → IsReady s kinds vars → IsTyped s kinds vars a found → AtTerm g found.ty r → IsTyped s kinds vars e g → IsSpineOf s kinds vars (app e a) r
+app_told s kinds vars e a g found (Some p) h d t k = app_typed g found.ty (spine_found p) k d.0 t
 app_told s kinds vars e a g found None h d t k = app_untyped g found.ty h k d.0 t
 
 -- a term at a type
-pub ty_app_told : (s : Setting) (kinds : List Kind) (vars : List TypeTree) (e : TermTree) (a : TypeTree) (g : Found) (r : Option Found) → IsReady s kinds vars → MatchOption r (TakesTypeNot s kinds g.ty a) (λ f. TakesType s kinds g.ty a f) → IsTyped s kinds vars e g → IsAnswer s kinds vars (ty_app e a) r
-ty_app_told s kinds vars e a g (Some f) h t k = ty_app_typed g a f k t
-ty_app_told s kinds vars e a g None h t k = ty_app_untyped g a h k t
+pub ty_app_told : (s : Setting) (kinds : List Kind) (vars : List TypeTree) (e : TermTree) (a : TypeTree) (g : Found) (r : Option Spine) → IsReady s kinds vars → AtType s kinds g a r → IsTyped s kinds vars e g → IsSpineOf s kinds vars (ty_app e a) r
+ty_app_told s kinds vars e a g (Some p) h t k = ty_app_typed g a (spine_found p) k (t k.1)
+ty_app_told s kinds vars e a g None h t k = ty_app_untyped g a h k (t k.1)

@@ -9,4 +9,5 @@ pub mod Keying
 pub mod Kinding
 pub mod SeenView
 pub mod Signatures
+pub mod Spines
 pub mod VarsView

@@ -91,6 +91,36 @@ impl<'t> Seen<'t> {
             Form::Made(ty) => made_parts(ty),
         }
     }
+
+    /// The kind of the variable and the type that binds it, of a type with a type parameter.
+    pub(crate) fn into_bound(self) -> Option<(Kind, Seen<'t>)>
+        ensures { MatchOption result ((k t : _) → self.entry ≡ for_all k t → ⊥) (λ p. self.entry ≡ for_all p.0 p.1) }
+    {
+        match self.form {
+            Form::Written(ty) => written_bound(ty),
+            Form::Made(ty) => made_bound(ty),
+        }
+    }
+}
+
+// The parts of a written type with a type parameter.
+fn written_bound<'t>(ty: &'t Ty) -> Option<(Kind, Seen<'t>)>
+    ensures { MatchOption result ((k t : _) → ty.now ≡ for_all k t → ⊥) (λ p. ty.now ≡ for_all p.0 p.1) }
+{
+    match &ty.node {
+        TyNode::Forall(kind, of) => Some((*kind, Seen::written(&**of))),
+        _ => None,
+    }
+}
+
+// The parts of a made type with a type parameter.
+fn made_bound<'t>(ty: Ty) -> Option<(Kind, Seen<'t>)>
+    ensures { MatchOption result ((k t : _) → ty ≡ for_all k t → ⊥) (λ p. ty ≡ for_all p.0 p.1) }
+{
+    match ty.node {
+        TyNode::Forall(kind, of) => Some((kind, Seen::made(Box::into_inner(of)))),
+        _ => None,
+    }
 }
 
 // The parts of a function type that is written.

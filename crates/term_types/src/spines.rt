@@ -1,15 +1,68 @@
-//! Applications: the type of a function at an argument.
-ghost use Rattle.std.specs.Prelude.{◌≡◌, reverse, IfOk, MatchOption};
+//! Terms at arguments: the type of a term at the arguments so far.
+ghost use Rattle.std.specs.Prelude.{◌≡◌, ◌^◌, ◌-◌, min, reverse, IfOk, IsTrue, MatchOption};
+ghost use Rattle.chw_types.specs.Kinds.{degree};
 ghost use Rattle.chw_types.specs.SameFound.{same_kind};
 ghost use Rattle.chw_types.specs.TypeTree.{for_all};
 ghost use Rattle.chw_typing.specs.Scopes.{setting_in};
 ghost use Rattle.term_types.specs.Forms.{Takes, TakesNot, TakesType, TakesTypeNot};
+ghost use Rattle.term_types.specs.Spines.{spine_found, AtTerm, AtType, CanWait, IsFunction, IsStarted};
 
 use crate::found::{Found, kind_in, settled};
+use crate::seen::Seen;
 use chw_base::{NoMemory, TyIx};
 use chw_terms::Scene;
-use chw_types::{Kind, Ty, TyNode, put_type, same};
+use chw_types::{Kind, Ty, TyNode, put_arguments, put_type, same};
 use std::alloc::Global;
+
+/// A term at the arguments so far. Type arguments may wait, so that a run of them is put into a type
+/// at once, and only into what is looked at.
+///
+/// Each that waits has the kind of its binder and a degree of at most 1. So the type keeps its kind
+/// where they are put, and that kind isn't found anew.
+#[derive(Drop)]
+pub(crate) struct Spine<'t> {
+    // the type under the binders of those that wait, with its kind
+    body: Found<'t>,
+    // those that wait, the first one first
+    waiting: Vec<Ty>,
+}
+
+/// A term of which no argument waits.
+pub(crate) fn started<'t>(alloc: Global, found: Found<'t>) -> Spine<'t>
+    ensures { spine_found result ≡ found.entry }
+{
+    Spine {
+        body: found,
+        waiting: Vec::new(alloc),
+    }
+}
+
+// The same, where the term has a type.
+fn started_again<'t>(alloc: Global, found: Option<Found<'t>>) -> Option<Spine<'t>>
+    ensures { IsStarted found.entry result }
+{
+    match found {
+        Some(found) => Some(started(alloc, found)),
+        None => None,
+    }
+}
+
+/// The type of the term, with what waited put into it.
+///
+/// Where that would be deeper than `TYPE_DEPTH`, or have more parts than `TYPE_PARTS`, the answer is
+/// want of memory.
+pub(crate) fn finished<'t>(alloc: Global, spine: Spine<'t>) -> Result<Found<'t>, NoMemory>
+    ensures { IfOk result (λ f. f ≡ spine_found spine.entry) }
+{
+    if spine.waiting.is_empty() {
+        return Ok(spine.body);
+    }
+    let ty = put_arguments(alloc, spine.body.ty.ty(), spine.waiting.as_slice())?;
+    Ok(Found {
+        ty: Seen::made(ty),
+        kind: spine.body.kind,
+    })
+}
 
 // The kind of the variable and the type that binds it, of a type with a type parameter.
 fn bound_parts(ty: &Ty) -> Option<(Kind, &Ty)>
@@ -28,12 +81,8 @@ fn same_kind(a: Kind, b: Kind) -> bool
     a == b
 }
 
-/// What a function of this type gives for an argument of that type, where it takes one.
-pub(crate) fn apply<'t>(
-    alloc: Global,
-    fun: Found<'t>,
-    arg: Found,
-) -> Result<Option<Found<'t>>, NoMemory>
+// What a function of this type gives for an argument of that type, where it takes one.
+fn apply<'t>(alloc: Global, fun: Found<'t>, arg: Found) -> Result<Option<Found<'t>>, NoMemory>
     ensures { IfOk result (λ r. MatchOption r (TakesNot fun.entry.ty arg.entry.ty) (λ f. Takes fun.entry arg.entry.ty f)) }
 {
     let Some((from, to)) = fun.ty.into_function() else {
@@ -48,8 +97,8 @@ pub(crate) fn apply<'t>(
     }))
 }
 
-/// What a term of this type gives at a type argument, where it takes one and some type with a kind is the same as what arises.
-pub(crate) fn apply_type<'t>(
+// What a term of this type gives at a type argument, where it takes one and some type with a kind is the same as what arises.
+fn apply_type<'t>(
     alloc: Global,
     scene: &Scene,
     kinds: &[Kind],
@@ -69,4 +118,118 @@ pub(crate) fn apply_type<'t>(
     }
     let ty = put_type(alloc, of, TyIx { number: 0 }, arg)?;
     Ok(settled(alloc, scene, kinds, ty)?)
+}
+
+// The degree of a type, at most the last value of the number's type.
+fn degree(ty: &Ty) -> u32
+    ensures { result ≡ min (degree ty.now) (2 ^ 32 - 1) }
+{
+    match &ty.node {
+        TyNode::Var(_) => 1,
+        TyNode::Sum(a, b) => degree(a).max(degree(b)),
+        TyNode::Times(a, b) => degree(a).saturating_add(degree(b)),
+        _ => 0,
+    }
+}
+
+// Whether a type argument may wait at a term of this type: so where it has a type parameter, and
+// the argument's degree is at most 1.
+fn can_wait(ty: &Ty, arg: &Ty) -> bool
+    ensures { IsTrue result → CanWait ty.now arg.now }
+{
+    match &ty.node {
+        TyNode::Forall(_, _) => degree(arg) <= 1,
+        _ => false,
+    }
+}
+
+// A term of a type with a type parameter, at one more type argument, which waits.
+fn wait<'t>(
+    alloc: Global,
+    scene: &Scene,
+    kinds: &[Kind],
+    spine: Spine<'t>,
+    arg: &Ty,
+) -> Result<Option<Spine<'t>>, NoMemory>
+    requires { CanWait spine.body.ty arg.now }
+    ensures { IfOk result
+        (AtType (setting_in scene.now) (reverse kinds.now) (spine_found spine.entry) arg.now) }
+{
+    let Spine { body, mut waiting } = spine;
+    let Some(of_arg) = kind_in(scene, kinds, arg) else {
+        return Ok(None);
+    };
+    let Some((kind, ty)) = body.ty.into_bound() else {
+        return Ok(None);
+    };
+    if !same_kind(of_arg, kind) {
+        return Ok(None);
+    }
+    waiting.push(arg.copy(alloc)?)?;
+    let kind = body.kind;
+    let body = Found { ty, kind };
+    Ok(Some(Spine { body, waiting }))
+}
+
+/// A term at one more type argument, where it takes one and some type with a kind is the same as
+/// what arises.
+pub(crate) fn at_type<'t>(
+    alloc: Global,
+    scene: &Scene,
+    kinds: &[Kind],
+    spine: Spine<'t>,
+    arg: &Ty,
+) -> Result<Option<Spine<'t>>, NoMemory>
+    ensures { IfOk result
+        (AtType (setting_in scene.now) (reverse kinds.now) (spine_found spine.entry) arg.now) }
+{
+    if can_wait(spine.body.ty.ty(), arg) {
+        return wait(alloc, scene, kinds, spine, arg);
+    }
+    let fun = finished(alloc, spine)?;
+    Ok(started_again(alloc, apply_type(alloc, scene, kinds, fun, arg)?))
+}
+
+// Whether a type is one of functions.
+fn is_function(ty: &Ty) -> bool
+    ensures { IsTrue result → IsFunction ty.now }
+{
+    match &ty.node {
+        TyNode::Fun(_, _) => true,
+        _ => false,
+    }
+}
+
+// A function at one more term of this type: what waits is put into the parameter's type, and goes on
+// waiting for the result's.
+fn take<'t>(alloc: Global, spine: Spine<'t>, arg: Found) -> Result<Option<Spine<'t>>, NoMemory>
+    requires { IsFunction spine.body.ty }
+    ensures { IfOk result (AtTerm (spine_found spine.entry) arg.entry.ty) }
+{
+    let Spine { body, waiting } = spine;
+    let Some((from, to)) = body.ty.into_function() else {
+        return Ok(None);
+    };
+    let from = put_arguments(alloc, from.ty(), waiting.as_slice())?;
+    if !same(alloc, &from, arg.ty.ty())? {
+        return Ok(None);
+    }
+    let kind = body.kind;
+    let body = Found { ty: to, kind };
+    Ok(Some(Spine { body, waiting }))
+}
+
+/// A term at one more term of this type, where it takes one.
+pub(crate) fn at_term<'t>(
+    alloc: Global,
+    spine: Spine<'t>,
+    arg: Found,
+) -> Result<Option<Spine<'t>>, NoMemory>
+    ensures { IfOk result (AtTerm (spine_found spine.entry) arg.entry.ty) }
+{
+    if !spine.waiting.is_empty() && is_function(spine.body.ty.ty()) {
+        return take(alloc, spine, arg);
+    }
+    let fun = finished(alloc, spine)?;
+    Ok(started_again(alloc, apply(alloc, fun, arg)?))
 }

@@ -10,6 +10,7 @@ ghost use Rattle.term_types.specs.Answers.{IsAnswer, IsSet, IsTyped};
 ghost use Rattle.term_types.specs.Cases.{Gives, GivesNothing};
 ghost use Rattle.term_types.specs.Groups.{HaveTheirTypes};
 ghost use Rattle.term_types.specs.Signatures.{IsSignature};
+ghost use Rattle.term_types.specs.Spines.{spine_found, IsSpineOf};
 
 use crate::alternatives::{joined, none_hidden};
 use crate::found::{Found, has_functions, kind_of_terms};
@@ -18,7 +19,7 @@ use crate::heads::{definition, literal, made_definition, of_constructor, primiti
 use crate::patterns::{bound_types, is_looked_at};
 use crate::seen::{for_all, function, vector};
 use crate::signature::Signature;
-use crate::spines::{apply, apply_type};
+use crate::spines::{Spine, at_term, at_type, finished, started};
 use crate::vars::Vars;
 use chw_base::{NoMemory, narrow};
 use chw_terms::{Alt, Arg, Binding, Head, Scene, Term};
@@ -61,17 +62,17 @@ fn infer_args<'t>(
     ensures { IfOk result (λ r. (e : TermTree) → IsTyped (setting_in scene.now) (reverse kinds.now) vars.now.vars e head.entry
         → IsAnswer (setting_in scene.now) (reverse kinds.now) vars.now.vars (applied e args.now) r) }
 {
-    let mut found = head;
+    let mut spine = started(alloc, head);
     for arg in args {
-        match infer_applied(alloc, scene, signature, kinds, vars, found, arg)? {
-            Some(next) => found = next,
+        match infer_applied(alloc, scene, signature, kinds, vars, spine, arg)? {
+            Some(next) => spine = next,
             None => return Ok(None),
         }
     }
-    Ok(Some(found))
+    Ok(Some(finished(alloc, spine)?))
 }
 
-// The type of a term of this type at an argument.
+// A term at one more argument.
 #[cycle(infer)]
 fn infer_applied<'t>(
     alloc: Global,
@@ -79,21 +80,22 @@ fn infer_applied<'t>(
     signature: &'t Signature,
     kinds: &[Kind],
     vars: &Vars<'_, 't>,
-    fun: Found<'t>,
+    spine: Spine<'t>,
     arg: &'t Arg,
-) -> Result<Option<Found<'t>>, NoMemory>
+) -> Result<Option<Spine<'t>>, NoMemory>
     requires ready { IsSet (setting_in scene.now) (reverse kinds.now) vars.now }
     requires table { IsSignature scene.now.program.now signature.now }
-    ensures { IfOk result (λ r. (e : TermTree) → IsTyped (setting_in scene.now) (reverse kinds.now) vars.now.vars e fun.entry
-        → IsAnswer (setting_in scene.now) (reverse kinds.now) vars.now.vars (applied_to e arg.now) r) }
+    ensures { IfOk result (λ r. (e : TermTree)
+        → IsTyped (setting_in scene.now) (reverse kinds.now) vars.now.vars e (spine_found spine.entry)
+        → IsSpineOf (setting_in scene.now) (reverse kinds.now) vars.now.vars (applied_to e arg.now) r) }
 {
     match arg {
-        Arg::OfTerm(e) => infer_at_term(alloc, scene, signature, kinds, vars, fun, e),
-        Arg::OfType(t) => apply_type(alloc, scene, kinds, fun, t),
+        Arg::OfTerm(e) => infer_at_term(alloc, scene, signature, kinds, vars, spine, e),
+        Arg::OfType(t) => at_type(alloc, scene, kinds, spine, t),
     }
 }
 
-// The type of a term of this type at a term.
+// A term at one more term.
 #[cycle(infer)]
 fn infer_at_term<'t>(
     alloc: Global,
@@ -101,18 +103,19 @@ fn infer_at_term<'t>(
     signature: &'t Signature,
     kinds: &[Kind],
     vars: &Vars<'_, 't>,
-    fun: Found<'t>,
+    spine: Spine<'t>,
     term: &'t Term,
-) -> Result<Option<Found<'t>>, NoMemory>
+) -> Result<Option<Spine<'t>>, NoMemory>
     requires ready { IsSet (setting_in scene.now) (reverse kinds.now) vars.now }
     requires table { IsSignature scene.now.program.now signature.now }
-    ensures { IfOk result (λ r. (e : TermTree) → IsTyped (setting_in scene.now) (reverse kinds.now) vars.now.vars e fun.entry
-        → IsAnswer (setting_in scene.now) (reverse kinds.now) vars.now.vars (app e term.now) r) }
+    ensures { IfOk result (λ r. (e : TermTree)
+        → IsTyped (setting_in scene.now) (reverse kinds.now) vars.now.vars e (spine_found spine.entry)
+        → IsSpineOf (setting_in scene.now) (reverse kinds.now) vars.now.vars (app e term.now) r) }
 {
     let Some(found) = infer(alloc, scene, signature, kinds, vars, term)? else {
         return Ok(None);
     };
-    apply(alloc, fun, found)
+    at_term(alloc, spine, found)
 }
 
 // The type of a head.

@@ -16,8 +16,8 @@ use Rattle.chw_typing.specs.Typing.{HasType, HasTypeUpTo}
 use Rattle.term_types.specs.Answers.{HasNoType, IsTyped, IsAnswer}
 use Rattle.term_types.specs.Binding.{BindsKinded, BindsNothing, is_looked_at}
 use Rattle.term_types.specs.Cases.{Gives, GivesNothing, IsJoined}
-use Rattle.term_types.specs.Forms.{Takes, TakesNot, TakesType, TakesTypeNot}
 use Rattle.term_types.specs.Groups.{HaveTheirTypes, NotAllOfTerms, IsGroup}
+use Rattle.term_types.specs.Spines.{spine_found, AtTerm, AtType, IsSpineOf}
 use Rattle.term_types.specs.VarsView.{found_types}
 use Rattle.term_types.specs.declared.found.Found.{Found}
 use Rattle.term_types.specs.declared.groups.Group.{Group}
@@ -83,8 +83,9 @@ infer_args-loop-arg-preserved t c e d =
     let vars = c.args.vars.now.vars in
     let items = c.args.args.now in
     let so_far = applied e (take c.loop-arg.arg-index items) in
-    spine_next e items c.loop-arg.arg-index c.arg-item.result _ c.in-Some.next c.loop-arg-test.true c.arg-item.is
-    (answer_some s kinds vars (applied_to so_far c.arg-item.result) c.in_ok-next.field-0 c.in-Some.next c.in-Some.is (c.in_ok-next.ensures so_far (c.loop-arg.invariant e d)))
+    let next = c.in_ok-next.ensures so_far (c.loop-arg.invariant e d) in
+    spine_next e items c.loop-arg.arg-index c.arg-item.result _ (spine_found c.in-Some.next) c.loop-arg-test.true c.arg-item.is
+    (subst (IsSpineOf s kinds vars (applied_to so_far c.arg-item.result)) c.in-Some.is next)
 
 pub infer_args-returns-in-None : goal.infer_args-returns-in-None
 infer_args-returns-in-None t c e d =
@@ -93,12 +94,18 @@ infer_args-returns-in-None t c e d =
     let vars = c.args.vars.now.vars in
     let items = c.args.args.now in
     let so_far = applied e (take c.loop-arg.arg-index items) in
-    let none = answer_is_none s kinds vars (applied_to so_far c.arg-item.result) c.in_ok-next.field-0 c.in-None.is (c.in_ok-next.ensures so_far (c.loop-arg.invariant e d)) in
+    let started = subst (IsTyped s kinds vars e) (sym c.started-spine.ensures) d in
+    let none = subst (IsSpineOf s kinds vars (applied_to so_far c.arg-item.result)) c.in-None.is (c.in_ok-next.ensures so_far (c.loop-arg.invariant e started)) in
     spine_none e items c.loop-arg.arg-index c.arg-item.result _ c.loop-arg-test.true c.arg-item.is none
 
 pub infer_args-returns : goal.infer_args-returns
 infer_args-returns t c e d =
-    spine_all e c.args.args.now c.loop-arg.arg-index c.loop-arg.found (omega (arith, c.loop-arg-test.false)) (c.loop-arg.invariant e d)
+    let s = setting_in c.args.scene.now in
+    let kinds = reverse c.args.kinds.now in
+    let vars = c.args.vars.now.vars in
+    let started = subst (IsTyped s kinds vars e) (sym c.started-spine.ensures) d in
+    subst (IsTyped s kinds vars (applied e c.args.args.now)) (sym c.in_ok-finished.ensures)
+    (spine_all e c.args.args.now c.loop-arg.arg-index (spine_found c.loop-arg.spine) (omega (arith, c.loop-arg-test.false)) (c.loop-arg.invariant e started))
 
 -- an argument
 pub infer_applied-infer_at_term-requires : goal.infer_applied-infer_at_term-requires
@@ -111,18 +118,18 @@ infer_applied-returns-in-OfTerm t c =
     let s = setting_in c.args.scene.now in
     let kinds = reverse c.args.kinds.now in
     let vars = c.args.vars.now.vars in
-    subst (λ a. IfOk c.infer_at_term.result (λ r. (e : TermTree) → IsTyped s kinds vars e c.args.fun → IsAnswer s kinds vars (applied_to e a) r)) (sym c.in-OfTerm.is) c.infer_at_term.ensures
+    subst (λ a. IfOk c.infer_at_term.result (λ r. (e : TermTree) → IsTyped s kinds vars e (spine_found c.args.spine) → IsSpineOf s kinds vars (applied_to e a) r)) (sym c.in-OfTerm.is) c.infer_at_term.ensures
 
 pub infer_applied-returns-in-OfType : goal.infer_applied-returns-in-OfType
 infer_applied-returns-in-OfType t c =
     let s = setting_in c.args.scene.now in
     let kinds = reverse c.args.kinds.now in
     let vars = c.args.vars.now.vars in
-    let fun = c.args.fun in
+    let fun = spine_found c.args.spine in
     let t = c.in-OfType.t in
-    subst (λ a. IfOk c.apply_type.result (λ r. (e : TermTree) → IsTyped s kinds vars e fun → IsAnswer s kinds vars (applied_to e a) r)) (sym c.in-OfType.is)
-    (ok_more c.apply_type.result (λ r. MatchOption r (TakesTypeNot s kinds fun.ty t) (λ f. TakesType s kinds fun.ty t f)) (λ r. (e : TermTree) → IsTyped s kinds vars e fun → IsAnswer s kinds vars (ty_app e t) r)
-    (λ r told e d. ty_app_told s kinds vars e t fun r c.requires.ready.0 told d) c.apply_type.ensures)
+    subst (λ a. IfOk c.at_type.result (λ r. (e : TermTree) → IsTyped s kinds vars e fun → IsSpineOf s kinds vars (applied_to e a) r)) (sym c.in-OfType.is)
+    (ok_more c.at_type.result (AtType s kinds fun t) (λ r. (e : TermTree) → IsTyped s kinds vars e fun → IsSpineOf s kinds vars (ty_app e t) r)
+    (λ r at e d. ty_app_told s kinds vars e t fun r c.requires.ready.0 at d) c.at_type.ensures)
 
 pub infer_at_term-infer-requires : goal.infer_at_term-infer-requires
 infer_at_term-infer-requires t c = (omega (arith, c.decreases), (c.requires.ready, c.requires.table))
@@ -138,11 +145,11 @@ infer_at_term-returns t c =
     let s = setting_in c.args.scene.now in
     let kinds = reverse c.args.kinds.now in
     let vars = c.args.vars.now.vars in
-    let fun = c.args.fun in
+    let fun = spine_found c.args.spine in
     let found = c.in-Some.found in
     let typed = answer_some s kinds vars c.args.term.now c.in_ok-found.field-0 found c.in-Some.is c.in_ok-found.ensures in
-    ok_more c.apply.result (λ r. MatchOption r (TakesNot fun.ty found.ty) (λ f. Takes fun found.ty f)) (λ r. (e : TermTree) → IsTyped s kinds vars e fun → IsAnswer s kinds vars (app e c.args.term.now) r)
-    (λ r told e d. app_told s kinds vars e c.args.term.now fun found r c.requires.ready.0 typed told d) c.apply.ensures
+    ok_more c.at_term.result (AtTerm fun found.ty) (λ r. (e : TermTree) → IsTyped s kinds vars e fun → IsSpineOf s kinds vars (app e c.args.term.now) r)
+    (λ r at e d. app_told s kinds vars e c.args.term.now fun found r c.requires.ready.0 typed at d) c.at_term.ensures
 
 -- the forms of heads
 pub infer_head-returns-in-Var : goal.infer_head-returns-in-Var
