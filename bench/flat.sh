@@ -1,8 +1,9 @@
 #!/usr/bin/env bash
 # Times `chw emit` on flat descriptions of 64 KiB to just under 1 MiB, beside yosys reading the printed text where yosys is installed.
-# Usage: bench/flat.sh [sum|copy|order]
+# Usage: bench/flat.sh [sum|copy|order|tower]
 #   sum: each binding adds the two before it (about 130 bytes a binding)    copy: each binding is the one after it (about 30 bytes a binding)
-#   order: in place of texts, nets of 25,000 to 200,000 wires whose cells stand in reverse order, by the program net_speed, beside tsort
+#   order: in place of texts, nets of 25,000 to 200,000 wires, each of which waits for the next, by the program net_speed, beside tsort
+#   tower: nets of about as many flat wires in 1,000 modules, each of which uses the one before it: the time of each step of net_speed
 set -eu
 top=$(cd "$(dirname "$0")/.." && pwd)
 form=${1:-sum}
@@ -47,7 +48,16 @@ least() {
   done | sort -n | head -n 1
 }
 
-# Flattens and orders nets, beside tsort on the same graph as a text: each wire is read by the cell that drives the one before it.
+# The time of one step of net_speed on a net, in nanoseconds a wire: that of the program that goes as far as it, less that of the one that
+# goes as far as the step before.
+step() {
+  local form=$1 wires=$2 before=$3 after=$4 first last
+  first=$(least "$program" "$form" "$wires" "$before")
+  last=$(least "$program" "$form" "$wires" "$after")
+  echo $(((last - first) * 1000 / wires))
+}
+
+# Orders nets, beside tsort on the same graph as a text: each wire is read by the cell that drives the one before it.
 if [ "$form" = order ]; then
   times=40
   "$top/tools/build-program" net_speed
@@ -56,12 +66,27 @@ if [ "$form" = order ]; then
   first=
   for wires in 25000 50000 100000 200000; do
     seq 1 $((wires - 1)) | awk -v n="$wires" '{ print ($1 + 1) % n, $1 }' >"$work/graph"
-    [ "$("$program" "$wires")" = $((wires - 1)) ]
-    mine=$(least "$program" "$wires")
+    [ "$("$program" chain "$wires" ordered)" = $((wires - 1)) ]
+    mine=$(least "$program" chain "$wires" ordered)
     other=$(least tsort "$work/graph")
     each=$((mine * 1000 / wires))
     first=${first:-$each}
     printf '%10d %12d %12d %10s %12d %8s\n' "$wires" "$mine" "$each" "$(awk "BEGIN { printf \"%.2f\", $each / $first }")" "$other" "$(awk "BEGIN { printf \"%.2f\", $mine / $other }")"
+  done
+  exit
+fi
+
+# Judges, flattens, orders and prints nets of one module and of many.
+if [ "$form" = tower ]; then
+  times=40
+  "$top/tools/build-program" net_speed
+  program=$top/crates/net_speed/out/net_speed
+  printf '%10s %8s %12s %12s %12s %12s\n' net wires 'judge ns' 'flatten ns' 'order ns' 'print ns'
+  for net in chain tower; do
+    for wires in 25000 50000 100000 199000; do
+      printf '%10s %8d %12d %12d %12d %12d\n' "$net" "$wires" "$(step "$net" "$wires" made judged)" "$(step "$net" "$wires" judged flat)" \
+        "$(step "$net" "$wires" flat ordered)" "$(step "$net" "$wires" judged printed)"
+    done
   done
   exit
 fi
