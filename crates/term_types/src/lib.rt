@@ -6,9 +6,11 @@
 
 mod alternatives;
 mod constructors;
+mod fields;
 mod found;
 mod groups;
 mod heads;
+mod kept;
 mod patterns;
 mod seen;
 pub mod signature;
