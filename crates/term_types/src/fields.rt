@@ -1,5 +1,5 @@
 //! The fields of a constructor that a pattern binds, at the arguments of the data type.
-ghost use Rattle.std.specs.Prelude.{◌≡◌, reverse, length, IfOk, IfSome};
+ghost use Rattle.std.specs.Prelude.{◌≡◌, reverse, length, IfOk, IfSome, IsTrue};
 ghost use Rattle.std.specs.List.{slice_get};
 ghost use Rattle.chw_types.specs.Arguments.{arguments};
 ghost use Rattle.chw_types.specs.KindFound.{kind_found};
@@ -7,6 +7,7 @@ ghost use Rattle.chw_types.specs.TypeMoves.{shift, sub};
 ghost use Rattle.chw_types.specs.TypeView.{trees_of};
 ghost use Rattle.term_types.specs.FieldTypes.{args_seen, kind_declared, kind_or_val, put_type, put_kind};
 
+use crate::closed::has_no_variables;
 use crate::found::Found;
 use crate::seen::{Seen, raised_on};
 use chw_base::{DataId, Name, NoMemory, TyIx};
@@ -155,12 +156,22 @@ fn argument<'t>(field: &Ty, args: &'t [Ty]) -> Option<&'t Ty>
     None
 }
 
-// A field at arguments of any form. Without arguments it is the field itself.
+// A field at arguments of any form.
 fn field_made<'t>(alloc: Global, field: &'t Ty, args: &[Ty]) -> Result<Seen<'t>, NoMemory>
     ensures { IfOk result (λ r. r ≡ sub field.now (arguments (trees_of args.now))) }
 {
-    if args.is_empty() {
+    if stays(field, args) {
         return Ok(Seen::written(field));
     }
     Ok(Seen::made(put_arguments(alloc, field, args)?))
+}
+
+// Whether a field is the same at these arguments: there are none, or no variable is in the field.
+fn stays(field: &Ty, args: &[Ty]) -> bool
+    ensures { IsTrue result → field.now ≡ sub field.now (arguments (trees_of args.now)) }
+{
+    if args.is_empty() {
+        return true;
+    }
+    has_no_variables(field)
 }
