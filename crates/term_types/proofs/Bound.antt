@@ -1,5 +1,5 @@
 -- What patterns bind.
-use Rattle.std.proofs.Common.{◌≡◌, ℕ, suc, ◌+◌, ◌<◌, ◌≤◌, ◌↔◌, Bool, true, false, IsTrue, Option, Vec, Global, arith, get_or, take, refl, sym, ap, ◌∙◌, subst, List, [], ◌∷◌, ◌++◌, map, length, reverse}
+use Rattle.std.proofs.Common.{◌≡◌, ℕ, suc, ◌+◌, ◌<◌, ◌≤◌, ◌↔◌, Bool, true, false, IsTrue, Option, arith, get_or, take, refl, sym, ap, ◌∙◌, subst, List, [], ◌∷◌, ◌++◌, map, length, reverse}
 use Rattle.std.specs.Prelude.{Some, None, MatchOption}
 use Rattle.std.proofs.lemmas.Bool.{false≢true}
 use Rattle.std.proofs.lemmas.List.{take_all}
@@ -32,10 +32,12 @@ use Rattle.chw_typing.proofs.Patterns.{are_of_terms, fields_typed, constructor_a
 use Rattle.chw_typing.proofs.PutKinds.{same_kind_put}
 use Rattle.chw_typing.proofs.SameScopes.{same_at}
 use Rattle.found_types.specs.Finding.{settled}
-use Rattle.term_types.specs.Binding.{BindsFound, BindsKinded, BindsNothing, IsLiteralOf, AreSettled, NoneSettled, is_looked_at}
+use Rattle.term_types.specs.Binding.{BindsFound, BindsKinded, BindsNothing, IsLiteralOf, AreSettled, AreBoundSettled, NoneSettled, is_looked_at}
 use Rattle.term_types.specs.Kinding.{LacksKindUpTo, IsSettled, HaveKinds}
 use Rattle.term_types.specs.VarsView.{found_types, found_kinds}
 use Rattle.term_types.specs.declared.found.Found.{Found}
+use Rattle.term_types.specs.declared.fields.Bound.{Bound}
+use Rattle.term_types.specs.declared.fields.Bound.TheVariants.{OfFields, Settled}
 use Rattle.term_types.proofs.EachItem.{next_taken}
 use Rattle.found_types.proofs.Settling.{same_settled, all_same_settled}
 use Rattle.term_types.proofs.VarsFound.{read_at}
@@ -191,8 +193,9 @@ pub binds : {s : Setting} {kinds : List Kind} {u : TypeTree} {q : Pattern} {boun
 binds {s} {kinds} b = record { fields = b.fields; pattern = b.pattern; same = subst (AreSame b.fields) b.are (all_same_settled s kinds b.fields); typed = b.typed }
 
 -- what a constructor's pattern binds, by what its fields are found to be
-pub fields_told : (s : Setting) (kinds : List Kind) (u : TypeTree) (c : ConId) (n : ℕ) (it : Constructor) (args : List TypeTree) (j : Kind) (r : Option (Vec Found Global)) → IsSound s → HasKind s kinds u j → con_at s.datas c.number ≡ Some it → u ≡ data_of it.of (trees_of args) → length it.decl.fields ≡ n → MatchOption r (NoneSettled s kinds it.decl.fields args) (λ b. AreSettled s kinds it.decl.fields args b.items) → MatchOption r (BindsNothing s kinds u (OfCon c n)) (λ b. BindsKinded s kinds u (OfCon c n) b.items)
-fields_told s kinds u c n it args j (Some b) h d e is names each = (con_binds s kinds u c n it args b.items j h d e is names each, settled_kinds s kinds it.decl.fields args b.items each)
+pub fields_told : (s : Setting) (kinds : List Kind) (u : TypeTree) (c : ConId) (n : ℕ) (it : Constructor) (args : List TypeTree) (j : Kind) (r : Option Bound) → IsSound s → HasKind s kinds u j → con_at s.datas c.number ≡ Some it → u ≡ data_of it.of (trees_of args) → length it.decl.fields ≡ n → MatchOption r (NoneSettled s kinds it.decl.fields args) (λ b. AreBoundSettled s kinds it.decl.fields args b) → MatchOption r (BindsNothing s kinds u (OfCon c n)) (λ b. BindsKinded s kinds u (OfCon c n) b)
+fields_told s kinds u c n it args j (Some (Settled b)) h d e is names each = (con_binds s kinds u c n it args b.items j h d e is names each, settled_kinds s kinds it.decl.fields args b.items each)
+fields_told s kinds u c n it args j (Some (OfFields p)) h d e is names each = absurd each
 fields_told s kinds u c n it args j None h d e is names none = con_unsettled s kinds u c n it args h e is none
 
 pub literal_same : (u t : TypeTree) (r : Scalar) (bits : List Bool) (b : Bool) → (length bits ≤ widest) × (t ≡ literal_type r bits) → (IsTrue b ↔ SameTypes u t) → (IsTrue b ↔ IsLiteralOf u r bits)

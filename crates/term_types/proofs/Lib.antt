@@ -11,6 +11,8 @@ pub mod Lets
 pub mod Matched
 pub mod PatternKeys
 pub mod Plain
+pub mod PutClosed
+pub mod PutFields
 pub mod Ready
 pub mod Scoped
 pub mod Settled

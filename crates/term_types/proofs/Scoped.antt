@@ -16,8 +16,8 @@ use Rattle.term_types.specs.Answers.{IsReady, IsSet}
 use Rattle.term_types.specs.Groups.{AreKinded, IsGroup}
 use Rattle.term_types.specs.InScope.{InScope}
 use Rattle.term_types.specs.Kinding.{HaveKinds}
-use Rattle.term_types.specs.VarsView.{written_types, written_kinds, found_types, found_kinds}
-use Rattle.term_types.specs.declared.found.Found.{Found}
+use Rattle.term_types.specs.VarsView.{written_types, written_kinds, bound_types, bound_kinds}
+use Rattle.term_types.specs.declared.fields.Bound.{Bound}
 use Rattle.term_types.specs.declared.found.Kinded.{Kinded}
 use Rattle.term_types.specs.declared.groups.Group.{Group}
 use Rattle.term_types.proofs.EachItem.{next_taken}
@@ -122,10 +122,9 @@ group_inside s kinds bs g slice outer scope h k is e d =
     record { vars = vars; set = set_more s kinds outer scope (types_of bs) (written_kinds g.types.items) vars (d ∙ ap (λ ks. reverse (written_kinds ks) ++ outer.kinds) is) h k.kind.typed all }
 
 -- with the variables of a pattern
-pub fields_inside : (s : Setting) (kinds : List Kind) (bound slice : List Found) (outer scope : InScope) → IsSet s kinds outer → AreTermTypes s kinds (found_types bound) → HaveKinds s kinds (found_types bound) (found_kinds bound) → slice ≡ bound → scope.vars ≡ with_more (found_types slice) outer.vars → scope.kinds ≡ reverse (found_kinds slice) ++ outer.kinds → Inside s kinds outer scope (found_types bound)
-fields_inside s kinds bound slice outer scope h typed all is e d =
-    let vars = e ∙ ap (λ fs. with_more (found_types fs) outer.vars) is in
-    record { vars = vars; set = set_more s kinds outer scope (found_types bound) (found_kinds bound) vars (d ∙ ap (λ fs. reverse (found_kinds fs) ++ outer.kinds) is) h typed all }
+pub fields_inside : (s : Setting) (kinds : List Kind) (bound : Bound) (outer scope : InScope) → IsSet s kinds outer → AreTermTypes s kinds (bound_types bound) → HaveKinds s kinds (bound_types bound) (bound_kinds bound) → scope.vars ≡ with_more (bound_types bound) outer.vars → scope.kinds ≡ reverse (bound_kinds bound) ++ outer.kinds → Inside s kinds outer scope (bound_types bound)
+fields_inside s kinds bound outer scope h typed all e d =
+    record { vars = e; set = set_more s kinds outer scope (bound_types bound) (bound_kinds bound) e d h typed all }
 
 -- with no variables but those from outside
 pub outside_inside : (s : Setting) (kinds : List Kind) (ts : List TypeTree) (ks slice : List Kinded) (none scope : InScope) → IsReady s kinds (reverse ts) → AreTermTypes s kinds ts → AreKinded s kinds ts ks → slice ≡ ks → none.vars ≡ [] → none.kinds ≡ [] → scope.vars ≡ with_more (written_types slice) none.vars → scope.kinds ≡ reverse (written_kinds slice) ++ none.kinds → Inside s kinds none scope ts

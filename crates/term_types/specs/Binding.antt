@@ -14,7 +14,9 @@ use Rattle.chw_typing.specs.HeadTypes.{widest, literal_type, PatternOf}
 use Rattle.chw_typing.specs.Typing.{Binds}
 use Rattle.found_types.specs.Finding.{settled}
 use Rattle.term_types.specs.Kinding.{LacksKindUpTo, IsSettled, HaveKinds}
-use Rattle.term_types.specs.VarsView.{found_types, found_kinds}
+use Rattle.term_types.specs.VarsView.{bound_types, bound_kinds}
+use Rattle.term_types.specs.declared.fields.Bound.{Bound}
+use Rattle.term_types.specs.declared.fields.Bound.TheVariants.{Settled}
 use Rattle.term_types.specs.declared.found.Found.{Found}
 
 -- the pattern is none for values of the type, or a field has no kind
@@ -31,9 +33,9 @@ pub record BindsFound (s : Setting) (kinds : List Kind) (u : TypeTree) (q : Patt
   pub typed : AreTermTypes s kinds bound
 
 -- so it is, and these are the types with their kinds
-abbrev pub BindsKinded : Setting → List Kind → TypeTree → Pattern → List Found → Type 0
-BindsKinded s kinds u q fs =
-    BindsFound s kinds u q (found_types fs) × HaveKinds s kinds (found_types fs) (found_kinds fs)
+abbrev pub BindsKinded : Setting → List Kind → TypeTree → Pattern → Bound → Type 0
+BindsKinded s kinds u q b =
+    BindsFound s kinds u q (bound_types b) × HaveKinds s kinds (bound_types b) (bound_kinds b)
 
 -- the literal isn't too wide, and its type is the same as this one
 abbrev pub IsLiteralOf : TypeTree → Scalar → List Bool → Type 0
@@ -45,6 +47,11 @@ AreSettled s kinds [] args [] = Unit {0}
 AreSettled s kinds (f ∷ fs) args (r ∷ rs) =
     IsSettled s kinds (sub f (arguments (trees_of args))) r × AreSettled s kinds fs args rs
 AreSettled s kinds _ args _ = ⊥
+
+-- what is bound are these types
+abbrev pub AreBoundSettled : Setting → List Kind → List TypeTree → List TypeTree → Bound → Type 0
+AreBoundSettled s kinds fs args (Settled b) = AreSettled s kinds fs args b.items
+AreBoundSettled s kinds fs args _ = ⊥
 
 -- there is none for some field
 abbrev pub NoneSettled : Setting → List Kind → List TypeTree → List TypeTree → Type 0

@@ -1,10 +1,13 @@
 pub mod Answers
 pub mod Binding
 pub mod Cases
+pub mod Closed
 pub mod Each
+pub mod FieldTypes
 pub mod Forms
 pub mod Groups
 pub mod InScope
+pub mod Keeping
 pub mod Keying
 pub mod Kinding
 pub mod SeenView

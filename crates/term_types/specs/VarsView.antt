@@ -5,12 +5,15 @@ use Rattle.std.specs.List.{slice_get}
 use Rattle.chw_types.specs.declared.kind.Kind.{Kind}
 use Rattle.chw_types.specs.TypeTree.{TypeTree}
 use Rattle.chw_typing.specs.Scopes.{under_binder, with_more}
+use Rattle.term_types.specs.FieldTypes.{put_types, put_kinds}
 use Rattle.term_types.specs.InScope.{InScope}
+use Rattle.term_types.specs.declared.fields.Bound.{Bound}
+use Rattle.term_types.specs.declared.fields.Bound.TheVariants.{OfFields as BoundFields, Settled}
 use Rattle.term_types.specs.declared.found.Found.{Found}
 use Rattle.term_types.specs.declared.found.Kinded.{Kinded}
 use Rattle.term_types.specs.declared.vars.Frame.{Frame}
 use Rattle.term_types.specs.declared.vars.Frame.TheVariants.{Empty, UnderType, OfLambda, OfGroup}
-use Rattle.term_types.specs.declared.vars.Frame.TheVariants.{OfPattern}
+use Rattle.term_types.specs.declared.vars.Frame.TheVariants.{OfPattern, OfFields}
 
 -- the types and kinds of written types
 abbrev pub written_types : List Kinded → List TypeTree
@@ -25,6 +28,15 @@ found_types fs = map (λ f. f.ty) fs
 
 abbrev pub found_kinds : List Found → List Kind
 found_kinds fs = map (λ f. f.kind) fs
+
+-- the types and kinds of what a pattern binds
+abbrev pub bound_types : Bound → List TypeTree
+bound_types (BoundFields p) = put_types p
+bound_types (Settled fs) = found_types fs.items
+
+abbrev pub bound_kinds : Bound → List Kind
+bound_kinds (BoundFields p) = put_kinds p
+bound_kinds (Settled fs) = found_kinds fs.items
 
 -- variables that are bound together inside others
 abbrev pub bound_inside : List TypeTree → List Kind → InScope → InScope
@@ -41,6 +53,7 @@ in_scope (OfGroup bound outer) =
     bound_inside (written_types bound.now) (written_kinds bound.now) outer.now
 in_scope (OfPattern bound outer) =
     bound_inside (found_types bound.now) (found_kinds bound.now) outer.now
+in_scope (OfFields p outer) = bound_inside (put_types p.now) (put_kinds p.now) outer.now
 
 -- what is found of the variable of this number among these: its type with its kind, where it is in
 -- scope

@@ -5,10 +5,13 @@
 #![tactic(auto)]
 
 mod alternatives;
+mod closed;
 mod constructors;
+mod fields;
 mod found;
 mod groups;
 mod heads;
+mod kept;
 mod patterns;
 mod seen;
 pub mod signature;

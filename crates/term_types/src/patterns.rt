@@ -4,12 +4,16 @@ ghost use Rattle.chw_types.specs.TypeTree.{data_of};
 ghost use Rattle.chw_types.specs.TypeView.{trees_of};
 ghost use Rattle.chw_typing.specs.Scopes.{HasKind, setting_in};
 ghost use Rattle.chw_typing.specs.Programs.{IsSound};
-ghost use Rattle.term_types.specs.Binding.{BindsKinded, BindsNothing, IsLiteralOf, AreSettled, NoneSettled, is_looked_at};
+ghost use Rattle.term_types.specs.Binding.{BindsKinded, BindsNothing, IsLiteralOf, AreBoundSettled, NoneSettled, is_looked_at};
+ghost use Rattle.term_types.specs.FieldTypes.{args_seen};
 ghost use Rattle.term_types.specs.Signatures.{IsSignature};
 ghost use Rattle.chw_terms.specs.declared.term.Pattern.TheVariants.{OfCon};
 
-use crate::found::{Found, settled};
+use crate::fields::{Args, Bound, Fields};
+use crate::found::settled;
 use crate::heads::literal_type;
+use crate::kept::keep_kinds;
+use crate::seen::Seen;
 use crate::signature::Signature;
 use chw_base::{ConId, DataId, NoMemory};
 use chw_bits::Bits;
@@ -18,28 +22,28 @@ use chw_types::{Kind, Scalar, Ty, TyNode, put_arguments, same};
 use std::alloc::Global;
 
 /// The types of the variables that a pattern binds, the first one first, where it is one for values of this type.
-pub(crate) fn bound_types<'t>(
+pub(crate) fn bound_types<'f, 't>(
     alloc: Global,
-    scene: &Scene,
-    signature: &Signature,
+    scene: &'t Scene,
+    signature: &'t Signature,
     kinds: &[Kind],
-    of: &Ty,
+    of: &'f Seen<'t>,
     pattern: &Pattern,
-) -> Result<Option<Vec<Found<'t>>>, NoMemory>
+) -> Result<Option<Bound<'f, 't>>, NoMemory>
     requires sound { IsSound (setting_in scene.now) }
     requires table { IsSignature scene.now.program.now signature.now }
     requires kinded { (k : _) × HasKind (setting_in scene.now) (reverse kinds.now) of.now k }
-    ensures { IfOk result (λ r. MatchOption r (BindsNothing (setting_in scene.now) (reverse kinds.now) of.now pattern.now) (λ bound. BindsKinded (setting_in scene.now) (reverse kinds.now) of.now pattern.now bound.items)) }
+    ensures { IfOk result (λ r. MatchOption r (BindsNothing (setting_in scene.now) (reverse kinds.now) of.now pattern.now) (λ bound. BindsKinded (setting_in scene.now) (reverse kinds.now) of.now pattern.now bound)) }
 {
     match pattern {
         Pattern::OfCon(at, names) => { fields(alloc, scene, signature, kinds, of, *at, *names) }
         Pattern::OfLit(sort, bits) => {
-            if is_literal_of(alloc, of, *sort, bits)? {
-                return Ok(Some(Vec::new(alloc)));
+            if is_literal_of(alloc, of.ty(), *sort, bits)? {
+                return Ok(Some(Bound::Settled(Vec::new(alloc))));
             }
             Ok(None)
         }
-        Pattern::Default => Ok(Some(Vec::new(alloc))),
+        Pattern::Default => Ok(Some(Bound::Settled(Vec::new(alloc)))),
     }
 }
 
@@ -68,43 +72,71 @@ fn arguments_of(ty: &Ty, of: DataId) -> Option<&[Ty]>
     }
 }
 
+// The same, where the type is seen.
+fn arguments_seen<'f, 't>(ty: &'f Seen<'t>, of: DataId) -> Option<Args<'f, 't>>
+    ensures { MatchOption result ((ts : _) → ty.now ≡ data_of of.number ts → ⊥) (λ args. ty.now ≡ data_of of.number (trees_of (args_seen args))) }
+{
+    match ty.if_written() {
+        Some(written) => match arguments_of(written, of) {
+            Some(args) => Some(Args::Written(args)),
+            None => None,
+        },
+        None => match arguments_of(ty.ty(), of) {
+            Some(args) => Some(Args::Made(args)),
+            None => None,
+        },
+    }
+}
+
 // The types of a constructor's fields at the arguments of a type, where it is one of that type and has as many fields.
-fn fields<'t>(
+//
+// If the fields keep their kinds, their types aren't made here.
+fn fields<'f, 't>(
     alloc: Global,
-    scene: &Scene,
-    signature: &Signature,
+    scene: &'t Scene,
+    signature: &'t Signature,
     kinds: &[Kind],
-    of: &Ty,
+    of: &'f Seen<'t>,
     at: ConId,
     names: u32,
-) -> Result<Option<Vec<Found<'t>>>, NoMemory>
+) -> Result<Option<Bound<'f, 't>>, NoMemory>
     requires sound { IsSound (setting_in scene.now) }
     requires table { IsSignature scene.now.program.now signature.now }
     requires kinded { (k : _) × HasKind (setting_in scene.now) (reverse kinds.now) of.now k }
-    ensures { IfOk result (λ r. MatchOption r (BindsNothing (setting_in scene.now) (reverse kinds.now) of.now (OfCon at names)) (λ bound. BindsKinded (setting_in scene.now) (reverse kinds.now) of.now (OfCon at names) bound.items)) }
+    ensures { IfOk result (λ r. MatchOption r (BindsNothing (setting_in scene.now) (reverse kinds.now) of.now (OfCon at names)) (λ bound. BindsKinded (setting_in scene.now) (reverse kinds.now) of.now (OfCon at names) bound)) }
 {
     let Some(con) = signature.constructors.at(at) else {
         return Ok(None);
     };
-    let Some(args) = arguments_of(of, con.of) else {
+    let Some(args) = arguments_seen(of, con.of) else {
         return Ok(None);
     };
     let fields = con.decl.fields.as_slice();
     if fields.len() != names as usize {
         return Ok(None);
     }
-    Ok(all_settled(alloc, scene, kinds, fields, args)?)
+    let given = args.types();
+    if !keep_kinds(fields, given) {
+        return Ok(all_settled(alloc, scene, kinds, fields, given)?);
+    }
+    Ok(Some(Bound::OfFields(Fields {
+        datas: scene.program.datas.as_slice(),
+        domains: scene.program.domains.as_slice(),
+        params: con.it.params.as_slice(),
+        types: fields,
+        args,
+    })))
 }
 
 // The types of fields at these arguments, each with a kind, where there are such up to naturals.
-fn all_settled<'t>(
+fn all_settled<'f, 't>(
     alloc: Global,
     scene: &Scene,
     kinds: &[Kind],
     fields: &[Ty],
     args: &[Ty],
-) -> Result<Option<Vec<Found<'t>>>, NoMemory>
-    ensures { IfOk result (λ r. MatchOption r (NoneSettled (setting_in scene.now) (reverse kinds.now) fields.now args.now) (λ bound. AreSettled (setting_in scene.now) (reverse kinds.now) fields.now args.now bound.items)) }
+) -> Result<Option<Bound<'f, 't>>, NoMemory>
+    ensures { IfOk result (λ r. MatchOption r (NoneSettled (setting_in scene.now) (reverse kinds.now) fields.now args.now) (λ bound. AreBoundSettled (setting_in scene.now) (reverse kinds.now) fields.now args.now bound)) }
 {
     let mut bound = Vec::new(alloc);
     for field in fields {
@@ -114,7 +146,7 @@ fn all_settled<'t>(
             None => return Ok(None),
         }
     }
-    Ok(Some(bound))
+    Ok(Some(Bound::Settled(bound)))
 }
 
 /// Whether a case may look at values of this type.

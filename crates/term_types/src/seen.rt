@@ -1,5 +1,5 @@
 //! Types that are seen where they are written, or made.
-ghost use Rattle.std.specs.Prelude.{◌≡◌, IfOk, MatchOption};
+ghost use Rattle.std.specs.Prelude.{◌≡◌, IfOk, IfSome, MatchOption};
 ghost use Rattle.chw_types.specs.TypeTree.{nat_lit, vector, fun, for_all};
 ghost use Rattle.chw_types.specs.TypeMoves.{shift};
 
@@ -59,6 +59,16 @@ impl<'t> Seen<'t> {
         match &self.form {
             Form::Written(ty) => ty,
             Form::Made(ty) => ty,
+        }
+    }
+
+    /// The type, where it is written.
+    pub(crate) fn if_written(&self) -> Option<&'t Ty>
+        ensures { IfSome result (λ t. t.now ≡ self.now) }
+    {
+        match &self.form {
+            Form::Written(ty) => Some(*ty),
+            Form::Made(_) => None,
         }
     }
 
@@ -174,6 +184,17 @@ pub(crate) fn raised_again<'t>(
 {
     if by == 0 {
         return Ok(seen.again(alloc)?);
+    }
+    Ok(Seen::made(shift_type(alloc, seen.ty(), TyIx { number: 0 }, by)?))
+}
+
+/// The same, where the type isn't needed any more as it was.
+#[tactic(auto, using(crate::proofs::VarsFound::not_raised))]
+pub(crate) fn raised_on<'t>(alloc: Global, seen: Seen<'t>, by: u32) -> Result<Seen<'t>, NoMemory>
+    ensures { IfOk result (λ r. r ≡ shift seen.entry 0 by) }
+{
+    if by == 0 {
+        return Ok(seen);
     }
     Ok(Seen::made(shift_type(alloc, seen.ty(), TyIx { number: 0 }, by)?))
 }

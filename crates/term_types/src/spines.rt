@@ -1,6 +1,5 @@
 //! Terms at arguments: the type of a term at the arguments so far.
-ghost use Rattle.std.specs.Prelude.{◌≡◌, ◌^◌, ◌-◌, min, reverse, IfOk, IsTrue, MatchOption};
-ghost use Rattle.chw_types.specs.Kinds.{degree};
+ghost use Rattle.std.specs.Prelude.{◌≡◌, reverse, IfOk, IsTrue, MatchOption};
 ghost use Rattle.chw_types.specs.SameFound.{same_kind};
 ghost use Rattle.chw_types.specs.TypeTree.{for_all};
 ghost use Rattle.chw_typing.specs.Scopes.{setting_in};
@@ -8,6 +7,7 @@ ghost use Rattle.term_types.specs.Forms.{Takes, TakesNot, TakesType, TakesTypeNo
 ghost use Rattle.term_types.specs.Spines.{spine_found, AtTerm, AtType, CanWait, IsFunction, IsStarted};
 
 use crate::found::{Found, kind_in, settled};
+use crate::kept::degree;
 use crate::seen::Seen;
 use chw_base::{NoMemory, TyIx};
 use chw_terms::Scene;
@@ -118,18 +118,6 @@ fn apply_type<'t>(
     }
     let ty = put_type(alloc, of, TyIx { number: 0 }, arg)?;
     Ok(settled(alloc, scene, kinds, ty)?)
-}
-
-// The degree of a type, at most the last value of the number's type.
-fn degree(ty: &Ty) -> u32
-    ensures { result ≡ min (degree ty.now) (2 ^ 32 - 1) }
-{
-    match &ty.node {
-        TyNode::Var(_) => 1,
-        TyNode::Sum(a, b) => degree(a).max(degree(b)),
-        TyNode::Times(a, b) => degree(a).saturating_add(degree(b)),
-        _ => 0,
-    }
 }
 
 // Whether a type argument may wait at a term of this type: so where it has a type parameter, and

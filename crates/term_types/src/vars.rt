@@ -2,8 +2,9 @@
 ghost use Rattle.std.specs.Prelude.{◌≡◌, ◌+◌, [], ◌∷◌, ◌++◌, map, reverse, IfOk};
 ghost use Rattle.chw_types.specs.TypeMoves.{shift};
 ghost use Rattle.chw_typing.specs.Scopes.{under_binder, with_more};
-ghost use Rattle.term_types.specs.VarsView.{IsAt, written_types, written_kinds, found_types, found_kinds};
+ghost use Rattle.term_types.specs.VarsView.{IsAt, written_types, written_kinds, bound_types, bound_kinds};
 
+use crate::fields::{Bound, Fields, field_found};
 use crate::found::{Found, Kinded};
 use crate::seen::{raised, raised_again};
 use chw_base::NoMemory;
@@ -35,6 +36,8 @@ enum Frame<'f, 't> {
     OfGroup(&'f [Kinded<'t>], &'f Vars<'f, 't>),
     /// What a pattern binds, the first one first.
     OfPattern(&'f [Found<'t>], &'f Vars<'f, 't>),
+    /// The fields of a constructor that a pattern binds.
+    OfFields(&'f Fields<'f, 't>, &'f Vars<'f, 't>),
 }
 
 impl<'f, 't> Model for Vars<'f, 't> {
@@ -97,12 +100,17 @@ impl<'f, 't> Vars<'f, 't> {
     }
 
     /// The variables of a pattern too.
-    pub(crate) fn with_fields(&'f self, bound: &'f [Found<'t>]) -> Vars<'f, 't>
-        ensures types { result.vars ≡ with_more (found_types bound.now) self.now.vars }
-        ensures kinds { result.kinds ≡ reverse (found_kinds bound.now) ++ self.now.kinds }
+    pub(crate) fn with_bound(&'f self, bound: &'f Bound<'f, 't>) -> Vars<'f, 't>
+        ensures types { result.vars ≡ with_more (bound_types bound.now) self.now.vars }
+        ensures kinds { result.kinds ≡ reverse (bound_kinds bound.now) ++ self.now.kinds }
     {
-        Vars {
-            frame: Frame::OfPattern(bound, self),
+        match bound {
+            Bound::OfFields(fields) => Vars {
+                frame: Frame::OfFields(fields, self),
+            },
+            Bound::Settled(found) => Vars {
+                frame: Frame::OfPattern(found.as_slice(), self),
+            },
         }
     }
 
@@ -141,6 +149,14 @@ impl<'f, 't> Vars<'f, 't> {
                 let count = bound.len();
                 if number < count {
                     return Ok(Some(found_again(alloc, &bound[count - 1 - number], by)?));
+                }
+                Ok(outer.at(alloc, number - count, by)?)
+            }
+            Frame::OfFields(fields, outer) => {
+                let count = fields.types.len();
+                if number < count {
+                    let it = &fields.types[count - 1 - number];
+                    return Ok(Some(field_found(alloc, *fields, it, by)?));
                 }
                 Ok(outer.at(alloc, number - count, by)?)
             }

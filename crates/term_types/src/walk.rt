@@ -344,7 +344,7 @@ fn infer_alts<'t>(
     signature: &'t Signature,
     kinds: &[Kind],
     vars: &Vars<'_, 't>,
-    on: &Found,
+    on: &Found<'t>,
     alts: &'t [Alt],
 ) -> Result<Option<Found<'t>>, NoMemory>
     requires ready { IsSet (setting_in scene.now) (reverse kinds.now) vars.now }
@@ -374,7 +374,7 @@ fn infer_alt<'t>(
     signature: &'t Signature,
     kinds: &[Kind],
     vars: &Vars<'_, 't>,
-    on: &Found,
+    on: &Found<'t>,
     alt: &'t Alt,
 ) -> Result<Option<Found<'t>>, NoMemory>
     requires ready { IsSet (setting_in scene.now) (reverse kinds.now) vars.now }
@@ -382,9 +382,9 @@ fn infer_alt<'t>(
     requires on { HasKind (setting_in scene.now) (reverse kinds.now) on.now.ty on.now.kind }
     ensures { IfOk result (λ r. MatchOption r (GivesNothing (setting_in scene.now) (reverse kinds.now) vars.now.vars on.now.ty alt.now) (λ f. Gives (setting_in scene.now) (reverse kinds.now) vars.now.vars on.now.ty alt.now f)) }
 {
-    let Some(bound) = bound_types(alloc, scene, signature, kinds, on.ty.ty(), &alt.pattern)? else {
+    let Some(bound) = bound_types(alloc, scene, signature, kinds, &on.ty, &alt.pattern)? else {
         return Ok(None);
     };
-    let inner = (&*vars).with_fields(&bound);
+    let inner = (&*vars).with_bound(&bound);
     infer(alloc, scene, signature, kinds, &inner, &alt.body)
 }

@@ -1,4 +1,4 @@
-use Rattle.std.proofs.Common.{◌≡◌, ◌↔◌, IsTrue, ◌+◌, ◌∷◌, ◌++◌, [], Vec, Global, length, take, refl, sym, ap, ◌∙◌, subst, arith}
+use Rattle.std.proofs.Common.{◌≡◌, ◌↔◌, IsTrue, ◌+◌, ◌∷◌, ◌++◌, [], length, take, refl, sym, ap, ◌∙◌, subst, arith}
 use Rattle.std.specs.Prelude.{IfOk, MatchOption, reverse}
 use Rattle.std.proofs.lemmas.Bool.{false≢true}
 use Rattle.chw_types.specs.SameTypes.{SameTypes}
@@ -11,14 +11,15 @@ use Rattle.chw_terms.specs.TermTree.{TermTree, app, ty_app, lam, ty_lam, letrec,
 use Rattle.chw_terms.specs.TermView.{tree_of, applied_to, applied, terms_of, group_of, alts_of}
 use Rattle.chw_typing.specs.Alternatives.{NoneHidden}
 use Rattle.chw_typing.specs.HeadTypes.{IsLookedAt}
-use Rattle.chw_typing.specs.Scopes.{HasKind, setting_in}
+use Rattle.chw_typing.specs.Scopes.{setting_in}
 use Rattle.chw_typing.specs.Typing.{HasType, HasTypeUpTo}
 use Rattle.term_types.specs.Answers.{HasNoType, IsTyped, IsAnswer}
 use Rattle.term_types.specs.Binding.{BindsKinded, BindsNothing, is_looked_at}
 use Rattle.term_types.specs.Cases.{Gives, GivesNothing, IsJoined}
 use Rattle.term_types.specs.Groups.{HaveTheirTypes, NotAllOfTerms, IsGroup}
 use Rattle.term_types.specs.Spines.{spine_found, AtTerm, AtType, IsSpineOf}
-use Rattle.term_types.specs.VarsView.{found_types}
+use Rattle.term_types.specs.VarsView.{bound_types}
+use Rattle.term_types.specs.declared.fields.Bound.{Bound}
 use Rattle.term_types.specs.declared.found.Found.{Found}
 use Rattle.term_types.specs.declared.groups.Group.{Group}
 use Rattle.term_types.proofs.Applied.{applied_none, app_argument_untyped}
@@ -562,7 +563,7 @@ infer_alts-returns t c e d looked hidden =
 
 pub infer_alt-bound_types-requires : goal.infer_alt-bound_types-requires
 infer_alt-bound_types-requires t c =
-    record { sound = c.requires.ready.0.0; table = c.requires.table; kinded = (c.args.on.now.kind, subst (λ (u : TypeTree). HasKind (setting_in c.args.scene.now) (reverse c.args.kinds.now) u c.args.on.now.kind) (sym c.ty.ensures) c.requires.on) }
+    record { sound = c.requires.ready.0.0; table = c.requires.table; kinded = (c.args.on.now.kind, c.requires.on) }
 
 pub infer_alt-returns-in_default : goal.infer_alt-returns-in_default
 infer_alt-returns-in_default t c bound u b d =
@@ -570,8 +571,7 @@ infer_alt-returns-in_default t c bound u b d =
     let kinds = reverse c.args.kinds.now in
     let on = c.args.on.now in
     let a = c.args.alt.now in
-    let told = subst (λ (u : TypeTree). MatchOption c.in_ok-bound.field-0 (BindsNothing s kinds u a.pattern) (λ (b : Vec Found Global). BindsKinded s kinds u a.pattern b.items)) c.ty.ensures c.in_ok-bound.ensures in
-    of_none (BindsNothing s kinds on.ty a.pattern) (λ (b : Vec Found Global). BindsKinded s kinds on.ty a.pattern b.items) c.in_ok-bound.field-0 c.in_default.not-Some told bound b
+    of_none (BindsNothing s kinds on.ty a.pattern) (λ (b : Bound). BindsKinded s kinds on.ty a.pattern b) c.in_ok-bound.field-0 c.in_default.not-Some c.in_ok-bound.ensures bound b
 
 pub infer_alt-infer-requires : goal.infer_alt-infer-requires
 infer_alt-infer-requires t c =
@@ -581,10 +581,9 @@ infer_alt-infer-requires t c =
     let vars = outer.vars in
     let on = c.args.on.now in
     let a = c.args.alt.now in
-    let told = subst (λ (u : TypeTree). MatchOption c.in_ok-bound.field-0 (BindsNothing s kinds u a.pattern) (λ (b : Vec Found Global). BindsKinded s kinds u a.pattern b.items)) c.ty.ensures c.in_ok-bound.ensures in
     let bound = c.in-Some.bound in
-    let binds = of_some (BindsNothing s kinds on.ty a.pattern) (λ (b : Vec Found Global). BindsKinded s kinds on.ty a.pattern b.items) c.in_ok-bound.field-0 bound c.in-Some.is told in
-    let inside = fields_inside s kinds bound.items c.deref.result.now outer c.with_fields-inner.result c.requires.ready binds.0.typed binds.1 c.deref.ensures.value c.with_fields-inner.ensures.types c.with_fields-inner.ensures.kinds in
+    let binds = of_some (BindsNothing s kinds on.ty a.pattern) (λ (b : Bound). BindsKinded s kinds on.ty a.pattern b) c.in_ok-bound.field-0 bound c.in-Some.is c.in_ok-bound.ensures in
+    let inside = fields_inside s kinds bound outer c.with_bound-inner.result c.requires.ready binds.0.typed binds.1 c.with_bound-inner.ensures.types c.with_bound-inner.ensures.kinds in
     (omega (arith, c.decreases), (inside.set, c.requires.table))
 
 pub infer_alt-returns : goal.infer_alt-returns
@@ -595,9 +594,8 @@ infer_alt-returns t c =
     let vars = outer.vars in
     let on = c.args.on.now in
     let a = c.args.alt.now in
-    let told = subst (λ (u : TypeTree). MatchOption c.in_ok-bound.field-0 (BindsNothing s kinds u a.pattern) (λ (b : Vec Found Global). BindsKinded s kinds u a.pattern b.items)) c.ty.ensures c.in_ok-bound.ensures in
     let bound = c.in-Some.bound in
-    let binds = of_some (BindsNothing s kinds on.ty a.pattern) (λ (b : Vec Found Global). BindsKinded s kinds on.ty a.pattern b.items) c.in_ok-bound.field-0 bound c.in-Some.is told in
-    let inside = fields_inside s kinds bound.items c.deref.result.now outer c.with_fields-inner.result c.requires.ready binds.0.typed binds.1 c.deref.ensures.value c.with_fields-inner.ensures.types c.with_fields-inner.ensures.kinds in
-    ok_more c.infer.result (IsAnswer s kinds c.with_fields-inner.result.vars a.body) (λ r. MatchOption r (GivesNothing s kinds vars on.ty a) (λ f. Gives s kinds vars on.ty a f))
-    (λ r h. gives_told s kinds vars on.ty a (found_types bound.items) on.kind r c.requires.ready.0 c.requires.on binds.0 (subst (λ vars. IsAnswer s kinds vars a.body r) inside.vars h)) c.infer.ensures
+    let binds = of_some (BindsNothing s kinds on.ty a.pattern) (λ (b : Bound). BindsKinded s kinds on.ty a.pattern b) c.in_ok-bound.field-0 bound c.in-Some.is c.in_ok-bound.ensures in
+    let inside = fields_inside s kinds bound outer c.with_bound-inner.result c.requires.ready binds.0.typed binds.1 c.with_bound-inner.ensures.types c.with_bound-inner.ensures.kinds in
+    ok_more c.infer.result (IsAnswer s kinds c.with_bound-inner.result.vars a.body) (λ r. MatchOption r (GivesNothing s kinds vars on.ty a) (λ f. Gives s kinds vars on.ty a f))
+    (λ r h. gives_told s kinds vars on.ty a (bound_types bound) on.kind r c.requires.ready.0 c.requires.on binds.0 (subst (λ vars. IsAnswer s kinds vars a.body r) inside.vars h)) c.infer.ensures

@@ -5,6 +5,7 @@ use Rattle.chw_typing.specs.Scopes.{under_binder}
 use Rattle.term_types.specs.declared.found.Found.{Found}
 use Rattle.term_types.specs.declared.found.Kinded.{Kinded}
 use Rattle.term_types.specs.InScope.{InScope}
+use Rattle.term_types.specs.FieldTypes.{put_type, put_kind}
 use Rattle.term_types.specs.VarsView.{in_scope, IsAt}
 use Rattle.term_types.proofs.VarsFound.{raised_all, raised_under, at_moved, at_bound, at_past}
 use Rattle.term_types.proofs.vars.Vars.+at.Goals as goal
@@ -53,3 +54,23 @@ returns-in_ok-at-in-OfPattern t c =
     let r = c.in_ok-at-in-OfPattern.field-0 in
     subst (λ (v : InScope). IsAt (raised_all c.args.by v.vars) v.kinds n r) (ap in_scope (sym c.in-OfPattern.is) ∙ c.self.view_is)
     (at_past (λ (f : Found). f.ty) (λ (f : Found). f.kind) c.in-OfPattern.bound.now outer.vars outer.kinds n c.args.by r (omega (arith, c.if-number-count-2.false)) c.in_ok-at-in-OfPattern.ensures)
+
+pub returns-then-number-count-3 : goal.returns-then-number-count-3
+returns-then-number-count-3 t c =
+    let outer = c.in-OfFields.outer.now in
+    let p = c.in-OfFields.fields.now in
+    let n = c.args.number in
+    let r = c.in_ok-field_found-in-OfFields.field-0 in
+    subst (λ (v : InScope). IsAt (raised_all c.args.by v.vars) v.kinds n (Some r)) (ap in_scope (sym c.in-OfFields.is) ∙ c.self.view_is)
+    (at_bound (λ f. put_type p f) (λ f. put_kind p f) p.types.now outer.vars outer.kinds n c.args.by c.index-fields-count.result r (omega (arith, c.if-number-count-3.true)) c.index-fields-count.is
+    (c.in_ok-field_found-in-OfFields.ensures.0 ∙ ap (λ t. shift (put_type p t) 0 c.args.by) (sym c.index-fields-count.is))
+    (c.in_ok-field_found-in-OfFields.ensures.1 ∙ ap (λ t. put_kind p t) (sym c.index-fields-count.is)))
+
+pub returns-in_ok-at-in-OfFields : goal.returns-in_ok-at-in-OfFields
+returns-in_ok-at-in-OfFields t c =
+    let outer = c.in-OfFields.outer.now in
+    let p = c.in-OfFields.fields.now in
+    let n = c.args.number in
+    let r = c.in_ok-at-in-OfFields.field-0 in
+    subst (λ (v : InScope). IsAt (raised_all c.args.by v.vars) v.kinds n r) (ap in_scope (sym c.in-OfFields.is) ∙ c.self.view_is)
+    (at_past (λ f. put_type p f) (λ f. put_kind p f) p.types.now outer.vars outer.kinds n c.args.by r (omega (arith, c.if-number-count-3.false)) c.in_ok-at-in-OfFields.ensures)
