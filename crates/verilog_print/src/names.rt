@@ -37,8 +37,8 @@ pub fn put_reset(out: &mut Vec<u8>, ports: &Ports, domain: DomId) -> Result<(), 
     Ok(())
 }
 
-/// Writes the name of an input of the top.
-fn put_top_input(out: &mut Vec<u8>, ports: &Ports, port: &Port) -> Result<(), NoMemory>
+/// Writes the name of an input port.
+fn put_input_port(out: &mut Vec<u8>, ports: &Ports, port: &Port) -> Result<(), NoMemory>
     ensures { OnOk result (out.new.items ≡ out.old.items ++ input_name ports.now.domains port.now) }
 {
     put(out, b"i_")?;
@@ -48,8 +48,8 @@ fn put_top_input(out: &mut Vec<u8>, ports: &Ports, port: &Port) -> Result<(), No
     Ok(())
 }
 
-/// Writes the name of an output of the top.
-fn put_top_output(out: &mut Vec<u8>, ports: &Ports, port: &Port) -> Result<(), NoMemory>
+/// Writes the name of an output port.
+fn put_output_port(out: &mut Vec<u8>, ports: &Ports, port: &Port) -> Result<(), NoMemory>
     ensures { OnOk result (out.new.items ≡ out.old.items ++ output_name ports.now.domains port.now) }
 {
     put(out, b"o_")?;
@@ -69,23 +69,23 @@ pub fn put_numbered(out: &mut Vec<u8>, word: &[u8], number: usize) -> Result<(),
 }
 
 /// Writes the name of the input of this number of the top, and nothing where there is none.
-fn put_input_of_top(out: &mut Vec<u8>, ports: &Ports, number: usize) -> Result<(), NoMemory>
+fn put_top_input(out: &mut Vec<u8>, ports: &Ports, number: usize) -> Result<(), NoMemory>
     ensures { OnOk result (out.new.items
         ≡ out.old.items ++ slice_index_or (map (input_name ports.now.domains) ports.now.inputs) number []) }
 {
     match ports.inputs.as_slice().get(number) {
-        Some(port) => put_top_input(out, ports, port),
+        Some(port) => put_input_port(out, ports, port),
         None => Ok(()),
     }
 }
 
 /// Writes the name of the output of this number of the top, and nothing where there is none.
-fn put_output_of_top(out: &mut Vec<u8>, ports: &Ports, number: usize) -> Result<(), NoMemory>
+fn put_top_output(out: &mut Vec<u8>, ports: &Ports, number: usize) -> Result<(), NoMemory>
     ensures { OnOk result (out.new.items
         ≡ out.old.items ++ slice_index_or (map (output_name ports.now.domains) ports.now.outputs) number []) }
 {
     match ports.outputs.as_slice().get(number) {
-        Some(port) => put_top_output(out, ports, port),
+        Some(port) => put_output_port(out, ports, port),
         None => Ok(()),
     }
 }
@@ -95,7 +95,7 @@ pub fn put_input(out: &mut Vec<u8>, scope: &Scope, number: usize) -> Result<(), 
     ensures { OnOk result (out.new.items ≡ out.old.items ++ input_in scope.now number) }
 {
     if scope.is_top {
-        put_input_of_top(out, scope.ports, number)
+        put_top_input(out, scope.ports, number)
     } else {
         put_numbered(out, b"i", number)
     }
@@ -106,7 +106,7 @@ pub fn put_output(out: &mut Vec<u8>, scope: &Scope, number: usize) -> Result<(),
     ensures { OnOk result (out.new.items ≡ out.old.items ++ output_in scope.now number) }
 {
     if scope.is_top {
-        put_output_of_top(out, scope.ports, number)
+        put_top_output(out, scope.ports, number)
     } else {
         put_numbered(out, b"y", number)
     }
