@@ -11,6 +11,7 @@ pub mod Lets
 pub mod Matched
 pub mod PatternKeys
 pub mod Plain
+pub mod PutClosed
 pub mod Ready
 pub mod Scoped
 pub mod Settled

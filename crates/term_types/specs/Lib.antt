@@ -1,6 +1,7 @@
 pub mod Answers
 pub mod Binding
 pub mod Cases
+pub mod Closed
 pub mod Each
 pub mod Forms
 pub mod Groups

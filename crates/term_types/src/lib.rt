@@ -5,6 +5,7 @@
 #![tactic(auto)]
 
 mod alternatives;
+mod closed;
 mod constructors;
 mod found;
 mod groups;
