@@ -22,7 +22,7 @@ use Rattle.term_types.proofs.Applied.{takes_not}
 use Rattle.term_types.proofs.Ready.{reverse_last}
 
 -- nothing waits
-put_nothing : (t : TypeTree) (ts : List TypeTree) → length ts ≡ 0 → sub t (given (reverse ts)) ≡ t
+pub put_nothing : (t : TypeTree) (ts : List TypeTree) → length ts ≡ 0 → sub t (given (reverse ts)) ≡ t
 put_nothing t [] none = sub_ids t
 put_nothing t (a ∷ ts) none = absurd (cc)
 
@@ -44,8 +44,8 @@ pub found_started : (f : Found) (p : Spine) → p.body ≡ f → length p.waitin
 found_started f p is none = (λ i. record { ty = put_nothing p.body.ty p.waiting.items none i; kind = p.body.kind }) ∙ is
 
 -- what is found with all that waits put
-pub found_finished : (p : Spine) (f : Found) → f.ty ≡ sub p.body.ty (arguments (trees_of p.waiting.items)) → f.kind ≡ p.body.kind → f ≡ spine_found p
-found_finished p f is kind = λ i. record { ty = (is ∙ put_waiting p.body.ty p.waiting.items) i; kind = kind i }
+pub found_finished : (p : Spine) (f : Found) → f.ty ≡ (spine_found p).ty → f.kind ≡ p.body.kind → f ≡ spine_found p
+found_finished p f is kind = λ i. record { ty = is i; kind = kind i }
 
 pub started_told : (P : Type 0) (Q : Found → Type 0) (o : Option Found) (r : Option Spine) → IsStarted o r → MatchOption o P Q → MatchOption r P (λ p. Q (spine_found p))
 started_told P Q o (Some p) is h = subst (λ x. MatchOption x P Q) is h

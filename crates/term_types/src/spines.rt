@@ -1,11 +1,14 @@
 //! Terms at arguments: the type of a term at the arguments so far.
 ghost use Rattle.std.specs.Prelude.{◌≡◌, reverse, IfOk, IsTrue, MatchOption};
+ghost use Rattle.chw_types.specs.Arguments.{given};
 ghost use Rattle.chw_types.specs.SameFound.{same_kind};
+ghost use Rattle.chw_types.specs.TypeMoves.{sub};
 ghost use Rattle.chw_types.specs.TypeTree.{for_all};
 ghost use Rattle.chw_typing.specs.Scopes.{setting_in};
 ghost use Rattle.term_types.specs.Forms.{Takes, TakesNot, TakesType, TakesTypeNot};
 ghost use Rattle.term_types.specs.Spines.{spine_found, AtTerm, AtType, CanWait, IsFunction, IsStarted};
 
+use crate::closed::has_no_variables;
 use crate::found::{Found, kind_in, settled};
 use crate::kept::degree;
 use crate::seen::Seen;
@@ -54,14 +57,30 @@ fn started_again<'t>(alloc: Global, found: Option<Found<'t>>) -> Option<Spine<'t
 pub(crate) fn finished<'t>(alloc: Global, spine: Spine<'t>) -> Result<Found<'t>, NoMemory>
     ensures { IfOk result (λ f. f ≡ spine_found spine.entry) }
 {
-    if spine.waiting.is_empty() {
-        return Ok(spine.body);
+    let Spine { body, waiting } = spine;
+    let kind = body.kind;
+    let ty = filled(alloc, body.ty, waiting.as_slice())?;
+    Ok(Found { ty, kind })
+}
+
+// A type with these put for its variables from 0 on, the last one for 0.
+fn filled<'t>(alloc: Global, seen: Seen<'t>, waiting: &[Ty]) -> Result<Seen<'t>, NoMemory>
+    ensures { IfOk result (λ r. r ≡ sub seen.entry (given (reverse waiting.now))) }
+{
+    if stays(seen.ty(), waiting) {
+        return Ok(seen);
     }
-    let ty = put_arguments(alloc, spine.body.ty.ty(), spine.waiting.as_slice())?;
-    Ok(Found {
-        ty: Seen::made(ty),
-        kind: spine.body.kind,
-    })
+    Ok(Seen::made(put_arguments(alloc, seen.ty(), waiting)?))
+}
+
+// Whether a type is the same with these put: there are none, or no variable is in the type.
+fn stays(ty: &Ty, waiting: &[Ty]) -> bool
+    ensures { IsTrue result → sub ty.now (given (reverse waiting.now)) ≡ ty.now }
+{
+    if waiting.is_empty() {
+        return true;
+    }
+    has_no_variables(ty)
 }
 
 // The kind of the variable and the type that binds it, of a type with a type parameter.
@@ -198,8 +217,8 @@ fn take<'t>(alloc: Global, spine: Spine<'t>, arg: Found) -> Result<Option<Spine<
     let Some((from, to)) = body.ty.into_function() else {
         return Ok(None);
     };
-    let from = put_arguments(alloc, from.ty(), waiting.as_slice())?;
-    if !same(alloc, &from, arg.ty.ty())? {
+    let from = filled(alloc, from, waiting.as_slice())?;
+    if !same(alloc, from.ty(), arg.ty.ty())? {
         return Ok(None);
     }
     let kind = body.kind;
@@ -215,7 +234,7 @@ pub(crate) fn at_term<'t>(
 ) -> Result<Option<Spine<'t>>, NoMemory>
     ensures { IfOk result (AtTerm (spine_found spine.entry) arg.entry.ty) }
 {
-    if !spine.waiting.is_empty() && is_function(spine.body.ty.ty()) {
+    if is_function(spine.body.ty.ty()) {
         return take(alloc, spine, arg);
     }
     let fun = finished(alloc, spine)?;

@@ -20,7 +20,6 @@ use Rattle.term_types.specs.Groups.{HaveTheirTypes, NotAllOfTerms, IsGroup}
 use Rattle.term_types.specs.Spines.{spine_found, AtTerm, AtType, IsSpineOf}
 use Rattle.term_types.specs.VarsView.{bound_types}
 use Rattle.term_types.specs.declared.fields.Bound.{Bound}
-use Rattle.term_types.specs.declared.found.Found.{Found}
 use Rattle.term_types.specs.declared.groups.Group.{Group}
 use Rattle.term_types.proofs.Applied.{applied_none, app_argument_untyped}
 use Rattle.term_types.proofs.Bound.{looked_found, looked_none}
