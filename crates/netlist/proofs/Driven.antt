@@ -55,7 +55,7 @@ module _ (flat : Flat) (sound : Sound flat) where
   pub each_driven_once : EachOnce (length flat.ports.inputs) (length flat.widths) (target_at flat.cells)
   each_driven_once = driven_once (length flat.ports.inputs) flat.cells sound.in_order (length flat.widths) sound.all
 
-  -- the cell at each place drives a wire that exists
+  -- the cell at each place drives a wire, and a wire that is driven exists
   pub target_here : (p : ℕ) → p < length flat.cells → (w : ℕ) × (target_at flat.cells p ≡ Some w)
   target_here p l = (length flat.ports.inputs + p, target_in_order (length flat.ports.inputs) flat.cells sound.in_order p l)
 

@@ -5,7 +5,7 @@ ghost use Rattle.netlist.specs.Waits.{driving_place, waits};
 use crate::net::Cell;
 use graph_order::Graph;
 
-// The place of the cell that drives a wire, where so many are inputs. For an input it is no cell's.
+// The place of the cell that drives a wire, where so many wires are inputs. For an input it is past all cells.
 fn place_of(inputs: u32, wire: u32) -> u32
     ensures { result ≡ driving_place inputs wire }
 {
