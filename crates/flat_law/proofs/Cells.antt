@@ -13,11 +13,3 @@ cell_at names k (b ∷ bs) (suc i) cell e =
     let r = cell_at names (k + 1) bs i cell e in
     let n : k + 1 + i ≡ k + suc i = omega arith in
     (r.0, r.1, r.2 ∙ ap (λ n. cell_of names n r.0.right) n)
-
--- each binding has its cell
-pub binding_at : (names : List (List ℕ)) (k : ℕ) (bs : List Binding) (i : ℕ) (b : Binding) → slice_get bs i ≡ Some b
-    → slice_get (cells_of names k bs) i ≡ Some (cell_of names (k + i) b.right)
-binding_at names k [] i b e = absurd (cc)
-binding_at names k (a ∷ bs) zero b e = let is : a ≡ b = cc in let n : k ≡ k + 0 = omega arith in ap (λ b. Some (cell_of names k b.right)) is ∙ ap (λ n. Some (cell_of names n b.right)) n
-binding_at names k (a ∷ bs) (suc i) b e =
-    let n : k + 1 + i ≡ k + suc i = omega arith in binding_at names (k + 1) bs i b e ∙ ap (λ n. Some (cell_of names n b.right)) n

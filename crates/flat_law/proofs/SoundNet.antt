@@ -1,10 +1,9 @@
 -- The net of a flat description is sound.
-use Rattle.std.proofs.Common.{◌≡◌, ℕ, ◌+◌, ◌-◌, ◌<◌, ◌≤◌, List, [], ◌∷◌, ◌++◌, length, take, Some, None, slice_get, inl, inr, refl, ap, sym, subst, ◌∙◌, arith, length-append}
-use Rattle.std.specs.Prelude.{map, option_and_then}
-use Rattle.std.proofs.lemmas.Option.{slice_get_cases}
+use Rattle.std.proofs.Common.{◌≡◌, ℕ, suc, ◌+◌, ◌≤◌, List, [], ◌∷◌, ◌++◌, length, take, Some, slice_get, refl, ap, sym, subst, ◌∙◌, arith, length-append}
+use Rattle.std.specs.Prelude.{map}
 use Rattle.chw_base.specs.declared.limits.TheConstants.{FLAT_WIRES}
 use Rattle.chw_clock.specs.declared.event.Port.{Port}
-use Rattle.flat_form.specs.FlatNet.{cell_of, input_ports, place_of, wire, wire_of}
+use Rattle.flat_form.specs.FlatNet.{cell_of, cells_of, input_ports, place_of, wire, wire_of}
 use Rattle.flat_form.specs.Holds.{Holds, Reads, names_of, signal_of, signals, width_of}
 use Rattle.flat_form.specs.declared.flat.Binding.{Binding}
 use Rattle.flat_form.specs.declared.flat.FlatText.{FlatText}
@@ -12,11 +11,11 @@ use Rattle.flat_form.specs.declared.flat.Parameter.{Parameter}
 use Rattle.flat_form.specs.declared.flat.Right.{Right}
 use Rattle.flat_form.specs.declared.flat.Right.TheVariants.{Same, Register, Sum}
 use Rattle.flat_form.specs.FlatNet.{flat_of}
-use Rattle.flat_law.proofs.Cells.{cell_at, binding_at}
-use Rattle.flat_law.proofs.Lists.{all_from_get, recursion_at, get_exists, length_mapped}
+use Rattle.flat_law.proofs.Cells.{cell_at}
+use Rattle.flat_law.proofs.Lists.{all_from_get, recursion_at, length_mapped}
 use Rattle.flat_law.proofs.Signals.{stands, binding_signal, width_at, widths_of_signals}
-use Rattle.netlist.specs.Feeds.{target, target_at}
-use Rattle.netlist.specs.Sound.{Sound, FitsCell, HasWidth}
+use Rattle.netlist.specs.Feeds.{target}
+use Rattle.netlist.specs.Sound.{Sound, DrivesFrom, FitsCell, HasWidth}
 use Rattle.netlist.specs.declared.net.Cell.{Cell}
 
 -- the input ports are as many as the parameters, and as wide
@@ -50,18 +49,20 @@ fits f k n (Register bits y) le width reads =
     (omega arith, width ∙ ap Some (sym reads.0), reads_width f y n reads.1 ∙ ap Some (sym reads.0))
 fits f k n (Sum y z) le width reads = (n, le, width, reads_width f y n reads.0, reads_width f z n reads.1)
 
--- what stands at a place that drives a wire
-cell_there : (cells : List Cell) (place w : ℕ) → target_at cells place ≡ Some w → (cell : Cell) × (slice_get cells place ≡ Some cell) × (target cell ≡ Some w)
-cell_there cells place w t = elim (slice_get_cases cells place).1 [
-  | inl x ↦ (x.0, x.2, sym (ap (option_and_then target) x.2) ∙ t)
-  | inr e ↦ absurd (let n : None ≡ Some w = sym (ap (option_and_then target) e.1) ∙ t in cc)
-]
-
 -- a cell drives the wire of its place
 drives : (names : List (List ℕ)) (k : ℕ) (right : Right) → target (cell_of names k right) ≡ Some k
 drives names k (Same y) = refl
 drives names k (Register bits y) = refl
 drives names k (Sum y z) = refl
+
+-- the cells of bindings drive the wires in order, one for each binding
+cells_in_order : (names : List (List ℕ)) (k : ℕ) (bs : List Binding) → DrivesFrom k (cells_of names k bs)
+cells_in_order names k [] = tt
+cells_in_order names k (b ∷ bs) = (drives names k b.right, cells_in_order names (k + 1) bs)
+
+cells_count : (names : List (List ℕ)) (k : ℕ) (bs : List Binding) → length (cells_of names k bs) ≡ length bs
+cells_count names k [] = refl
+cells_count names k (b ∷ bs) = ap suc (cells_count names (k + 1) bs)
 
 pub few_signals : (f : FlatText) → length (flat_of f).widths ≤ FLAT_WIRES → length (signals f) ≤ FLAT_WIRES
 few_signals f few = omega (arith, length_mapped (λ (p : Parameter). p.width) (signals f))
@@ -72,18 +73,6 @@ module _ (f : FlatText) (holds : Holds f) (few : length (signals f) ≤ FLAT_WIR
 
   signal_count : length (signals f) ≡ length f.parameters + length f.bindings
   signal_count = length-append f.parameters (map signal_of f.bindings) ∙ ap (λ n. length f.parameters + n) (length_mapped signal_of f.bindings)
-
-  -- the cell of a place, and the binding that it is for
-  pub there : (place w : ℕ) → target_at (flat_of f).cells place ≡ Some w
-      → (b : Binding) × (slice_get f.bindings place ≡ Some b) × (w ≡ length f.parameters + place)
-  there place w t =
-      let c = cell_there (flat_of f).cells place w t in
-      let b = cell_at names (length f.parameters) f.bindings place c.0 c.1 in (
-        b.0,
-        b.1,
-        (let d : target (cell_of names (length f.parameters + place) b.0.right) ≡ Some w = sym (ap target b.2) ∙ c.2 in
-            let e : Some (length f.parameters + place) ≡ Some w = sym (drives names (length f.parameters + place) b.0.right) ∙ d in cc),
-      )
 
   fits_place : (k : ℕ) (cell : Cell) → slice_get (flat_of f).cells k ≡ Some cell → FitsCell 1 (widths_of_signals f) cell
   fits_place k cell e =
@@ -99,16 +88,6 @@ module _ (f : FlatText) (holds : Holds f) (few : length (signals f) ≤ FLAT_WIR
       let bounds = recursion_at (λ width. (1 ≤ width) × (width ≤ 128)) (widths_of_signals f) k n holds.signals_hold.widths e in
       (bounds.0, omega (arith, bounds.1))
 
-  driven_wire : (w : ℕ) → length f.parameters ≤ w → w < length (widths_of_signals f) → (place : ℕ) × (target_at (flat_of f).cells place ≡ Some w)
-  driven_wire w le lt =
-      let within : w - length f.parameters < length f.bindings = omega (arith, signal_count, length_mapped (λ (p : Parameter). p.width) (signals f)) in
-      let b = get_exists f.bindings (w - length f.parameters) within in
-      let cell = binding_at names (length f.parameters) f.bindings (w - length f.parameters) b.0 b.1 in
-      let is : length f.parameters + (w - length f.parameters) ≡ w = omega arith in (
-        w - length f.parameters,
-        ap (option_and_then target) cell ∙ drives names (length f.parameters + (w - length f.parameters)) b.0.right ∙ ap Some is,
-      )
-
   pub net_sound : Sound (flat_of f)
   net_sound =
       let count = ports_count f.parameters f.inputs holds.inputs in
@@ -119,9 +98,6 @@ module _ (f : FlatText) (holds : Holds f) (few : length (signals f) ≤ FLAT_WIR
             ∙ sym (first_widths f.parameters (map signal_of f.bindings)) ∙ ap (λ n. take n (widths_of_signals f)) (sym count);
         outputs = ap (λ v. v ∷ []) (reads_width f f.body f.width holds.signals_hold.body);
         cells = all_from_get (FitsCell 1 (widths_of_signals f)) (flat_of f).cells fits_place;
-        drivers = record {
-          free = λ place w t. let b = there place w t in omega (arith, b.2, count);
-          driven = λ w le lt. driven_wire w (omega (arith, count)) lt;
-          once = λ p q w s t. let a = there p w s in let b = there q w t in omega (arith, a.2, b.2);
-        };
+        in_order = subst (λ n. DrivesFrom n (flat_of f).cells) (sym count) (cells_in_order names (length f.parameters) f.bindings);
+        all = omega (arith, count, cells_count names (length f.parameters) f.bindings, signal_count, length_mapped (λ (p : Parameter). p.width) (signals f));
       }

@@ -6,7 +6,6 @@ use Rattle.netlist.specs.Sound.{DrivesFrom, FitsCell, Sound}
 use Rattle.netlist.specs.declared.net.Cell.{Cell}
 use Rattle.netlist.specs.declared.net.Flat.{Flat}
 use Rattle.netlist.proofs.Chains.{eights_fit}
-use Rattle.netlist.proofs.Tables.{driven_once}
 
 -- a flat net of an input and these cells, all of 8 bits
 pub sound_of_driven : (flat : Flat) (n : ℕ) (cells : List Cell) → n < 200000 → length flat.ports.domains ≡ 1
@@ -21,5 +20,6 @@ sound_of_driven flat n cells few d i o w u s m fits drives =
       inputs = rw (one, w) (i ∙ sym (take-replicate 1 (n + 1) 8 (omega arith)));
       outputs = rw (u, o) refl;
       cells = rw (d, w, s) fits;
-      drivers = rw (one, size, s) (driven_once 1 (n + 1) cells drives (omega (arith, m)));
+      in_order = rw (one, s) drives;
+      all = rw (one, size, s) (omega (arith, m));
     }
