@@ -1,3 +1,6 @@
 pub mod Lists
 pub mod OneFlat
+pub mod Pushed
+pub mod Uses
 pub mod Widths
+pub mod Written

@@ -16,7 +16,7 @@ use Rattle.net_flat.specs.Sizes.{AreSizes}
 -- the net is well formed, and these are the sizes of its modules
 pub record Sized (net : Net) (sizes : List ℕ) : Type 0 where
   pub well_formed : WellFormed net
-  pub sizes : AreSizes net sizes
+  pub known : AreSizes net sizes
   pub all : length sizes ≡ length net.modules
 
 -- an instance of this module of the net, of which all flat wires are within the limit
