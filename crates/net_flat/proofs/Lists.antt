@@ -75,3 +75,10 @@ item_at xs ys i x same l is = subst (λ zs. slice_get zs i ≡ Some x) same (sli
 pub take_next : {X : Type 0} (xs : List X) (i : ℕ) (x : X) → slice_get xs i ≡ Some x → take (i + 1) xs ≡ take i xs ++ x ∷ []
 take_next xs i x e =
     take_more xs i x (slice_get_within xs i x e) ∙ ap (λ y. take i xs ++ y ∷ []) (get_or_from_slice_get xs i x x e)
+
+-- an item of the first ones is an item
+pub get_taken : {X : Type 0} (n : ℕ) (xs : List X) (i : ℕ) (x : X) → slice_get (take n xs) i ≡ Some x → slice_get xs i ≡ Some x
+get_taken zero xs i x e = absurd (cc)
+get_taken (suc n) [] i x e = e
+get_taken (suc n) (y ∷ xs) zero x e = e
+get_taken (suc n) (y ∷ xs) (suc i) x e = get_taken n xs i x e

@@ -98,7 +98,7 @@ widths_step net i m wf found =
     step_among (reverse net.modules) i m there (uses_below net i m wf found)
 
 -- sizes count the wires of uses, up to one over the limit
-capped_uses : (net : Net) (sizes : List ℕ) (n : ℕ) (cells : List Cell) → AreSizes net sizes → AllByRecursion (UsesBelow (length sizes)) cells
+pub capped_uses : (net : Net) (sizes : List ℕ) (n : ℕ) (cells : List Cell) → AreSizes net sizes → AllByRecursion (UsesBelow (length sizes)) cells
     → capped (n + sum_by (size_in sizes) cells) ≡ capped (n + length (flat_map (widths_of_use (widths_in net)) cells))
 capped_uses net sizes n [] s h = refl
 capped_uses net sizes n (Use k reads drives ∷ cells) s h =
