@@ -1,6 +1,7 @@
 pub mod Filled
 pub mod Lists
 pub mod OneFlat
+pub mod Placed
 pub mod Pushed
 pub mod Uses
 pub mod Widths

@@ -60,7 +60,9 @@ fn enter(
     push_inputs(&mut parts.cells, x.base, x.reads.as_slice())?;
     let table = table(alloc, net, sizes, x, m)?;
     push_own(alloc, x.base, m, &table, &mut parts.cells)?;
-    push_waiting(&mut parts.waiting, uses(alloc, sizes, x.base, m)?)
+    let uses = uses(alloc, sizes, x.base, m)?;
+    push_waiting(&mut parts.waiting, uses)?;
+    Ok(())
 }
 
 // The last module of a net as an instance that reads nothing.
