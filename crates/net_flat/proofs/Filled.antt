@@ -64,7 +64,7 @@ filled_outputs net base m ws table next (d ∷ ds) (o ∷ os) filled long within
     subst (λ (xs : List WireId). Filled net base m xs (outputs_written next (set table d.number (Output (wire_from next o))) ds os)) (append_assoc ws (d ∷ []) ds) rest
 
 -- a cell that is no use drives one wire
-one_target : (modules : List Module) (next place : ℕ) (cell : Cell) (table : List Driver) → NoUse cell
+pub one_target : (modules : List Module) (next place : ℕ) (cell : Cell) (table : List Driver) → NoUse cell
     → (v : WireId) × (target cell ≡ Some v.number) × (driven cell ≡ v ∷ []) × (drivers_written modules next place cell table ≡ set table v.number (Place place))
 one_target modules next place (Const w bits) table n = (w, refl, refl, refl)
 one_target modules next place (Copy w a) table n = (w, refl, refl, refl)

@@ -1,7 +1,11 @@
+pub mod Below
+pub mod Cells
 pub mod Filled
 pub mod Lists
+pub mod Once
 pub mod OneFlat
 pub mod Placed
+pub mod Progress
 pub mod Pushed
 pub mod Uses
 pub mod Widths
