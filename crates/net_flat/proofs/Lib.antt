@@ -7,6 +7,7 @@ pub mod OneFlat
 pub mod Placed
 pub mod Progress
 pub mod Pushed
+pub mod SoFar
 pub mod Uses
 pub mod Widths
 pub mod Within
