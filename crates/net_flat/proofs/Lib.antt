@@ -1,6 +1,7 @@
 pub mod Below
 pub mod Cells
 pub mod Filled
+pub mod Fitting
 pub mod Lists
 pub mod Once
 pub mod OneFlat
@@ -8,6 +9,7 @@ pub mod Placed
 pub mod Progress
 pub mod Pushed
 pub mod SoFar
+pub mod Sounds
 pub mod Uses
 pub mod Widths
 pub mod Within

@@ -72,7 +72,7 @@ abbrev pub drivers_written : List Module → (next place : ℕ) → Cell → Lis
 drivers_written modules next place (Use k reads drives) table =
     outputs_written next table drives (outputs_of modules k.number)
 drivers_written modules next place cell table =
-    elim (target cell) [ | Some w ↦ set table w (Place place) | None ↦ table ]
+    elim (slice_get (driven cell) 0) [ | Some w ↦ set table w.number (Place place) | None ↦ table ]
 
 -- where it is a place, a cell stands there
 abbrev pub StandsIn : List Cell → Driver → Type 0

@@ -25,7 +25,8 @@ pub struct TooLarge;
 fn flat_of(alloc: Global, net: &Net, sizes: &[u32]) -> Result<Flat, NoMemory>
     requires sized { Sized net.now sizes.now }
     requires fits { FitsWhole net.now }
-    ensures { IfOk result (λ f. IsFlatOf net.now f) }
+    ensures flat { IfOk result (λ f. IsFlatOf net.now f) }
+    ensures sound { IfOk result (λ f. Sound f) }
 {
     let modules = net.modules.as_slice();
     let ports = copy_ports(alloc, &net.ports)?;
