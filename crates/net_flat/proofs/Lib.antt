@@ -11,6 +11,7 @@ pub mod Pushed
 pub mod SoFar
 pub mod Sounds
 pub mod Uses
+pub mod Whole
 pub mod Widths
 pub mod Within
 pub mod Written
