@@ -1,5 +1,5 @@
 -- The instances below an instance, and those that an instance uses.
-use Rattle.std.proofs.Common.{◌≡◌, ℕ, zero, suc, ◌+◌, ◌<◌, ◌≤◌, List, [], ◌∷◌, ◌++◌, length, map, Some, slice_get, refl, sym, ap, subst, ◌∙◌, arith, length-append}
+use Rattle.std.proofs.Common.{◌≡◌, ℕ, ◌+◌, ◌<◌, List, [], ◌∷◌, ◌++◌, length, map, Some, slice_get, refl, sym, ap, subst, ◌∙◌, arith, length-append}
 use Rattle.std.specs.Prelude.{flat_map, slice_index, sum_by}
 use Rattle.std.specs.List.{AllByRecursion}
 use Rattle.std.proofs.lemmas.Grind.{flat_map-append}
@@ -7,8 +7,6 @@ use Rattle.std.proofs.lemmas.List.{append-nil, append_assoc}
 use Rattle.std.proofs.lemmas.List.Sums.{sum_by-cons}
 use Rattle.chw_base.specs.declared.index.ModId.{ModId}
 use Rattle.chw_base.specs.declared.index.WireId.{WireId}
-use Rattle.chw_base.specs.declared.limits.TheConstants.{FLAT_WIRES}
-use Rattle.net_rules.specs.WellFormed.{WellFormed}
 use Rattle.netlist.specs.declared.net.Cell.{Cell}
 use Rattle.netlist.specs.declared.net.Cell.TheVariants.{Use}
 use Rattle.netlist.specs.declared.net.Module.{Module}
@@ -16,11 +14,11 @@ use Rattle.netlist.specs.declared.net.Net.{Net}
 use Rattle.net_flat.specs.Entering.{Enters}
 use Rattle.net_flat.specs.Flattened.{IsUse, widths_in, widths_of_use, wire_from, wires_before}
 use Rattle.net_flat.specs.Instances.{IsPlaced, top, used, uses_along}
-use Rattle.net_flat.specs.Sizes.{capped, size_in}
+use Rattle.net_flat.specs.Sizes.{size_in}
 use Rattle.net_flat.specs.declared.instances.Instance.{Instance}
 use Rattle.net_flat.proofs.Lists.{all_at, all_left, all_of_each, get_middle}
 use Rattle.net_flat.proofs.Uses.{uses_append}
-use Rattle.net_flat.proofs.Widths.{UsesBelow, uses_below}
+use Rattle.net_flat.proofs.Widths.{UsesBelow}
 use Rattle.net_flat.proofs.Within.{facts_of, stands_at, use_within, wires_of_uses}
 
 -- an instance is itself, or below one that another uses
@@ -94,7 +92,7 @@ pub tiles_append : (net : Net) (n : ℕ) (xs ys : List Instance) → Tiles net n
 tiles_append net n [] ys t u = let e : n + 0 ≡ n = omega arith in subst (λ (k : ℕ). Tiles net k ys) e u
 tiles_append net n (x ∷ xs) ys t u =
     let e : n + length (widths_at net x ++ flat_map (widths_at net) xs) ≡ (n + length (widths_at net x)) + length (flat_map (widths_at net) xs) =
-      omega (arith, length-append (widths_at net x) (flat_map (widths_at net) xs)) in
+    omega (arith, length-append (widths_at net x) (flat_map (widths_at net) xs)) in
     (t.0, tiles_append net (n + length (widths_at net x)) xs ys t.1 (subst (λ (k : ℕ). Tiles net k ys) e u))
 
 pub uses_tile : (net : Net) (sizes : List ℕ) (base next : ℕ) (cells : List Cell) → AllByRecursion (SizeExact net sizes) cells
@@ -132,7 +130,7 @@ uses_placed net sizes x m next before (Use k reads drives ∷ cells) p found e a
     let more = before_more net m before (Use k reads drives) in
     let size : slice_index sizes k.number ≡ length (widths_in net k.number) = h.0 in
     let rest = uses_placed net sizes x m (next + slice_index sizes k.number) (before ++ Use k reads drives ∷ []) cells p found
-      (e ∙ sym (append_assoc before (Use k reads drives ∷ []) cells)) (omega arith) h.1 in
+    (e ∙ sym (append_assoc before (Use k reads drives ∷ []) cells)) (omega arith) h.1 in
     (subst (λ (n : ℕ). IsPlaced net (record { «module» = k; base = n; reads = map (wire_from x.base) reads })) (sym at) first, rest)
 uses_placed net sizes x m next before (cell ∷ cells) p found e at h =
     let more = before_more net m before cell in
@@ -142,22 +140,23 @@ uses_placed net sizes x m next before (cell ∷ cells) p found e at h =
 pub use_item : (net : Net) (sizes : List ℕ) (x : Instance) (m : Module) (before : List Cell) (k : ModId) (reads drives : List WireId)
     → AllByRecursion (SizeExact net sizes) m.cells → IsUse m.cells before k reads drives
     → (n : ℕ) × (slice_get (uses_along sizes x.base (x.base + length m.widths) m.cells) n
-        ≡ Some (record { «module» = k; base = x.base + wires_before net m before; reads = map (wire_from x.base) reads }))
+    ≡ Some (record { «module» = k; base = x.base + wires_before net m before; reads = map (wire_from x.base) reads }))
 use_item net sizes x m before k reads drives h u =
     let exact = all_left (SizeExact net sizes) before (Use k reads drives ∷ u.after) (subst (λ (cs : List Cell). AllByRecursion (SizeExact net sizes) cs) u.stands h) in
     let sum = sum_exact net sizes before exact in
     let at : x.base + length m.widths + sum_by (size_in sizes) before ≡ x.base + wires_before net m before = omega arith in
     let split : uses_along sizes x.base (x.base + length m.widths) m.cells
-          ≡ uses_along sizes x.base (x.base + length m.widths) before
-            ++ uses_along sizes x.base (x.base + length m.widths + sum_by (size_in sizes) before) (Use k reads drives ∷ u.after) =
-      ap (λ (cs : List Cell). uses_along sizes x.base (x.base + length m.widths) cs) u.stands
-      ∙ uses_append sizes x.base (x.base + length m.widths) before (Use k reads drives ∷ u.after) in
+    ≡ uses_along sizes x.base (x.base + length m.widths) before
+    ++ uses_along sizes x.base (x.base + length m.widths + sum_by (size_in sizes) before) (Use k reads drives ∷ u.after) =
+    ap (λ (cs : List Cell). uses_along sizes x.base (x.base + length m.widths) cs) u.stands
+    ∙ uses_append sizes x.base (x.base + length m.widths) before (Use k reads drives ∷ u.after) in
     let middle = get_middle (uses_along sizes x.base (x.base + length m.widths) before)
-      (record { «module» = k; base = x.base + length m.widths + sum_by (size_in sizes) before; reads = map (wire_from x.base) reads })
-      (uses_along sizes x.base (x.base + length m.widths + sum_by (size_in sizes) before + slice_index sizes k.number) u.after) in
-    (length (uses_along sizes x.base (x.base + length m.widths) before),
+    (record { «module» = k; base = x.base + length m.widths + sum_by (size_in sizes) before; reads = map (wire_from x.base) reads })
+    (uses_along sizes x.base (x.base + length m.widths + sum_by (size_in sizes) before + slice_index sizes k.number) u.after) in (
+      length (uses_along sizes x.base (x.base + length m.widths) before),
       ap (λ (is : List Instance). slice_get is (length (uses_along sizes x.base (x.base + length m.widths) before))) split ∙ middle
-      ∙ ap (λ (n : ℕ). Some (record { «module» = k; base = n; reads = map (wire_from x.base) reads })) at)
+          ∙ ap (λ (n : ℕ). Some (record { «module» = k; base = n; reads = map (wire_from x.base) reads })) at,
+    )
 
 -- the instances that an instance uses are of earlier modules
 pub uses_inner : (n next : ℕ) (sizes : List ℕ) (base : ℕ) (cells : List Cell) (modules : ℕ) → AllByRecursion (UsesBelow n) cells → n < modules

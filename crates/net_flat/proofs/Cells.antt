@@ -1,8 +1,7 @@
 -- The cells of the instances are the flat cells.
-use Rattle.std.proofs.Common.{◌≡◌, ℕ, zero, suc, ◌+◌, ◌<◌, ◌≤◌, ◌⊎◌, inl, inr, List, [], ◌∷◌, ◌++◌, length, map, Some, None, slice_get, refl, sym, ap, subst, ◌∙◌, arith}
+use Rattle.std.proofs.Common.{◌≡◌, ℕ, zero, suc, ◌+◌, List, [], ◌∷◌, map, Some, None, slice_get, refl, sym, ap, subst, ◌∙◌}
 use Rattle.std.specs.Prelude.{Option, option_map}
 use Rattle.std.proofs.lemmas.Option.{slice_get-map}
-use Rattle.chw_base.specs.declared.index.ModId.{ModId}
 use Rattle.chw_base.specs.declared.index.WireId.{WireId}
 use Rattle.netlist.specs.declared.net.Cell.{Cell}
 use Rattle.netlist.specs.declared.net.Cell.TheVariants.{Copy}
@@ -60,11 +59,11 @@ pub record Placing (net : Net) (base i : ℕ) : Type 0 where
 
 pub placing : (net : Net) (base i : ℕ) → IsInstance net base i → Placing net base i
 placing net _ _ (flat.top i last) = record {
-    x = record { «module» = record { number = i }; base = 0; reads = [] };
-    placed = inst.top (record { number = i }) last;
-    base_is = refl;
-    module_is = refl;
-  }
+  x = record { «module» = record { number = i }; base = 0; reads = [] };
+  placed = inst.top (record { number = i }) last;
+  base_is = refl;
+  module_is = refl;
+}
 placing net _ _ (flat.used base i m before k reads drives p found u) =
     let at = placing net base i p in
     let there : slice_get net.modules at.x.module.number ≡ Some m = subst (λ (n : ℕ). slice_get net.modules n ≡ Some m) (sym at.module_is) found in
@@ -103,7 +102,7 @@ flat_at net _ (flat.input base i m before k reads drives p found u j r e) =
     let at = placing net base i p in
     let there : slice_get net.modules at.x.module.number ≡ Some m = subst (λ (n : ℕ). slice_get net.modules n ≡ Some m) (sym at.module_is) found in
     let item : slice_get (map (wire_from at.x.base) reads) j ≡ Some (wire_from at.x.base r) =
-      slice_get-map (wire_from at.x.base) reads j ∙ ap (λ (o : Option WireId). option_map (wire_from at.x.base) o) e in
+    slice_get-map (wire_from at.x.base) reads j ∙ ap (λ (o : Option WireId). option_map (wire_from at.x.base) o) e in
     let given : FlatAt net (Copy (record { number = at.x.base + wires_before net m before + j }) (wire_from at.x.base r)) = record {
       x = record { «module» = k; base = at.x.base + wires_before net m before; reads = map (wire_from at.x.base) reads };
       placed = inst.used at.x m before k reads drives at.placed there u;

@@ -1,13 +1,12 @@
 -- A table of drivers that is filled cell by cell.
-use Rattle.std.proofs.Common.{◌≡◌, ◌≢◌, ℕ, zero, suc, ◌+◌, ◌<◌, ◌≤◌, ◌⊎◌, inl, inr, List, [], ◌∷◌, ◌++◌, length, take, set, Some, None, slice_get, get_or, get_or-set_same, get_or-set_other, length-set, refl, sym, ap, subst, ◌∙◌, arith}
-use Rattle.std.specs.Prelude.{flat_map, slice_index_or, option_map}
+use Rattle.std.proofs.Common.{◌≡◌, ◌≢◌, ℕ, zero, suc, ◌+◌, ◌<◌, ◌≤◌, ◌⊎◌, inl, inr, List, [], ◌∷◌, ◌++◌, length, take, set, Some, None, slice_get, get_or-set_same, get_or-set_other, length-set, refl, sym, ap, subst, ◌∙◌, arith}
+use Rattle.std.specs.Prelude.{flat_map, slice_index_or}
 use Rattle.std.specs.List.{AllByRecursion}
 use Rattle.std.proofs.lemmas.Bool.{cases_eq}
 use Rattle.std.proofs.lemmas.Grind.{flat_map-append}
 use Rattle.std.proofs.lemmas.List.{append-nil, append_assoc, take_all}
-use Rattle.chw_base.specs.declared.index.ModId.{ModId}
 use Rattle.chw_base.specs.declared.index.WireId.{WireId}
-use Rattle.net_rules.specs.WellFormed.{DriversHold, WellFormed, wire_driven_at}
+use Rattle.net_rules.specs.WellFormed.{DriversHold, wire_driven_at}
 use Rattle.net_rules.specs.declared.well_formed.NetCode.TheVariants.{Driver as DriverCode}
 use Rattle.netlist.specs.Feeds.{target}
 use Rattle.netlist.specs.Wires.{driven}
@@ -15,9 +14,9 @@ use Rattle.netlist.specs.declared.net.Cell.{Cell}
 use Rattle.netlist.specs.declared.net.Cell.TheVariants.{Const, Copy, Join, Cut, Un, Bin, Mux, Reg, Ram, Use}
 use Rattle.netlist.specs.declared.net.Module.{Module}
 use Rattle.netlist.specs.declared.net.Net.{Net}
-use Rattle.net_flat.specs.Drivers.{CellDrives, Drives, IsTable, UseDrives, drivers_written, outputs_of, outputs_written}
+use Rattle.net_flat.specs.Drivers.{Drives, IsTable, drivers_written, outputs_written}
 use Rattle.net_flat.specs.Entering.{Enters}
-use Rattle.net_flat.specs.Flattened.{IsUse, NoUse, wire_from, wires_before}
+use Rattle.net_flat.specs.Flattened.{NoUse, wire_from, wires_before}
 use Rattle.net_flat.specs.declared.instances.Instance.{Instance}
 use Rattle.net_flat.specs.declared.tables.Driver.{Driver}
 use Rattle.net_flat.specs.declared.tables.Driver.TheVariants.{Output, Place}
@@ -43,7 +42,7 @@ filled_push net base m ws table v d filled drives l p u at = by (cases_eq u.numb
         (subst (λ (x : Driver). Drives net base m v.number x) (sym written) drives)
     by (inr ne) (inl h) =
         let kept : slice_index_or (set table v.number d) u.number (Place 0) ≡ slice_index_or table u.number (Place 0) =
-          get_or-set_other table v.number u.number d (Place 0) ne in
+        get_or-set_other table v.number u.number d (Place 0) ne in
         subst (λ (x : Driver). Drives net base m u.number x) (sym kept) (filled p u h)
     by (inr ne) (inr (zero, e, h)) = let same : v ≡ u = cc in absurd (ne (ap (λ w. w.number) (sym same)))
     by (inr ne) (inr (suc j, e, h)) = absurd (let n : None ≡ Some u = h in cc)
@@ -60,7 +59,7 @@ filled_outputs net base m ws table next (d ∷ ds) (o ∷ os) filled long within
     let first = filled_push net base m ws table d (Output (wire_from next o)) filled (each zero d o refl refl) within.0 in
     let size : length table ≡ length (set table d.number (Output (wire_from next o))) = sym (length-set table d.number (Output (wire_from next o))) in
     let rest = filled_outputs net base m (ws ++ d ∷ []) (set table d.number (Output (wire_from next o))) next ds os first (omega arith)
-      (subst (λ (n : ℕ). AllByRecursion (λ w. w.number < n) ds) size within.1) (λ j v x. each (suc j) v x) in
+    (subst (λ (n : ℕ). AllByRecursion (λ w. w.number < n) ds) size within.1) (λ j v x. each (suc j) v x) in
     subst (λ (xs : List WireId). Filled net base m xs (outputs_written next (set table d.number (Output (wire_from next o))) ds os)) (append_assoc ws (d ∷ []) ds) rest
 
 -- a cell that is no use drives one wire
@@ -128,7 +127,7 @@ filled_next net sizes x m table next place cell e filled here within at =
     let parts = flat_map-append driven (take place m.cells) (cell ∷ []) in
     let end : flat_map driven (cell ∷ []) ≡ driven cell = append-nil (driven cell) in
     let all : flat_map driven (take (place + 1) m.cells) ≡ flat_map driven (take place m.cells) ++ driven cell =
-      taken ∙ parts ∙ ap (λ (ws : List WireId). flat_map driven (take place m.cells) ++ ws) end in
+    taken ∙ parts ∙ ap (λ (ws : List WireId). flat_map driven (take place m.cells) ++ ws) end in
     subst (λ (ws : List WireId). Filled net x.base m ws (drivers_written net.modules next place cell table)) (sym all) one
 
 -- a wire by its number
@@ -142,9 +141,9 @@ pub table_filled : (net : Net) (sizes : List ℕ) (x : Instance) (m : Module) (t
     → length table ≡ length m.widths → length m.cells ≤ end → Filled net x.base m (flat_map driven (take end m.cells)) table
     → IsTable net x.base m table
 table_filled net sizes x m table end e size all filled = record {
-    size = size;
-    entries = entry;
-  }
+  size = size;
+  entries = entry;
+}
   where
     entry : (w : ℕ) → m.inputs ≤ w → w < length m.widths → Drives net x.base m w (slice_index_or table w (Place 0))
     entry w from to =

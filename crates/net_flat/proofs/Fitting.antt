@@ -1,6 +1,6 @@
 -- Cells of a module fit among the flat wires.
-use Rattle.std.proofs.Common.{◌≡◌, ℕ, zero, suc, ◌+◌, ◌<◌, ◌≤◌, List, [], ◌∷◌, length, map, Some, None, slice_get, get_or, refl, sym, ap, subst, ◌∙◌, arith}
-use Rattle.std.specs.Prelude.{Bool, slice_index, sum_by}
+use Rattle.std.proofs.Common.{◌≡◌, ℕ, ◌+◌, List, [], ◌∷◌, length, map, Some, slice_get, get_or, refl, sym, ap, ◌∙◌}
+use Rattle.std.specs.Prelude.{slice_index}
 use Rattle.std.specs.List.{AllByRecursion}
 use Rattle.std.proofs.lemmas.List.Sums.{sum_by-cons}
 use Rattle.std.proofs.lemmas.Option.{get_or_from_slice_get, slice_get-get_or, slice_get_within}
@@ -65,9 +65,10 @@ pub fits_moved : (domains : ℕ) (earlier : List Module) (widths all : List ℕ)
     → PartExists domains earlier c → WidthsAgree earlier widths c → HasFewWords c → FitsCell domains all (moved base c)
 fits_moved domains earlier widths all base (Const w bits) s n part h few = s w.number (length bits) h
 fits_moved domains earlier widths all base (Copy w a) s n part h few = (h.0, s w.number h.0 h.1, s a.number h.0 h.2)
-fits_moved domains earlier widths all base (Join w parts) s n part h few =
-    (wires_there widths all base parts s h.0,
-      s w.number (width_of_all widths parts) h.1 ∙ ap (λ (k : ℕ). Some k) (sym (joined_width widths all base parts s h.0)))
+fits_moved domains earlier widths all base (Join w parts) s n part h few = (
+  wires_there widths all base parts s h.0,
+  s w.number (width_of_all widths parts) h.1 ∙ ap (λ (k : ℕ). Some k) (sym (joined_width widths all base parts s h.0)),
+)
 fits_moved domains earlier widths all base (Cut w a high low) s n part h few =
     (h.0, s w.number _ h.1, (h.2.0, h.2.1, s a.number h.2.0 h.2.2))
 fits_moved domains earlier widths all base (Un w op a) s n part h few = fits1 widths all base op w a s h
@@ -76,7 +77,15 @@ fits_moved domains earlier widths all base (Mux w c a b) s n part h few =
     (s c.number 1 h.0, (h.1.0, s w.number h.1.0 h.1.1, s a.number h.1.0 h.1.2, s b.number h.1.0 h.1.3))
 fits_moved domains earlier widths all base (Reg w domain initial a) s n part h few =
     (part, s w.number (length initial) h.0, s a.number (length initial) h.1)
-fits_moved domains earlier widths all base (Ram w domain words inputs) s n part h few =
-    (part, (few.0, few.1, s inputs.read.number _ h.read, s inputs.enable.number 1 h.enable, s inputs.place.number _ h.place,
-        (h.width, s w.number h.width h.shown, s inputs.value.number h.width h.value, h.each_word)))
+fits_moved domains earlier widths all base (Ram w domain words inputs) s n part h few = (
+  part,
+  (
+    few.0,
+    few.1,
+    s inputs.read.number _ h.read,
+    s inputs.enable.number 1 h.enable,
+    s inputs.place.number _ h.place,
+    (h.width, s w.number h.width h.shown, s inputs.value.number h.width h.value, h.each_word),
+  ),
+)
 fits_moved domains earlier widths all base (Use k reads drives) s n part h few = absurd n

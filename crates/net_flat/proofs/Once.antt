@@ -1,15 +1,13 @@
 -- A wire of an instance has one flat cell.
-use Rattle.std.proofs.Common.{◌≡◌, ◌≢◌, ℕ, zero, suc, ◌+◌, ◌<◌, ◌≤◌, ◌⊎◌, inl, inr, List, [], ◌∷◌, ◌++◌, length, take, drop, Some, None, slice_get, get_or, refl, sym, ap, subst, ◌∙◌, arith, length-append}
+use Rattle.std.proofs.Common.{◌≡◌, ℕ, zero, suc, ◌+◌, ◌<◌, ◌≤◌, ◌⊎◌, inl, inr, List, [], ◌∷◌, ◌++◌, length, take, drop, Some, None, slice_get, refl, sym, ap, subst, ◌∙◌, arith, length-append}
 use Rattle.std.specs.Prelude.{Option, flat_map, slice_index_or, option_map}
-use Rattle.std.proofs.lemmas.Bool.{cases_lt, cases_order}
+use Rattle.std.proofs.lemmas.Bool.{cases_order}
 use Rattle.std.proofs.lemmas.Grind.{flat_map-append}
 use Rattle.std.proofs.lemmas.List.{append-nil, take-append-drop, take-take, take_at}
 use Rattle.std.proofs.lemmas.Option.{get_or_from_slice_get, slice_get_within}
-use Rattle.chw_base.specs.declared.index.ModId.{ModId}
 use Rattle.chw_base.specs.declared.index.WireId.{WireId}
 use Rattle.net_rules.specs.WellFormed.{DriversHold, NamesExist, NamesHold, WellFormed, wire_driven_at}
 use Rattle.net_rules.specs.declared.well_formed.NetCode.TheVariants.{Name, Driver as DriverCode}
-use Rattle.netlist.specs.Feeds.{target}
 use Rattle.netlist.specs.Sound.{IsWire}
 use Rattle.netlist.specs.Wires.{driven}
 use Rattle.netlist.specs.declared.net.Cell.{Cell}
@@ -17,7 +15,7 @@ use Rattle.netlist.specs.declared.net.Cell.TheVariants.{Copy, Use}
 use Rattle.netlist.specs.declared.net.Module.{Module}
 use Rattle.netlist.specs.declared.net.Net.{Net}
 use Rattle.net_flat.specs.Drivers.{outputs_of}
-use Rattle.net_flat.specs.Flattened.{IsUse, NoUse, moved, wire_from, wires_before}
+use Rattle.net_flat.specs.Flattened.{NoUse, moved, wire_from, wires_before}
 use Rattle.net_flat.specs.Instances.{IsOwn, cell, output}
 use Rattle.net_flat.proofs.Filled.{one_target}
 use Rattle.net_flat.proofs.Lists.{all_at, get_left, get_right, take_next}
@@ -62,10 +60,10 @@ driven_at net base m _ _ (cell place w c here own t) =
     }
 driven_at net base m _ _ (output before k reads drives u used found j w o d g) =
     let first : take (length before) m.cells ≡ before =
-      ap (λ (cs : List Cell). take (length before) cs) u.stands ∙ take_at before (Use k reads drives ∷ u.after) (length before) refl in
+    ap (λ (cs : List Cell). take (length before) cs) u.stands ∙ take_at before (Use k reads drives ∷ u.after) (length before) refl in
     let outputs = outputs_there net.modules k.number used found in
     let got : slice_index_or (outputs_of net.modules k.number) j (record { number = 0 }) ≡ o =
-      ap (λ (os : List WireId). slice_index_or os j (record { number = 0 })) outputs ∙ get_or_from_slice_get used.outputs j o (record { number = 0 }) g in
+    ap (λ (os : List WireId). slice_index_or os j (record { number = 0 })) outputs ∙ get_or_from_slice_get used.outputs j o (record { number = 0 }) g in
     record {
       place = length before;
       c = Use k reads drives;
@@ -75,7 +73,7 @@ driven_at net base m _ _ (output before k reads drives u used found j w o d g) =
       drives = d;
       number = refl;
       «is» = sym (ap (λ (cs : List Cell). Copy (wire_from base w) (wire_from (base + wires_before net m cs) (slice_index_or (outputs_of net.modules k.number) j (record { number = 0 })))) first
-        ∙ ap (λ (x : WireId). Copy (wire_from base w) (wire_from (base + wires_before net m before) x)) got);
+          ∙ ap (λ (x : WireId). Copy (wire_from base w) (wire_from (base + wires_before net m before) x)) got);
     }
 
 -- how many wires the cells before a place drive
@@ -111,7 +109,7 @@ driven_there (x ∷ cells) zero c j v e d =
 driven_there (x ∷ cells) (suc place) c j v e d =
     let rest = driven_there cells place c j v e d in
     let n : length (driven x ++ flat_map driven (take place cells)) + j ≡ length (driven x) + (wires_to cells place + j) =
-      omega (arith, length-append (driven x) (flat_map driven (take place cells))) in
+    omega (arith, length-append (driven x) (flat_map driven (take place cells))) in
     rw n (get_right (driven x) (flat_map driven cells) (wires_to cells place + j) ∙ rest)
 
 -- two places at one position are the same
@@ -132,9 +130,9 @@ own_once net base i m w a b wf found u v =
     let q = driven_at net base m w b v in
     let hold : DriversHold net i m = wf.rules i m found DriverCode in
     let first : wire_driven_at (flat_map driven m.cells) (wires_to m.cells p.place + p.j) ≡ Some w =
-      ap (λ (o : Option WireId). option_map (λ x. x.number) o) (driven_there m.cells p.place p.c p.j p.v p.here p.drives) ∙ ap (λ (n : ℕ). Some n) p.number in
+    ap (λ (o : Option WireId). option_map (λ x. x.number) o) (driven_there m.cells p.place p.c p.j p.v p.here p.drives) ∙ ap (λ (n : ℕ). Some n) p.number in
     let second : wire_driven_at (flat_map driven m.cells) (wires_to m.cells q.place + q.j) ≡ Some w =
-      ap (λ (o : Option WireId). option_map (λ x. x.number) o) (driven_there m.cells q.place q.c q.j q.v q.here q.drives) ∙ ap (λ (n : ℕ). Some n) q.number in
+    ap (λ (o : Option WireId). option_map (λ x. x.number) o) (driven_there m.cells q.place q.c q.j q.v q.here q.drives) ∙ ap (λ (n : ℕ). Some n) q.number in
     let at = hold.drivers.once (wires_to m.cells p.place + p.j) (wires_to m.cells q.place + q.j) w first second in
     let place : p.place ≡ q.place = same_place m.cells p.place q.place p.c q.c p.j q.j p.v q.v p.here q.here p.drives q.drives at in
     let there : slice_get m.cells p.place ≡ Some q.c = subst (λ (n : ℕ). slice_get m.cells n ≡ Some q.c) (sym place) q.here in
@@ -143,7 +141,7 @@ own_once net base i m w a b wf found u v =
     let to = ap (λ (n : ℕ). wires_to m.cells n) place in
     let j : p.j ≡ q.j = omega arith in
     let d : slice_get (driven p.c) p.j ≡ Some q.v =
-      subst (λ (x : Cell). slice_get (driven x) p.j ≡ Some q.v) (sym c) (subst (λ (n : ℕ). slice_get (driven q.c) n ≡ Some q.v) (sym j) q.drives) in
+    subst (λ (x : Cell). slice_get (driven x) p.j ≡ Some q.v) (sym c) (subst (λ (n : ℕ). slice_get (driven q.c) n ≡ Some q.v) (sym j) q.drives) in
     let wires : Some p.v ≡ Some q.v = sym p.drives ∙ d in
     let v : p.v ≡ q.v = cc in
     p.«is»
@@ -160,7 +158,7 @@ own_from net base i m w a wf found u =
     let p = driven_at net base m w a u in
     let hold : DriversHold net i m = wf.rules i m found DriverCode in
     let first : wire_driven_at (flat_map driven m.cells) (wires_to m.cells p.place + p.j) ≡ Some w =
-      ap (λ (o : Option WireId). option_map (λ x. x.number) o) (driven_there m.cells p.place p.c p.j p.v p.here p.drives) ∙ ap (λ (n : ℕ). Some n) p.number in
+    ap (λ (o : Option WireId). option_map (λ x. x.number) o) (driven_there m.cells p.place p.c p.j p.v p.here p.drives) ∙ ap (λ (n : ℕ). Some n) p.number in
     hold.drivers.free (wires_to m.cells p.place + p.j) w first
 
 pub own_to : (net : Net) (base i : ℕ) (m : Module) (w : ℕ) (a : Cell) → WellFormed net → slice_get net.modules i ≡ Some m

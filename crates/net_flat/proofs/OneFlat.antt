@@ -1,12 +1,11 @@
 -- A net has one flat net: lists of the same cells that drive wires in order are equal.
-use Rattle.std.proofs.Common.{◌≡◌, ◌≢◌, ℕ, zero, suc, ◌+◌, ◌≤◌, ◌<◌, List, [], ◌∷◌, Some, None, slice_get, refl, sym, ap, subst, ◌∙◌, arith}
-use Rattle.std.specs.Prelude.{◌↔◌}
+use Rattle.std.proofs.Common.{◌≡◌, ℕ, zero, suc, ◌+◌, List, [], ◌∷◌, Some, None, slice_get, refl, sym, ap, subst, ◌∙◌, arith}
 use Rattle.netlist.specs.Feeds.{target}
 use Rattle.netlist.specs.Sound.{DrivesFrom}
 use Rattle.netlist.specs.declared.net.Cell.{Cell}
 use Rattle.netlist.specs.declared.net.Flat.{Flat}
 use Rattle.netlist.specs.declared.net.Net.{Net}
-use Rattle.net_flat.specs.Flattened.{IsFlatCell, IsFlatOf, widths_in}
+use Rattle.net_flat.specs.Flattened.{IsFlatOf, widths_in}
 
 -- the cell is in the list
 abbrev pub IsIn : List Cell → Cell → Type 0
@@ -74,8 +73,8 @@ one_flat net a b u v =
     let modules : u.m ≡ v.m = cc in
     let drives : DrivesFrom u.m.inputs b.cells = subst (λ (n : ℕ). DrivesFrom n b.cells) (sym (ap (λ m. m.inputs) modules)) v.in_order in
     let cells : a.cells ≡ b.cells =
-      same_cells u.m.inputs a.cells b.cells u.in_order drives
-      (λ c i. (v.cells c).1 ((u.cells c).0 i)) (λ c i. (u.cells c).1 ((v.cells c).0 i)) in
+    same_cells u.m.inputs a.cells b.cells u.in_order drives
+    (λ c i. (v.cells c).1 ((u.cells c).0 i)) (λ c i. (u.cells c).1 ((v.cells c).0 i)) in
     let ports : a.ports ≡ b.ports = u.ports ∙ sym v.ports in
     let widths : a.widths ≡ b.widths = u.widths ∙ ap (λ (i : ℕ). widths_in net i) places ∙ sym v.widths in
     let outputs : a.outputs ≡ b.outputs = u.outputs ∙ ap (λ m. m.outputs) modules ∙ sym v.outputs in

@@ -1,5 +1,5 @@
 -- Instances of a net, and the flat cells that are pushed for them.
-use Rattle.std.proofs.Common.{◌≡◌, ℕ, zero, suc, ◌+◌, ◌<◌, ◌≤◌, ◌⊎◌, inl, inr, List, [], ◌∷◌, ◌++◌, length, map, Some, None, slice_get, get_or, refl, sym, ap, subst, ◌∙◌, arith}
+use Rattle.std.proofs.Common.{◌≡◌, ℕ, ◌+◌, ◌<◌, ◌≤◌, List, length, map, Some, slice_get, get_or, sym, ap, subst, ◌∙◌, arith}
 use Rattle.std.specs.Prelude.{slice_index_or}
 use Rattle.std.proofs.lemmas.List.{length-map}
 use Rattle.std.proofs.lemmas.Option.{slice_get_within}
@@ -58,7 +58,7 @@ few_reads net _ m wf (used x n before k reads drives p there u) found =
     let at = use_of net x.module.number n before k reads drives wf there u in
     let here = slice_get_within net.modules x.module.number n there in
     let is = placed_reads net (record { «module» = k; base = x.base + wires_before net n before; reads = map (wire_from x.base) reads }) m wf
-      (used x n before k reads drives p there u) found (omega (arith, at.earlier)) in
+    (used x n before k reads drives p there u) found (omega (arith, at.earlier)) in
     let hold : DriversHold net k.number m = wf.rules k.number m found DriverCode in
     omega (arith, hold.inputs)
 
@@ -73,20 +73,20 @@ own_of net base m w (Place place) c r h =
 own_of net base m w (Output o) c u h =
     let given = output u.before u.k u.reads u.drives u.stands u.used u.found u.j u.wire u.inner u.driven u.given in
     let at : IsOwn net base m w (Copy (record { number = base + w }) (wire_from (base + wires_before net m u.before) u.inner)) =
-      subst (λ (n : ℕ). IsOwn net base m n (Copy (record { number = base + n }) (wire_from (base + wires_before net m u.before) u.inner))) u.same given in
+    subst (λ (n : ℕ). IsOwn net base m n (Copy (record { number = base + n }) (wire_from (base + wires_before net m u.before) u.inner))) u.same given in
     let is : Copy (record { number = base + w }) (wire_from (base + wires_before net m u.before) u.inner) ≡ c =
-      ap (λ (v : WireId). Copy (record { number = base + w }) v) (sym u.«is») ∙ sym h in
+    ap (λ (v : WireId). Copy (record { number = base + w }) v) (sym u.«is») ∙ sym h in
     subst (λ (x : Cell). IsOwn net base m w x) is at
 
 pub are_own : (net : Net) (base : ℕ) (m : Module) (table : List Driver) (before after : List Cell) → IsTable net base m table
     → (p : ArePushed base m table (length m.widths) before after) → AreOwn net base m p.own
 are_own net base m table before after t p = record {
-    all = p.all;
-    each = λ j c s.
+  all = p.all;
+  each = λ j c s.
       let l = slice_get_within p.own j c s in
       let d = t.entries (m.inputs + j) (omega arith) (omega (arith, p.all)) in
       own_of net base m (m.inputs + j) (slice_index_or table (m.inputs + j) (Place 0)) c d (p.each j c s);
-  }
+}
 
 drives_stands : (net : Net) (base : ℕ) (m : Module) (w : ℕ) (d : Driver) → Drives net base m w d → StandsIn m.cells d
 drives_stands net base m w (Place place) r = slice_get_within m.cells place r.cell r.stands

@@ -1,5 +1,5 @@
 -- What is so far of a flat net, and that it goes on with each instance that is entered.
-use Rattle.std.proofs.Common.{◌≡◌, ◌≢◌, ℕ, zero, suc, ◌+◌, ◌-◌, ◌<◌, ◌≤◌, ◌⊎◌, inl, inr, List, [], ◌∷◌, ◌++◌, length, map, Some, None, slice_get, get_or, refl, sym, ap, subst, ◌∙◌, arith, length-append}
+use Rattle.std.proofs.Common.{◌≡◌, ℕ, zero, suc, ◌+◌, ◌-◌, ◌<◌, ◌⊎◌, inl, inr, List, [], ◌∷◌, ◌++◌, length, map, Some, None, slice_get, get_or, refl, sym, ap, subst, ◌∙◌, arith, length-append}
 use Rattle.std.specs.Prelude.{flat_map}
 use Rattle.std.specs.List.{AllByRecursion}
 use Rattle.std.proofs.lemmas.Grind.{flat_map-append}
@@ -109,7 +109,7 @@ pushed_sound net sizes x m own c e a i = by (get_either (input_copies x.base x.r
 entered_waits : (net : Net) (sizes : List ℕ) (x z : Instance) (m : Module) (own cells : List Cell) (rest : List Instance) → Enters net sizes x m
     → AreOwn net x.base m own → IsBelow net x z
     → HasAll net (cells ++ (input_copies x.base x.reads ++ own)) z
-      ⊎ Waits net (uses_along sizes x.base (x.base + length m.widths) m.cells ++ rest) z
+    ⊎ Waits net (uses_along sizes x.base (x.base + length m.widths) m.cells ++ rest) z
 entered_waits net sizes _ _ m own cells rest e a (itself y) =
     inl (λ c at. in_right cells (input_copies y.base y.reads ++ own) c (pushed_has net sizes y m own e a c at))
 entered_waits net sizes _ _ m own cells rest e a (below y n before k reads drives z found u b) =
@@ -118,8 +118,12 @@ entered_waits net sizes _ _ m own cells rest e a (below y n before k reads drive
     let v : IsUse m.cells before k reads drives = subst (λ (o : Module). IsUse o.cells before k reads drives) same u in
     let i = use_item net sizes y m before k reads drives (exact_sizes net sizes y m e) v in
     let b' = subst (λ (o : Module). IsBelow net (record { «module» = k; base = y.base + wires_before net o before; reads = map (wire_from y.base) reads }) z) same b in
-    inr (record { «module» = k; base = y.base + wires_before net m before; reads = map (wire_from y.base) reads }, i.0,
-      get_left (uses_along sizes y.base (y.base + length m.widths) m.cells) rest i.0 _ i.1, b')
+    inr (
+      record { «module» = k; base = y.base + wires_before net m before; reads = map (wire_from y.base) reads },
+      i.0,
+      get_left (uses_along sizes y.base (y.base + length m.widths) m.cells) rest i.0 _ i.1,
+      b',
+    )
 
 joined_next : (net : Net) (sizes : List ℕ) (last : ℕ) (widths : List ℕ) (x : Instance) (rest : List Instance) (m : Module)
     → widths ++ flat_map (widths_at net) (x ∷ rest) ≡ widths_in net last → Enters net sizes x m
@@ -128,7 +132,7 @@ joined_next net sizes last widths x rest m joined e =
     let wires = uses_widths net sizes x.base (x.base + length m.widths) m.cells in
     let parts = flat_map-append (widths_at net) (uses_along sizes x.base (x.base + length m.widths) m.cells) rest in
     let all : flat_map (widths_at net) (uses_along sizes x.base (x.base + length m.widths) m.cells ++ rest) ≡ wires_of_uses net m.cells ++ flat_map (widths_at net) rest =
-      parts ∙ ap (λ (ws : List ℕ). ws ++ flat_map (widths_at net) rest) wires in
+    parts ∙ ap (λ (ws : List ℕ). ws ++ flat_map (widths_at net) rest) wires in
     let step = widths_step net x.module.number m e.sized.well_formed e.found in
     ap (λ (ws : List ℕ). (widths ++ m.widths) ++ ws) all
     ∙ append_assoc widths m.widths (wires_of_uses net m.cells ++ flat_map (widths_at net) rest)
@@ -140,7 +144,7 @@ joined_next net sizes last widths x rest m joined e =
 pub progress_next : (net : Net) (sizes : List ℕ) (last : ℕ) (widths : List ℕ) (cells : List Cell) (x : Instance) (rest : List Instance) (m : Module) (own : List Cell)
     → Progress net last widths cells (x ∷ rest) → Enters net sizes x m → AreOwn net x.base m own
     → Progress net last (widths ++ m.widths) (cells ++ (input_copies x.base x.reads ++ own))
-      (uses_along sizes x.base (x.base + length m.widths) m.cells ++ rest)
+    (uses_along sizes x.base (x.base + length m.widths) m.cells ++ rest)
 progress_next net sizes last widths cells x rest m own p e a =
     let exact = exact_sizes net sizes x m e in
     let f = facts_of net sizes x m e in
@@ -148,15 +152,15 @@ progress_next net sizes last widths cells x rest m own p e a =
     let at : x.base + length m.widths ≡ length (widths ++ m.widths) = omega (arith, length-append widths m.widths) in
     let wires = uses_widths net sizes x.base (x.base + length m.widths) m.cells in
     let end : length widths + length (widths_in net x.module.number)
-          ≡ length (widths ++ m.widths) + length (flat_map (widths_at net) (uses_along sizes x.base (x.base + length m.widths) m.cells)) =
-      omega (arith, length-append widths m.widths, f.long, ap length wires) in
+    ≡ length (widths ++ m.widths) + length (flat_map (widths_at net) (uses_along sizes x.base (x.base + length m.widths) m.cells)) =
+    omega (arith, length-append widths m.widths, f.long, ap length wires) in
     record {
       placed = all_append (IsPlaced net) (uses_along sizes x.base (x.base + length m.widths) m.cells) rest
-        (uses_placed net sizes x m (x.base + length m.widths) [] m.cells e.placed e.found refl (omega arith) exact) p.placed.1;
+          (uses_placed net sizes x m (x.base + length m.widths) [] m.cells e.placed e.found refl (omega arith) exact) p.placed.1;
       tiles = tiles_append net (length (widths ++ m.widths)) (uses_along sizes x.base (x.base + length m.widths) m.cells) rest
-        (subst (λ (n : ℕ). Tiles net n (uses_along sizes x.base (x.base + length m.widths) m.cells)) at
+          (subst (λ (n : ℕ). Tiles net n (uses_along sizes x.base (x.base + length m.widths) m.cells)) at
           (uses_tile net sizes x.base (x.base + length m.widths) m.cells exact))
-        (subst (λ (n : ℕ). Tiles net n rest) end p.tiles.1);
+          (subst (λ (n : ℕ). Tiles net n rest) end p.tiles.1);
       joined = joined_next net sizes last widths x rest m p.joined e;
       sound = λ c i. by_cell c i (get_either cells (input_copies x.base x.reads ++ own) i.0 c i.1);
       complete = λ z q. by_instance z (p.complete z q);
@@ -174,19 +178,23 @@ progress_next net sizes last widths cells x rest m own p e a =
         let same : x ≡ y = cc in
         entered_waits net sizes x z m own cells rest e a (subst (λ (i : Instance). IsBelow net i z) (sym same) b)
     by_instance z (inr (y, suc n, at, b)) =
-        inr (y, length (uses_along sizes x.base (x.base + length m.widths) m.cells) + n,
-          get_right (uses_along sizes x.base (x.base + length m.widths) m.cells) rest n ∙ at, b)
+        inr (
+          y,
+          length (uses_along sizes x.base (x.base + length m.widths) m.cells) + n,
+          get_right (uses_along sizes x.base (x.base + length m.widths) m.cells) rest n ∙ at,
+          b,
+        )
 
 -- at first the top waits
 pub progress_first : (net : Net) (t : ModId) → t.number + 1 ≡ length net.modules
     → Progress net t.number [] [] (record { «module» = t; base = 0; reads = [] } ∷ [])
 progress_first net t end = record {
-    placed = (top t end, tt);
-    tiles = (refl, tt);
-    joined = append-nil (widths_in net t.number);
-    sound = λ c i. absurd (let n : None ≡ Some c = i.1 in cc);
-    complete = λ x p. inr (record { «module» = t; base = 0; reads = [] }, zero, refl, below_top net t x end p);
-  }
+  placed = (top t end, tt);
+  tiles = (refl, tt);
+  joined = append-nil (widths_in net t.number);
+  sound = λ c i. absurd (let n : None ≡ Some c = i.1 in cc);
+  complete = λ x p. inr (record { «module» = t; base = 0; reads = [] }, zero, refl, below_top net t x end p);
+}
 
 -- cells that drive wires in order
 drives_append : (w : ℕ) (xs ys : List Cell) → DrivesFrom w xs → DrivesFrom (w + length xs) ys → DrivesFrom w (xs ++ ys)
@@ -198,9 +206,10 @@ drives_append w (x ∷ xs) ys d e =
 drives_each : (w : ℕ) (xs : List Cell) → ((j : ℕ) (c : Cell) → slice_get xs j ≡ Some c → target c ≡ Some (w + j)) → DrivesFrom w xs
 drives_each w [] each = tt
 drives_each w (x ∷ xs) each =
-    let n : w + 0 ≡ w = omega arith in
-    (each zero x refl ∙ ap (λ (k : ℕ). Some k) n,
-      drives_each (w + 1) xs (λ j c e. let k : w + suc j ≡ (w + 1) + j = omega arith in each (suc j) c e ∙ ap (λ (i : ℕ). Some i) k))
+    let n : w + 0 ≡ w = omega arith in (
+      each zero x refl ∙ ap (λ (k : ℕ). Some k) n,
+      drives_each (w + 1) xs (λ j c e. let k : w + suc j ≡ (w + 1) + j = omega arith in each (suc j) c e ∙ ap (λ (i : ℕ). Some i) k),
+    )
 
 copies_drive : (w : ℕ) (reads : List WireId) → DrivesFrom w (input_copies w reads)
 copies_drive w [] = tt
@@ -246,28 +255,34 @@ uses_are_inner net sizes x m e =
 pub driving_next : (net : Net) (sizes : List ℕ) (inputs : ℕ) (widths : List ℕ) (cells : List Cell) (x : Instance) (rest : List Instance) (m : Module) (own : List Cell)
     → Driving net inputs widths cells (x ∷ rest) → x.base ≡ length widths → Enters net sizes x m → AreOwn net x.base m own
     → Driving net inputs (widths ++ m.widths) (cells ++ (input_copies x.base x.reads ++ own))
-      (uses_along sizes x.base (x.base + length m.widths) m.cells ++ rest)
+    (uses_along sizes x.base (x.base + length m.widths) m.cells ++ rest)
 driving_next net sizes inputs widths cells x rest m own d at e a =
     let reads = placed_reads net x m e.sized.well_formed e.placed e.found d.inner.0 in
     let copies = long_copies x.base x.reads in
     let k : x.base + m.inputs ≡ x.base + length (input_copies x.base x.reads) = omega arith in
     let n : x.base ≡ inputs + length cells = omega (arith, d.count) in
     let mine = drives_append x.base (input_copies x.base x.reads) own (copies_drive x.base x.reads)
-      (subst (λ (i : ℕ). DrivesFrom i own) k (own_drive net x.base m own a)) in
+    (subst (λ (i : ℕ). DrivesFrom i own) k (own_drive net x.base m own a)) in
     let pushed : DrivesFrom (inputs + length cells) (input_copies x.base x.reads ++ own) =
-      subst (λ (i : ℕ). DrivesFrom i (input_copies x.base x.reads ++ own)) n mine in
+    subst (λ (i : ℕ). DrivesFrom i (input_copies x.base x.reads ++ own)) n mine in
     record {
       order = drives_append inputs cells (input_copies x.base x.reads ++ own) d.order pushed;
-      count = omega (arith, d.count, a.all, length-append cells (input_copies x.base x.reads ++ own), length-append (input_copies x.base x.reads) own,
-        length-append widths m.widths);
+      count = omega (
+        arith,
+        d.count,
+        a.all,
+        length-append cells (input_copies x.base x.reads ++ own),
+        length-append (input_copies x.base x.reads) own,
+        length-append widths m.widths,
+      );
       inner = all_append (λ y. y.module.number + 1 < length net.modules) (uses_along sizes x.base (x.base + length m.widths) m.cells) rest
-        (uses_are_inner net sizes x m e) d.inner.1;
+          (uses_are_inner net sizes x m e) d.inner.1;
     }
 
 -- the top's cells, before any other
 pub driving_first : (net : Net) (sizes : List ℕ) (x : Instance) (m : Module) (own : List Cell) → x.base ≡ 0 → x.reads ≡ [] → Enters net sizes x m → AreOwn net x.base m own
     → Driving net m.inputs ([] ++ m.widths) ([] ++ (input_copies x.base x.reads ++ own))
-      (uses_along sizes x.base (x.base + length m.widths) m.cells ++ [])
+    (uses_along sizes x.base (x.base + length m.widths) m.cells ++ [])
 driving_first net sizes x m own at none e a =
     let copies : input_copies x.base x.reads ≡ [] = ap (λ (rs : List WireId). input_copies x.base rs) none in
     let n : x.base + m.inputs ≡ m.inputs = omega arith in
@@ -277,5 +292,5 @@ driving_first net sizes x m own at none e a =
       order = subst (λ (cs : List Cell). DrivesFrom m.inputs (cs ++ own)) (sym copies) drive;
       count = omega (arith, a.all, length-append (input_copies x.base x.reads) own);
       inner = all_append (λ y. y.module.number + 1 < length net.modules) (uses_along sizes x.base (x.base + length m.widths) m.cells) []
-        (uses_are_inner net sizes x m e) tt;
+          (uses_are_inner net sizes x m e) tt;
     }

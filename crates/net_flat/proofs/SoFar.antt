@@ -1,9 +1,8 @@
 -- The wires, cells and waiting instances of a flat net that is being made.
-use Rattle.std.proofs.Common.{◌≡◌, ℕ, zero, suc, ◌+◌, ◌<◌, ◌≤◌, ◌⊎◌, inl, inr, List, [], ◌∷◌, ◌++◌, length, reverse, Some, None, slice_get, get_or, refl, sym, ap, subst, ◌∙◌, arith, length-append}
+use Rattle.std.proofs.Common.{◌≡◌, ℕ, ◌+◌, ◌<◌, ◌≤◌, ◌⊎◌, inl, inr, List, [], ◌∷◌, ◌++◌, length, reverse, Some, None, slice_get, get_or, refl, sym, ap, subst, ◌∙◌, arith, length-append}
 use Rattle.std.specs.Prelude.{flat_map}
 use Rattle.std.proofs.lemmas.List.{append-nil, reverse-append, reverse-reverse}
-use Rattle.std.proofs.lemmas.Option.{slice_get_cases, slice_get_within}
-use Rattle.chw_base.specs.declared.index.ModId.{ModId}
+use Rattle.std.proofs.lemmas.Option.{slice_get_cases}
 use Rattle.chw_base.specs.declared.index.WireId.{WireId}
 use Rattle.chw_base.specs.declared.limits.TheConstants.{FLAT_WIRES, MODULES}
 use Rattle.net_rules.specs.WellFormed.{DriversHold, LimitsHold, NamesHold, WellFormed}
@@ -13,14 +12,13 @@ use Rattle.netlist.specs.declared.net.Cell.{Cell}
 use Rattle.netlist.specs.declared.net.Module.{Module}
 use Rattle.netlist.specs.declared.net.Net.{Net}
 use Rattle.net_flat.specs.Entering.{Entered, FitsWhole, IsWhole}
-use Rattle.net_flat.specs.Flattened.{IsFlatCell, IsTop, widths_in}
+use Rattle.net_flat.specs.Flattened.{IsTop, widths_in}
 use Rattle.net_flat.specs.Instances.{input_copies, uses_along}
 use Rattle.net_flat.specs.declared.instances.Instance.{Instance}
 use Rattle.net_flat.specs.declared.parts.Parts.{Parts}
 use Rattle.net_flat.proofs.Below.{widths_at}
 use Rattle.net_flat.proofs.Cells.{flat_at}
 use Rattle.net_flat.proofs.Lists.{all_at}
-use Rattle.net_flat.proofs.OneFlat.{IsIn}
 use Rattle.net_flat.proofs.Progress.{Driving, HasAll, Progress, Waits, driving_first, driving_next, progress_first, progress_next}
 
 -- what is so far, with the waiting instances from the next one on
@@ -36,16 +34,16 @@ by_lists : (net : Net) (last : ℕ) (m : Module) (parts : Parts) (widths : List 
     → parts.widths.items ≡ widths → parts.cells.items ≡ cells → reverse parts.waiting.items ≡ todo → Progress net last widths cells todo
     → Driving net m.inputs widths cells todo → SoFar net parts
 by_lists net last m parts widths cells todo t ew ec et p d = record {
-    last = last;
-    m = m;
-    is_top = t;
-    progress = subst (λ (ws : List ℕ). Progress net last ws parts.cells.items (reverse parts.waiting.items)) (sym ew)
+  last = last;
+  m = m;
+  is_top = t;
+  progress = subst (λ (ws : List ℕ). Progress net last ws parts.cells.items (reverse parts.waiting.items)) (sym ew)
       (subst (λ (cs : List Cell). Progress net last widths cs (reverse parts.waiting.items)) (sym ec)
-        (subst (λ (is : List Instance). Progress net last widths cells is) (sym et) p));
-    driving = subst (λ (ws : List ℕ). Driving net m.inputs ws parts.cells.items (reverse parts.waiting.items)) (sym ew)
+      (subst (λ (is : List Instance). Progress net last widths cells is) (sym et) p));
+  driving = subst (λ (ws : List ℕ). Driving net m.inputs ws parts.cells.items (reverse parts.waiting.items)) (sym ew)
       (subst (λ (cs : List Cell). Driving net m.inputs widths cs (reverse parts.waiting.items)) (sym ec)
-        (subst (λ (is : List Instance). Driving net m.inputs widths cells is) (sym et) d));
-  }
+      (subst (λ (is : List Instance). Driving net m.inputs widths cells is) (sym et) d));
+}
 
 -- the instances that wait once those that an instance uses are pushed
 turned : (waiting before uses : List Instance) → waiting ≡ before ++ reverse uses → reverse waiting ≡ uses ++ reverse before
@@ -71,7 +69,7 @@ so_far_first net sizes x before after last at none bw bc bi e =
     (e.widths ∙ ap (λ (ws : List ℕ). ws ++ e.m.widths) bw)
     (e.cells ∙ ap (λ (cs : List Cell). cs ++ (input_copies x.base x.reads ++ e.own)) bc)
     (turned after.waiting.items before.waiting.items (uses_along sizes x.base (x.base + length e.m.widths) e.m.cells) e.waiting
-      ∙ ap (λ (is : List Instance). uses_along sizes x.base (x.base + length e.m.widths) e.m.cells ++ reverse is) bi)
+    ∙ ap (λ (is : List Instance). uses_along sizes x.base (x.base + length e.m.widths) e.m.cells ++ reverse is) bi)
     p d
 
 -- the next instance, with those behind it
@@ -149,7 +147,7 @@ wires_within net parts s fits =
 pub whole : (net : Net) (parts : Parts) → SoFar net parts → parts.waiting.items ≡ [] → IsWhole net parts
 whole net parts s e =
     let p : Progress net s.last parts.widths.items parts.cells.items [] =
-      subst (λ (is : List Instance). Progress net s.last parts.widths.items parts.cells.items (reverse is)) e s.progress in
+    subst (λ (is : List Instance). Progress net s.last parts.widths.items parts.cells.items (reverse is)) e s.progress in
     record {
       place = s.last;
       m = s.m;

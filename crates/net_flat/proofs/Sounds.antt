@@ -1,6 +1,6 @@
 -- The flat net of a well formed net is sound.
-use Rattle.std.proofs.Common.{◌≡◌, ℕ, zero, suc, ◌+◌, ◌<◌, ◌≤◌, List, [], ◌∷◌, ◌++◌, length, map, reverse, take, Some, None, slice_get, get_or, refl, sym, ap, subst, ◌∙◌, cond, eqb, arith, length-append}
-use Rattle.std.specs.Prelude.{flat_map, option_map, IfSome}
+use Rattle.std.proofs.Common.{◌≡◌, ℕ, zero, suc, ◌+◌, ◌<◌, ◌≤◌, List, [], ◌∷◌, ◌++◌, length, map, reverse, take, Some, slice_get, get_or, refl, sym, ap, subst, ◌∙◌, eqb, arith, length-append}
+use Rattle.std.specs.Prelude.{flat_map, IfSome}
 use Rattle.std.specs.List.{AllByRecursion}
 use Rattle.std.proofs.lemmas.Bool.{cond_both}
 use Rattle.std.proofs.lemmas.List.{append-nil, append_assoc, reverse-append}
@@ -9,11 +9,11 @@ use Rattle.chw_base.specs.declared.index.ModId.{ModId}
 use Rattle.chw_base.specs.declared.index.WireId.{WireId}
 use Rattle.chw_base.specs.declared.limits.TheConstants.{FLAT_WIRES}
 use Rattle.chw_clock.specs.declared.event.Port.{Port}
-use Rattle.net_rules.specs.WellFormed.{AgreesUse, DriversHold, HasFewWords, LimitsHold, NamesExist, NamesHold, PartExists, Together, TopNamesHold, TopWidthsHold, UseExists, WellFormed, WidthsAgree, WidthsHold}
+use Rattle.net_rules.specs.WellFormed.{AgreesUse, DriversHold, HasFewWords, LimitsHold, NamesExist, NamesHold, Together, TopNamesHold, TopWidthsHold, UseExists, WellFormed, WidthsAgree, WidthsHold}
 use Rattle.net_rules.specs.declared.well_formed.NetCode.TheVariants.{Name, Width, Limit, Driver as DriverCode}
 use Rattle.netlist.specs.Sound.{DrivesFrom, FitsCell, HasWidth, IsWire, IsWireWidth, Sound}
 use Rattle.netlist.specs.declared.net.Cell.{Cell}
-use Rattle.netlist.specs.declared.net.Cell.TheVariants.{Copy, Use}
+use Rattle.netlist.specs.declared.net.Cell.TheVariants.{Use}
 use Rattle.netlist.specs.declared.net.Flat.{Flat}
 use Rattle.netlist.specs.declared.net.Module.{Module}
 use Rattle.netlist.specs.declared.net.Net.{Net}
@@ -35,11 +35,11 @@ record Window (all : List ℕ) (base : ℕ) (part : List ℕ) : Type 0 where
 inner_window : (all : List ℕ) (base : ℕ) (part first rest last : List ℕ) (n : ℕ) → Window all base part → part ≡ first ++ (rest ++ last) → length first ≡ n
     → Window all (base + n) rest
 inner_window all base part first rest last n w e l = record {
-    before = w.before ++ first;
-    after = last ++ w.after;
-    «is» = w.«is» ∙ ap (λ (p : List ℕ). w.before ++ (p ++ w.after)) e ∙ regroup w.before first rest last w.after;
-    at = length-append w.before first ∙ omega (arith, w.at);
-  }
+  before = w.before ++ first;
+  after = last ++ w.after;
+  «is» = w.«is» ∙ ap (λ (p : List ℕ). w.before ++ (p ++ w.after)) e ∙ regroup w.before first rest last w.after;
+  at = length-append w.before first ∙ omega (arith, w.at);
+}
   where
     regroup : (a b c d e : List ℕ) → a ++ ((b ++ (c ++ d)) ++ e) ≡ (a ++ b) ++ (c ++ (d ++ e))
     regroup a b c d e = simp append_assoc
@@ -89,7 +89,7 @@ agreeing net i m before k reads drives wf found u =
     let exist = all_at (NamesExist (length net.ports.domains) (take i net.modules) m.widths) m.cells (length before) (Use k reads drives) names.cells here in
     let part : UseExists (take i net.modules) k.number reads drives = exist.part in
     let agree : IfSome (slice_get (take i net.modules) k.number) (λ used. AgreesUse m.widths used reads drives) =
-      all_at (WidthsAgree (take i net.modules) m.widths) m.cells (length before) (Use k reads drives) widths.cells here in
+    all_at (WidthsAgree (take i net.modules) m.widths) m.cells (length before) (Use k reads drives) widths.cells here in
     record {
       used = part.used;
       found = get_taken i net.modules k.number part.used part.found;
@@ -117,20 +117,22 @@ flat_fits net last _ wf end (flat.input base i m before k reads drives p found u
     let hold : DriversHold net k.number a.used = wf.rules k.number a.used a.found DriverCode in
     let l : j < length a.used.widths = omega (arith, slice_get_within reads j r e, a.long, hold.inputs) in
     let at = slice_get-get_or a.used.widths j 0 l in
-    let read = a.agrees.inputs j r (get_or a.used.widths j 0) e at in
-    (get_or a.used.widths j 0,
+    let read = a.agrees.inputs j r (get_or a.used.widths j 0) e at in (
+      get_or a.used.widths j 0,
       shows_of net last (base + wires_before net m before) k.number a.used wf end (flat.used base i m before k reads drives p found u) a.found j (get_or a.used.widths j 0) at,
-      shows_of net last base i m wf end p found r.number (get_or a.used.widths j 0) read)
+      shows_of net last base i m wf end p found r.number (get_or a.used.widths j 0) read,
+    )
 flat_fits net last _ wf end (flat.output base i m before k reads drives p found u used there j w o d g) =
     let a = agreeing net i m before k reads drives wf found u in
     let same : a.used ≡ used = same_module net k.number a.used used a.found there in
     let agrees : AgreesUse m.widths used reads drives = subst (λ (x : Module). AgreesUse m.widths x reads drives) same a.agrees in
     let l : w.number < length m.widths = all_at (IsWire m.widths) drives j w a.wires d in
     let at = slice_get-get_or m.widths w.number 0 l in
-    let given = sym (agrees.outputs j w o d g) ∙ at in
-    (get_or m.widths w.number 0,
+    let given = sym (agrees.outputs j w o d g) ∙ at in (
+      get_or m.widths w.number 0,
       shows_of net last base i m wf end p found w.number (get_or m.widths w.number 0) at,
-      shows_of net last (base + wires_before net m before) k.number used wf end (flat.used base i m before k reads drives p found u) there o.number (get_or m.widths w.number 0) given)
+      shows_of net last (base + wires_before net m before) k.number used wf end (flat.used base i m before k reads drives p found u) there o.number (get_or m.widths w.number 0) given,
+    )
 
 -- each flat wire has a width that a wire may have
 used_widths_hold : (f : ℕ → List ℕ) (cells : List Cell) → ((k : ℕ) → AllByRecursion IsWireWidth (f k))
@@ -145,7 +147,7 @@ unfolding instance_widths
 widths_hold_among [] k h = tt
 widths_hold_among (m ∷ earlier) k h =
     let here = all_append IsWireWidth m.widths (flat_map (widths_of_use (instance_widths earlier)) m.cells) h.0
-      (used_widths_hold (instance_widths earlier) m.cells (λ j. widths_hold_among earlier j h.1)) in
+    (used_widths_hold (instance_widths earlier) m.cells (λ j. widths_hold_among earlier j h.1)) in
     let there = widths_hold_among earlier k h.1 in
     cond_both (eqb k (length earlier)) (m.widths ++ flat_map (widths_of_use (instance_widths earlier)) m.cells) (instance_widths earlier k)
     (AllByRecursion IsWireWidth) (λ e. here) (λ e. there)
@@ -159,7 +161,7 @@ widths_hold : (net : Net) (k : ℕ) → WellFormed net → AllByRecursion IsWire
 widths_hold net k wf =
     widths_hold_among (reverse net.modules) k
     (all_reversed (λ m. AllByRecursion IsWireWidth m.widths) net.modules
-      (all_of_each (λ m. AllByRecursion IsWireWidth m.widths) net.modules (λ i m found. limits i m (wf.rules i m found Limit))))
+    (all_of_each (λ m. AllByRecursion IsWireWidth m.widths) net.modules (λ i m found. limits i m (wf.rules i m found Limit))))
   where
     limits : (i : ℕ) (m : Module) → LimitsHold net i m → AllByRecursion IsWireWidth m.widths
     limits i m h = h.widths
@@ -199,15 +201,15 @@ sound_of net f wf i few all =
       few = few;
       widths = subst (λ (ws : List ℕ). AllByRecursion IsWireWidth ws) (sym i.widths) (widths_hold net i.place wf);
       inputs = subst (λ (ws : List ℕ). map (λ p. p.width) f.ports.inputs ≡ take (length f.ports.inputs) ws) (sym step)
-        (subst (λ (ps : List Port). map (λ p. p.width) ps ≡ take (length ps) (i.m.widths ++ wires_of_uses net i.m.cells)) (sym (ap (λ p. p.inputs) i.ports))
+          (subst (λ (ps : List Port). map (λ p. p.width) ps ≡ take (length ps) (i.m.widths ++ wires_of_uses net i.m.cells)) (sym (ap (λ p. p.inputs) i.ports))
           (inputs_agree net.ports.inputs i.m.widths (wires_of_uses net i.m.cells) (omega (arith, top_names.inputs, hold.inputs)) top_widths.inputs));
       outputs = subst (λ (ws : List ℕ). map (λ w. slice_get ws w.number) f.outputs ≡ map (λ p. Some p.width) f.ports.outputs) (sym step)
-        (subst (λ (os : List WireId). map (λ w. slice_get (i.m.widths ++ wires_of_uses net i.m.cells) w.number) os ≡ map (λ p. Some p.width) f.ports.outputs) (sym i.outputs)
+          (subst (λ (os : List WireId). map (λ w. slice_get (i.m.widths ++ wires_of_uses net i.m.cells) w.number) os ≡ map (λ p. Some p.width) f.ports.outputs) (sym i.outputs)
           (subst (λ (ps : List Port). map (λ w. slice_get (i.m.widths ++ wires_of_uses net i.m.cells) w.number) i.m.outputs ≡ map (λ p. Some p.width) ps) (sym (ap (λ p. p.outputs) i.ports))
-            (outputs_agree net.ports.outputs i.m.outputs i.m.widths (wires_of_uses net i.m.cells) top_names.outputs top_widths.outputs)));
+          (outputs_agree net.ports.outputs i.m.outputs i.m.widths (wires_of_uses net i.m.cells) top_names.outputs top_widths.outputs)));
       cells = all_of_each (FitsCell (length f.ports.domains) f.widths) f.cells (λ at c e.
-        subst (λ (n : ℕ). FitsCell n f.widths c) (sym (ap (λ p. length p.domains) i.ports))
-        (subst (λ (ws : List ℕ). FitsCell (length net.ports.domains) ws c) (sym i.widths) (flat_fits net i.place c wf i.top.last ((i.cells c).0 (at, e)))));
+          subst (λ (n : ℕ). FitsCell n f.widths c) (sym (ap (λ p. length p.domains) i.ports))
+          (subst (λ (ws : List ℕ). FitsCell (length net.ports.domains) ws c) (sym i.widths) (flat_fits net i.place c wf i.top.last ((i.cells c).0 (at, e)))));
       in_order = subst (λ (n : ℕ). DrivesFrom n f.cells) (sym inputs) i.in_order;
       all = omega (arith, inputs);
     }

@@ -1,8 +1,8 @@
 -- The instances that an instance uses, and the copies of its inputs.
-use Rattle.std.proofs.Common.{◌≡◌, ℕ, zero, suc, ◌+◌, ◌<◌, ◌≤◌, List, [], ◌∷◌, ◌++◌, length, take, map, Some, slice_get, refl, sym, ap, subst, ◌∙◌, arith, length-take}
+use Rattle.std.proofs.Common.{◌≡◌, ℕ, suc, ◌+◌, List, [], ◌∷◌, ◌++◌, length, take, map, Some, slice_get, refl, sym, ap, subst, arith, length-take}
 use Rattle.std.specs.Prelude.{slice_index, sum_by}
 use Rattle.std.proofs.lemmas.List.{append-nil, append_assoc}
-use Rattle.std.proofs.lemmas.List.Sums.{sum_by-append, sum_by-cons, sum_by_push}
+use Rattle.std.proofs.lemmas.List.Sums.{sum_by-cons, sum_by_push}
 use Rattle.std.proofs.lemmas.Option.{slice_get_within}
 use Rattle.chw_base.specs.declared.index.ModId.{ModId}
 use Rattle.chw_base.specs.declared.index.WireId.{WireId}

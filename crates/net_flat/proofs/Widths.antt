@@ -1,12 +1,11 @@
 -- The widths of an instance are those of its module and of the modules that it uses.
-use Rattle.std.proofs.Common.{◌≡◌, ◌≢◌, ℕ, zero, suc, ◌+◌, ◌<◌, ◌≤◌, ◌⊎◌, inl, inr, List, [], ◌∷◌, ◌++◌, length, take, reverse, Some, None, slice_get, refl, sym, ap, subst, ◌∙◌, cond, eqb, arith}
-use Rattle.std.specs.Prelude.{flat_map, sum_by, slice_index, min}
+use Rattle.std.proofs.Common.{◌≡◌, ◌≢◌, ℕ, zero, suc, ◌+◌, ◌<◌, ◌⊎◌, inl, inr, List, [], ◌∷◌, ◌++◌, length, take, reverse, Some, None, slice_get, refl, sym, ap, subst, ◌∙◌, eqb, arith}
+use Rattle.std.specs.Prelude.{flat_map, sum_by, slice_index}
 use Rattle.std.specs.List.{AllByRecursion}
-use Rattle.std.proofs.lemmas.Bool.{cases_eq, cases_lt, eq-eqb, ne_eqb, cond-true, cond-false}
+use Rattle.std.proofs.lemmas.Bool.{cases_lt, eq-eqb, ne_eqb, cond-true, cond-false}
 use Rattle.std.proofs.lemmas.List.{get_or_append_left, get_or_push, length-append, length_push, length-reverse, length-take, reverse-append, reverse-reverse}
 use Rattle.std.proofs.lemmas.List.Sums.{sum_by-cons}
 use Rattle.std.proofs.lemmas.Option.{slice_get_within}
-use Rattle.chw_base.specs.declared.limits.TheConstants.{FLAT_WIRES}
 use Rattle.net_rules.specs.WellFormed.{NamesExist, UseExists, WellFormed}
 use Rattle.net_rules.specs.declared.well_formed.NetCode.TheVariants.{Name}
 use Rattle.netlist.specs.declared.net.Cell.{Cell}
@@ -77,16 +76,16 @@ step_among (last ∷ earlier) k m e below =
         let first = earlier_widths last earlier k l in
         let ih = below_it h in
         let uses = used_widths (instance_widths earlier) (instance_widths (last ∷ earlier)) k m.cells below
-          (λ j lt. sym (earlier_widths last earlier j (omega arith))) in
+        (λ j lt. sym (earlier_widths last earlier j (omega arith))) in
         first ∙ ih ∙ ap (λ (ws : List ℕ). m.widths ++ ws) uses
     by below_it (inr (zero, at, h)) =
         let same : last ≡ m = cc in
         let l : k ≡ length earlier = omega (arith, at, length-reverse earlier) in
         let first = last_widths last earlier k l in
         let first' : instance_widths (last ∷ earlier) k ≡ m.widths ++ flat_map (widths_of_use (instance_widths earlier)) m.cells =
-          subst (λ (x : Module). instance_widths (last ∷ earlier) k ≡ x.widths ++ flat_map (widths_of_use (instance_widths earlier)) x.cells) same first in
+        subst (λ (x : Module). instance_widths (last ∷ earlier) k ≡ x.widths ++ flat_map (widths_of_use (instance_widths earlier)) x.cells) same first in
         let uses = used_widths (instance_widths earlier) (instance_widths (last ∷ earlier)) k m.cells below
-          (λ j lt. sym (earlier_widths last earlier j (omega arith))) in
+        (λ j lt. sym (earlier_widths last earlier j (omega arith))) in
         first' ∙ ap (λ (ws : List ℕ). m.widths ++ ws) uses
     by below_it (inr (suc j, at, h)) = absurd (let n : None ≡ Some m = h in cc)
 

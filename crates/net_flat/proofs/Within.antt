@@ -1,5 +1,5 @@
 -- The wires of the instances that an instance uses are among its own.
-use Rattle.std.proofs.Common.{◌≡◌, ℕ, ◌+◌, ◌<◌, ◌≤◌, ◌^◌, List, [], ◌∷◌, ◌++◌, length, take, drop, Some, None, slice_get, refl, sym, ap, subst, ◌∙◌, arith, length-append}
+use Rattle.std.proofs.Common.{◌≡◌, ℕ, ◌+◌, ◌<◌, ◌≤◌, List, [], ◌∷◌, ◌++◌, length, take, drop, Some, None, slice_get, sym, ap, subst, ◌∙◌, arith, length-append}
 use Rattle.std.specs.Prelude.{flat_map, sum_by}
 use Rattle.std.specs.List.{AllByRecursion}
 use Rattle.std.proofs.lemmas.Grind.{flat_map-append}
@@ -20,7 +20,7 @@ use Rattle.net_flat.specs.Drivers.{CellMoves, UseGives, outputs_of}
 use Rattle.net_flat.specs.Entering.{Enters}
 use Rattle.net_flat.specs.Flattened.{IsUse, widths_in, widths_of_use, wires_before}
 use Rattle.net_flat.specs.Instances.{Moves, UseMoves}
-use Rattle.net_flat.specs.Sizes.{AreSizes, capped, size_in}
+use Rattle.net_flat.specs.Sizes.{AreSizes, size_in}
 use Rattle.net_flat.specs.declared.instances.Instance.{Instance}
 use Rattle.net_flat.proofs.Lists.{all_at, all_left, all_then, get_taken, split_at}
 use Rattle.net_flat.proofs.Uses.{sum_next}
@@ -74,7 +74,7 @@ facts_of net sizes x m e =
     record {
       names = wf.rules i m e.found Name;
       below = all_then (UsesBelow i) (UsesBelow (length sizes)) m.cells (fewer i (length sizes) (omega (arith, e.sized.all)))
-        (uses_below net i m wf e.found);
+          (uses_below net i m wf e.found);
       long = ap length (widths_step net i m wf e.found) ∙ length-append m.widths (wires_of_uses net m.cells);
     }
   where
@@ -129,7 +129,7 @@ uses_move net sizes x m e = all_then (CellMoves x.base) (UseMoves x.base) m.cell
 
 -- the outputs of the module of a number
 pub outputs_there : (modules : List Module) (k : ℕ) (m : Module) → slice_get modules k ≡ Some m → outputs_of modules k ≡ m.outputs
-outputs_there modules k m e = ap (λ o. elim o [ | Some u ↦ u.outputs | None ↦ [] ]) e
+outputs_there modules k m e = ap (λ o. elim o [ Some u ↦ u.outputs | None ↦ [] ]) e
 
 -- what a use at a place of a module of a well formed net is
 pub record UseAt (net : Net) (i : ℕ) (m : Module) (k : ModId) (reads drives : List WireId) : Type 0 where

@@ -1,5 +1,5 @@
 -- Drivers that are written into a table.
-use Rattle.std.proofs.Common.{◌≡◌, ℕ, zero, suc, ◌+◌, ◌<◌, ◌≤◌, List, [], ◌∷◌, length, drop, refl, arith}
+use Rattle.std.proofs.Common.{◌≡◌, ℕ, zero, suc, List, [], ◌∷◌, length, drop, refl, arith}
 use Rattle.std.specs.Prelude.{min}
 use Rattle.chw_base.specs.declared.index.WireId.{WireId}
 use Rattle.net_flat.specs.Drivers.{outputs_written}

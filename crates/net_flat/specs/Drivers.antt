@@ -58,7 +58,7 @@ outputs_written next table _ _ = table
 
 -- the outputs of the module of this number
 abbrev pub outputs_of : List Module → ℕ → List WireId
-outputs_of modules k = elim (slice_get modules k) [ | Some m ↦ m.outputs | None ↦ [] ]
+outputs_of modules k = elim (slice_get modules k) [ Some m ↦ m.outputs | None ↦ [] ]
 
 -- the numbers of the flat wires fit that a use gives
 abbrev pub UseGives : List Module → ℕ → Cell → Type 0
@@ -72,7 +72,7 @@ abbrev pub drivers_written : List Module → (next place : ℕ) → Cell → Lis
 drivers_written modules next place (Use k reads drives) table =
     outputs_written next table drives (outputs_of modules k.number)
 drivers_written modules next place cell table =
-    elim (slice_get (driven cell) 0) [ | Some w ↦ set table w.number (Place place) | None ↦ table ]
+    elim (slice_get (driven cell) 0) [ Some w ↦ set table w.number (Place place) | None ↦ table ]
 
 -- where it is a place, a cell stands there
 abbrev pub StandsIn : List Cell → Driver → Type 0

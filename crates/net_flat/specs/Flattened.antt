@@ -66,7 +66,8 @@ moved base (Ram w domain words inputs) = Ram (wire_from base w) domain words (re
   read = wire_from base inputs.read;
   enable = wire_from base inputs.enable;
   place = wire_from base inputs.place;
-  value = wire_from base inputs.value })
+  value = wire_from base inputs.value;
+})
 moved base (Use k reads drives) = Use k (map (wire_from base) reads) (map (wire_from base) drives)
 
 -- the cell is no use of a module
@@ -86,7 +87,7 @@ pub data IsFlatCell (net : Net) : Cell → Type 0 where
       → IsUse m.cells before k reads drives
       → (j : ℕ) (r : WireId) → slice_get reads j ≡ Some r
       → IsFlatCell net (Copy
-          (record { number = base + wires_before net m before + j }) (wire_from base r))
+      (record { number = base + wires_before net m before + j }) (wire_from base r))
   -- a wire that a use drives copies the output of the used instance
   output : (base i : ℕ) (m : Module) (before : List Cell) (k : ModId) (reads drives : List WireId)
       → IsInstance net base i → slice_get net.modules i ≡ Some m
@@ -94,7 +95,7 @@ pub data IsFlatCell (net : Net) : Cell → Type 0 where
       → (used : Module) → slice_get net.modules k.number ≡ Some used
       → (j : ℕ) (w o : WireId) → slice_get drives j ≡ Some w → slice_get used.outputs j ≡ Some o
       → IsFlatCell net (Copy
-          (wire_from base w) (wire_from (base + wires_before net m before) o))
+      (wire_from base w) (wire_from (base + wires_before net m before) o))
 
 -- the top: the last module
 pub record IsTop (net : Net) (i : ℕ) (m : Module) : Type 0 where

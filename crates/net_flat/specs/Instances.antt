@@ -1,6 +1,6 @@
 -- Instances with the flat wires that their inputs copy, and the cells of an instance.
-use Rattle.std.specs.Prelude.{◌≡◌, ℕ, ◌+◌, ◌<◌, ◌^◌, List, [], ◌∷◌, ◌++◌, length, map, reverse}
-use Rattle.std.specs.Prelude.{Some, slice_get, slice_index, flat_map}
+use Rattle.std.specs.Prelude.{◌≡◌, ℕ, ◌+◌, ◌<◌, ◌^◌, List, [], ◌∷◌, length, map}
+use Rattle.std.specs.Prelude.{Some, slice_get, slice_index}
 use Rattle.std.specs.List.{AllByRecursion}
 use Rattle.chw_base.specs.declared.index.ModId.{ModId}
 use Rattle.chw_base.specs.declared.index.WireId.{WireId}
@@ -38,9 +38,10 @@ pub data IsPlaced (net : Net) : Instance → Type 0 where
       → IsPlaced net x → slice_get net.modules x.module.number ≡ Some m
       → IsUse m.cells before k reads drives
       → IsPlaced net (record {
-          «module» = k;
-          base = x.base + wires_before net m before;
-          reads = map (wire_from x.base) reads })
+        «module» = k;
+        base = x.base + wires_before net m before;
+        reads = map (wire_from x.base) reads;
+      })
 
 -- the flat cell that drives a wire of an instance which is no input
 pub data IsOwn (net : Net) (base : ℕ) (m : Module) : ℕ → Cell → Type 0 where
@@ -51,7 +52,7 @@ pub data IsOwn (net : Net) (base : ℕ) (m : Module) : ℕ → Cell → Type 0 w
       → (used : Module) → slice_get net.modules k.number ≡ Some used
       → (j : ℕ) (w o : WireId) → slice_get drives j ≡ Some w → slice_get used.outputs j ≡ Some o
       → IsOwn net base m w.number
-          (Copy (wire_from base w) (wire_from (base + wires_before net m before) o))
+      (Copy (wire_from base w) (wire_from (base + wires_before net m before) o))
 
 -- cells that drive the wires of an instance which are no inputs, in order
 pub record AreOwn (net : Net) (base : ℕ) (m : Module) (own : List Cell) : Type 0 where

@@ -10,9 +10,9 @@ ghost use Rattle.net_flat.specs.Flattened.{IsFlatOf, widths_in};
 use crate::copies::{copy_items, copy_ports};
 use crate::parts::{Parts, parts_of};
 use crate::sizes::sizes;
-use netlist::{Flat, Net};
 use chw_base::limits::FLAT_WIRES;
 use chw_base::{NoMemory, Or, Seq};
+use netlist::{Flat, Net};
 use std::alloc::Global;
 use thiserror::Error;
 

@@ -6,8 +6,8 @@ ghost use Rattle.net_flat.specs.Sizes.{size_in};
 
 use crate::moves::moved_wires;
 use crate::sizes::size_of_use;
-use netlist::{Cell, Module};
 use chw_base::{ModId, NoMemory, Seq, WireId};
+use netlist::{Cell, Module};
 use std::alloc::Global;
 
 /// An instance of a module: its first flat wire, and the flat wires that its inputs copy. The top has none to copy.

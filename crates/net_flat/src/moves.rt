@@ -6,8 +6,8 @@ ghost use Rattle.net_flat.specs.Flattened.{moved, wire_from};
 ghost use Rattle.net_flat.specs.Instances.{Moves};
 
 use crate::copies::copy_words;
-use netlist::{Cell, RamIn};
 use chw_base::{NoMemory, Seq, WireId};
+use netlist::{Cell, RamIn};
 use std::alloc::Global;
 
 /// The flat wire of a wire of an instance.
@@ -21,7 +21,11 @@ pub(crate) fn moved_wire(base: u32, w: WireId) -> WireId
 }
 
 /// The flat wires of these wires of an instance.
-pub(crate) fn moved_wires(alloc: Global, base: u32, wires: &[WireId]) -> Result<Seq<WireId>, NoMemory>
+pub(crate) fn moved_wires(
+    alloc: Global,
+    base: u32,
+    wires: &[WireId],
+) -> Result<Seq<WireId>, NoMemory>
     requires { AllByRecursion (Moves base) wires.now }
     ensures { IfOk result (λ r. r ≡ map (wire_from base) wires.now) }
 {

@@ -7,8 +7,8 @@ ghost use Rattle.net_flat.specs.Instances.{IsPlaced, input_copies};
 
 use crate::instances::{Instance, uses};
 use crate::tables::{push_own, table};
-use netlist::{Cell, Net};
 use chw_base::{ModId, NoMemory, Seq, WireId};
+use netlist::{Cell, Net};
 use std::alloc::Global;
 
 /// The widths of flat wires and the flat cells so far, and the instances whose own are still to come, the first one last.

@@ -3,9 +3,9 @@ ghost use Rattle.std.specs.Prelude.{◌≡◌, ◌+◌, length, sum_by, IfOk};
 ghost use Rattle.net_rules.specs.WellFormed.{WellFormed};
 ghost use Rattle.net_flat.specs.Sizes.{AreSizes, capped, size_in};
 
-use netlist::{Cell, Module, Net};
 use chw_base::NoMemory;
 use chw_base::limits::FLAT_WIRES;
+use netlist::{Cell, Module, Net};
 use std::alloc::Global;
 
 // So many wires, but no more than one over the limit.

@@ -10,8 +10,8 @@ ghost use Rattle.net_flat.specs.declared.tables.Driver.TheVariants.{Place};
 use crate::instances::Instance;
 use crate::moves::{moved_cell, moved_wire};
 use crate::sizes::size_of_use;
-use netlist::{Cell, Module, Net};
 use chw_base::{ModId, NoMemory, WireId};
+use netlist::{Cell, Module, Net};
 use std::alloc::Global;
 
 /// What drives a wire of an instance.

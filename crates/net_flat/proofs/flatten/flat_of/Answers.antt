@@ -17,14 +17,14 @@ returns c =
       outputs = c.in_ok-outputs.ensures ∙ ap (λ (n : Module). n.outputs) (sym c.index-modules-modules.is);
       cells = c.from-2.ensures;
       place = length c.as_slice-modules.result.now - 1;
-      top = record { 
+      top = record {
         last = omega (arith, some, long);
         stands = item_at c.as_slice-modules.result.now net.modules (length c.as_slice-modules.result.now - 1) m c.as_slice-modules.ensures
-          (omega (arith, some, long)) c.index-modules-modules.is;
+            (omega (arith, some, long)) c.index-modules-modules.is;
       };
     } in
     record {
       flat = flat_of_parts net c.in_ok-widths.field-0 m (record { ports = c.in_ok-ports.ports; widths = c.from.result; outputs = c.in_ok-outputs.outputs; cells = c.from-2.result }) w h;
       sound = sound_of_parts net c.in_ok-widths.field-0 m (record { ports = c.in_ok-ports.ports; widths = c.from.result; outputs = c.in_ok-outputs.outputs; cells = c.from-2.result })
-        c.requires.sized.well_formed c.requires.fits w h;
+          c.requires.sized.well_formed c.requires.fits w h;
     }

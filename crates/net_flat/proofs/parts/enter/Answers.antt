@@ -1,12 +1,11 @@
-use Rattle.std.proofs.Common.{◌≡◌, ℕ, ◌+◌, ◌<◌, ◌≤◌, ◌++◌, List, length, reverse, Some, slice_get, sym, ap, subst, ◌∙◌, arith}
+use Rattle.std.proofs.Common.{◌≡◌, ℕ, ◌++◌, List, length, reverse, sym, ap, subst, ◌∙◌, arith}
 use Rattle.std.proofs.lemmas.List.{append_assoc}
 use Rattle.chw_base.specs.declared.index.WireId.{WireId}
 use Rattle.net_rules.specs.WellFormed.{DriversHold}
 use Rattle.net_rules.specs.declared.well_formed.NetCode.TheVariants.{Driver as DriverCode}
 use Rattle.netlist.specs.declared.net.Cell.{Cell}
-use Rattle.netlist.specs.declared.net.Module.{Module}
 use Rattle.net_flat.specs.Drivers.{ArePushed, IsTable}
-use Rattle.net_flat.specs.Instances.{input_copies, uses_along}
+use Rattle.net_flat.specs.Instances.{input_copies}
 use Rattle.net_flat.specs.declared.instances.Instance.{Instance}
 use Rattle.net_flat.specs.declared.tables.Driver.{Driver}
 use Rattle.net_flat.proofs.Placed.{are_own, enters, few_reads, placed_below, table_stands}
@@ -40,13 +39,13 @@ push_own-requires-clause-wires c =
 pub push_own-requires-clause-inputs : goal.push_own-requires-clause-inputs
 push_own-requires-clause-inputs c =
     let hold : DriversHold c.args.net.now c.args.x.now.module.number c.index-as_slice-x.result =
-      c.requires.sized.well_formed.rules c.args.x.now.module.number c.index-as_slice-x.result (enters c.args.net.now c.args.sizes.now c.args.x.now c.index-as_slice-x.result c.as_slice.result.now c.requires.sized c.requires.placed c.requires.within c.as_slice.ensures c.index-as_slice-x.is).found DriverCode in
+    c.requires.sized.well_formed.rules c.args.x.now.module.number c.index-as_slice-x.result (enters c.args.net.now c.args.sizes.now c.args.x.now c.index-as_slice-x.result c.as_slice.result.now c.requires.sized c.requires.placed c.requires.within c.as_slice.ensures c.index-as_slice-x.is).found DriverCode in
     hold.inputs
 
 pub push_own-requires-clause-stand : goal.push_own-requires-clause-stand
 push_own-requires-clause-stand c =
     let t : IsTable c.args.net.now c.args.x.now.base c.index-as_slice-x.result c.deref.result.now =
-      subst (λ (ds : List Driver). IsTable c.args.net.now c.args.x.now.base c.index-as_slice-x.result ds) (sym c.deref.ensures.value) c.in_ok-table.ensures in
+    subst (λ (ds : List Driver). IsTable c.args.net.now c.args.x.now.base c.index-as_slice-x.result ds) (sym c.deref.ensures.value) c.in_ok-table.ensures in
     table_stands c.args.net.now c.args.x.now.base c.index-as_slice-x.result c.deref.result.now t
 
 pub uses-requires-clause-reads : goal.uses-requires-clause-reads
@@ -65,10 +64,10 @@ returns c =
     let e = enters c.args.net.now c.args.sizes.now c.args.x.now c.index-as_slice-x.result c.as_slice.result.now c.requires.sized c.requires.placed c.requires.within c.as_slice.ensures c.index-as_slice-x.is in
     let old = c.args.parts.now in
     let table : IsTable net x.base m c.deref.result.now =
-      subst (λ (ds : List Driver). IsTable net x.base m ds) (sym c.deref.ensures.value) c.in_ok-table.ensures in
+    subst (λ (ds : List Driver). IsTable net x.base m ds) (sym c.deref.ensures.value) c.in_ok-table.ensures in
     let pushed : ArePushed x.base m c.deref.result.now (length m.widths) c.push_inputs.new.cells.items c.push_own.new.cells.items = c.in_ok-push_own.ensures in
     let copies : c.push_inputs.new.cells.items ≡ old.cells.items ++ input_copies x.base x.reads =
-      c.in_ok-push_inputs.ensures ∙ ap (λ (rs : List WireId). old.cells.items ++ input_copies x.base rs) c.as_slice-3.ensures in
+    c.in_ok-push_inputs.ensures ∙ ap (λ (rs : List WireId). old.cells.items ++ input_copies x.base rs) c.as_slice-3.ensures in
     let wait : c.push_waiting.new.waiting.items ≡ old.waiting.items ++ reverse c.in_ok-uses.uses.items = c.in_ok-push_waiting.ensures in
     record {
       m = m;

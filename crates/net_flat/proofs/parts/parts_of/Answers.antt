@@ -1,8 +1,5 @@
-use Rattle.std.proofs.Common.{◌≡◌, ◌≤◌, ◌<◌, [], length, refl, arith}
+use Rattle.std.proofs.Common.{◌≡◌, [], refl, arith}
 use Rattle.std.proofs.lemmas.List.{nil_from_length}
-use Rattle.chw_base.specs.declared.limits.TheConstants.{FLAT_WIRES, MODULES}
-use Rattle.net_flat.specs.Entering.{Entered}
-use Rattle.net_flat.specs.declared.parts.Parts.{Parts}
 use Rattle.net_flat.proofs.SoFar.{few_modules, next_fits, progress_at, so_far_first, so_far_next, whole, wires_gained, wires_within}
 use Rattle.net_flat.proofs.parts.parts_of.Goals as goal
 
@@ -33,18 +30,18 @@ loop-x-preserved c =
 pub loop-x-smaller : goal.loop-x-smaller
 loop-x-smaller c =
     let s = so_far_next c.args.net.now c.args.sizes.now c.in-Some.x c.loop-x.parts
-      (record { widths = c.loop-x.parts.widths; cells = c.loop-x.parts.cells; waiting = c.pop.new.self }) c.enter-in-Some.new.parts
-      c.loop-x.invariant refl refl c.in-Some.ensures.items c.in_ok-enter-2.ensures in
+    (record { widths = c.loop-x.parts.widths; cells = c.loop-x.parts.cells; waiting = c.pop.new.self }) c.enter-in-Some.new.parts
+    c.loop-x.invariant refl refl c.in-Some.ensures.items c.in_ok-enter-2.ensures in
     let within = wires_within c.args.net.now c.enter-in-Some.new.parts s c.requires.within in
     let gained = wires_gained c.args.net.now c.args.sizes.now c.in-Some.x c.loop-x.parts
-      (record { widths = c.loop-x.parts.widths; cells = c.loop-x.parts.cells; waiting = c.pop.new.self }) c.enter-in-Some.new.parts
-      c.loop-x.invariant refl c.in-Some.ensures.items c.in_ok-enter-2.ensures in
+    (record { widths = c.loop-x.parts.widths; cells = c.loop-x.parts.cells; waiting = c.pop.new.self }) c.enter-in-Some.new.parts
+    c.loop-x.invariant refl c.in-Some.ensures.items c.in_ok-enter-2.ensures in
     omega (arith, within, gained)
 
 pub returns : goal.returns
 returns c =
     let none : c.loop-x.parts.waiting.items ≡ [] =
-      nil_from_length c.loop-x.parts.waiting.items (omega (arith, c.in_default.ensures.cases.0, c.loop-x.parts.waiting.ok.0)) in
+    nil_from_length c.loop-x.parts.waiting.items (omega (arith, c.in_default.ensures.cases.0, c.loop-x.parts.waiting.ok.0)) in
     let w = whole c.args.net.now c.loop-x.parts c.loop-x.invariant none in
     record {
       place = w.place;

@@ -1,4 +1,4 @@
-use Rattle.std.proofs.Common.{◌≡◌, ◌-◌, List, [], sym, subst, arith}
+use Rattle.std.proofs.Common.{◌≡◌, ◌-◌, List, [], subst, arith}
 use Rattle.chw_base.specs.declared.index.WireId.{WireId}
 use Rattle.net_flat.specs.Instances.{IsPlaced, top}
 use Rattle.net_flat.proofs.parts.top.Goals as goal

@@ -1,4 +1,3 @@
-use Rattle.std.proofs.Common.{◌≡◌}
 use Rattle.std.specs.Prelude.{slice_index_or}
 use Rattle.net_flat.specs.Drivers.{IsCellFor}
 use Rattle.net_flat.specs.declared.tables.Driver.TheVariants.{Place}

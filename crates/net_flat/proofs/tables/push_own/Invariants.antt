@@ -1,5 +1,4 @@
 -- the cells of the wires so far were pushed
-use Rattle.std.proofs.Common.{◌≤◌}
 use Rattle.net_flat.specs.Drivers.{ArePushed}
 use Rattle.net_flat.proofs.tables.push_own.Given as goal
 
