@@ -1,6 +1,8 @@
+pub mod Chunks
 pub mod Decoding
 pub mod Firsts
 pub mod Gaps
+pub mod Longest
 pub mod OneModule
 pub mod OneNet
 pub mod OnePorts
