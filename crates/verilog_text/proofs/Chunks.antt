@@ -3,7 +3,7 @@ use Rattle.std.proofs.Common.{◌≡◌, ℕ, ◌+◌, Bool, true, false, not, �
 use Rattle.std.specs.Prelude.{IsTrue, codes}
 use Rattle.std.proofs.lemmas.Bool.{and_parts, false≢true, or_cases}
 use Rattle.verilog_text.specs.VForms.{HasForm, Sort, Token, is_keyword, is_sign}
-use Rattle.verilog_text.specs.VForms.Sort.{keyword, sign, signed}
+use Rattle.verilog_text.specs.VForms.Sort.{keyword, number, sign, signed}
 use Rattle.verilog_text.specs.VTokens.{IsLongest, Placed, TokensFrom, is_white, placed}
 use Rattle.verilog_text.specs.VTokens.Gap.{none, white}
 use Rattle.verilog_text.specs.VTokens.TokensFrom.{ends, next}
@@ -96,6 +96,7 @@ pub data Piece : Type 0 where
   word : List ℕ → Piece
   mark : List ℕ → Piece
   signed_word : Piece
+  nought : Piece
 
 abbrev pub text_of : List Piece → List ℕ
 text_of [] = []
@@ -103,6 +104,7 @@ text_of (blank b ∷ pieces) = b ∷ text_of pieces
 text_of (word bytes ∷ pieces) = bytes ++ text_of pieces
 text_of (mark bytes ∷ pieces) = bytes ++ text_of pieces
 text_of (signed_word ∷ pieces) = codes "$signed" ++ text_of pieces
+text_of (nought ∷ pieces) = codes "0" ++ text_of pieces
 
 abbrev pub pieces_tokens : List Piece → List Token
 pieces_tokens [] = []
@@ -110,6 +112,7 @@ pieces_tokens (blank b ∷ pieces) = pieces_tokens pieces
 pieces_tokens (word bytes ∷ pieces) = token keyword bytes ∷ pieces_tokens pieces
 pieces_tokens (mark bytes ∷ pieces) = token sign bytes ∷ pieces_tokens pieces
 pieces_tokens (signed_word ∷ pieces) = token signed (codes "$signed") ∷ pieces_tokens pieces
+pieces_tokens (nought ∷ pieces) = token number (codes "0") ∷ pieces_tokens pieces
 
 abbrev first_fails : (ℕ → Bool) → List ℕ → Bool
 first_fails test [] = false
@@ -122,6 +125,7 @@ are_pieces (blank b ∷ pieces) = is_white b && are_pieces pieces
 are_pieces (word bytes ∷ pieces) = is_keyword bytes && (first_fails is_token_byte (text_of pieces) && are_pieces pieces)
 are_pieces (mark bytes ∷ pieces) = is_sign bytes && ((is_alone bytes || first_fails dark (text_of pieces)) && are_pieces pieces)
 are_pieces (signed_word ∷ pieces) = are_pieces pieces
+are_pieces (nought ∷ pieces) = first_fails is_token_byte (text_of pieces) && are_pieces pieces
 
 fails_stops : (test : ℕ → Bool) (text rest : List ℕ) → first_fails test text ≡ true → StopsAt test (text ++ rest)
 fails_stops test [] rest fails = absurd (false≢true fails)
@@ -153,6 +157,10 @@ fixed_reads (mark bytes ∷ pieces) are rest more reads =
     (reads_token sign bytes (text_of pieces ++ rest) (pieces_tokens pieces ++ more) longest (fixed_reads pieces others.1 rest more reads))
 fixed_reads (signed_word ∷ pieces) are rest more reads =
     reads_token signed (codes "$signed") (text_of pieces ++ rest) (pieces_tokens pieces ++ more) (signed_longest (text_of pieces ++ rest)) (fixed_reads pieces are rest more reads)
+fixed_reads (nought ∷ pieces) are rest more reads =
+    let parts = and_parts _ _ are in
+    reads_token number (codes "0") (text_of pieces ++ rest) (pieces_tokens pieces ++ more)
+    (plain_longest number (codes "0") (text_of pieces ++ rest) refl (refl, tt) (fails_stops is_token_byte (text_of pieces) rest parts.0)) (fixed_reads pieces parts.1 rest more reads)
 
 -- a fixed text
 pub fixed : (pieces : List Piece) → are_pieces pieces ≡ true → Chunk (text_of pieces) (pieces_tokens pieces) free

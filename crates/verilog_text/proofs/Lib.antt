@@ -9,5 +9,9 @@ pub mod OnePorts
 pub mod OneRight
 pub mod OneSource
 pub mod Places
+pub mod Pointwise
+pub mod PrintedCells
+pub mod PrintedNames
+pub mod PrintedSource
 pub mod Runs
 pub mod Uniqueness

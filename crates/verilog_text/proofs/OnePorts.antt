@@ -119,7 +119,7 @@ same_full letter d e name other d_form e_form same =
     let parts = same_run is_letter_or_digit e (95 ∷ other) d (95 ∷ name) (all_letters e e_form) refl (all_letters d d_form) refl split in
     (parts.0, ap (drop 1) parts.1)
 
-upper_at : (domains : List (List ℕ)) (k : ℕ) → AllByRecursion IsUpper domains → k < length domains → IsUpper (get_or domains k [])
+pub upper_at : (domains : List (List ℕ)) (k : ℕ) → AllByRecursion IsUpper domains → k < length domains → IsUpper (get_or domains k [])
 upper_at [] k forms within = absurd (omega arith)
 upper_at (d ∷ domains) zero forms within = forms.0
 upper_at (d ∷ domains) (suc k) forms within = upper_at domains k forms.1 (omega arith)
