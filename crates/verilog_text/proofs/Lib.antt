@@ -11,6 +11,7 @@ pub mod OneSource
 pub mod Places
 pub mod Pointwise
 pub mod PrintedCells
+pub mod PrintedFits
 pub mod PrintedModules
 pub mod PrintedNames
 pub mod PrintedSource
