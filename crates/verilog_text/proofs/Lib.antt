@@ -1,8 +1,10 @@
 pub mod Chunks
 pub mod Decoding
+pub mod DistinctNames
 pub mod Firsts
 pub mod Gaps
 pub mod Longest
+pub mod Numbered
 pub mod OneModule
 pub mod OneNet
 pub mod OnePorts
