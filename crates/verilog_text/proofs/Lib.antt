@@ -17,5 +17,6 @@ pub mod PrintedFits
 pub mod PrintedModules
 pub mod PrintedNames
 pub mod PrintedSource
+pub mod PrintedWires
 pub mod Runs
 pub mod Uniqueness
