@@ -13,7 +13,9 @@ pub mod OneSource
 pub mod Places
 pub mod Pointwise
 pub mod PrintedCells
+pub mod PrintedDrivers
 pub mod PrintedFits
+pub mod PrintedItems
 pub mod PrintedModules
 pub mod PrintedNames
 pub mod PrintedSource
