@@ -63,7 +63,7 @@ First sign b =
     (b ≡ 38) ⊎ (((40 ≤ b) × (b ≤ 46)) ⊎ (((58 ≤ b) × (b ≤ 64))
     ⊎ ((b ≡ 91) ⊎ (((93 ≤ b) × (b ≤ 94)) ⊎ ((123 ≤ b) × (b ≤ 126))))))
 
-range : (low high b : ℕ) → IsTrue (leb low b && leb b high) → (low ≤ b) × (b ≤ high)
+pub range : (low high b : ℕ) → IsTrue (leb low b && leb b high) → (low ≤ b) × (b ≤ high)
 range low high b inside = let parts = and_parts _ _ inside in (leb-true _ _ parts.0, leb-true _ _ parts.1)
 
 pub digit_range : (b : ℕ) → IsTrue (is_digit b) → (48 ≤ b) × (b ≤ 57)

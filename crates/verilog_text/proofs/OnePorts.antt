@@ -105,27 +105,27 @@ same_rising least end (d ∷ a) (e ∷ b) first second same =
         ap (λ b. b || is_one_of a (dom j)) (sym not_d) ∙ same j (omega arith) to ∙ ap (λ x. x || is_one_of b (dom j)) not_e
 
 -- a letter, `_`, a domain, `_` and a name
-abbrev full : ℕ → List ℕ → List ℕ → List ℕ
+abbrev pub full : ℕ → List ℕ → List ℕ → List ℕ
 full letter domain name = (((letter ∷ 95 ∷ []) ++ domain) ++ 95 ∷ []) ++ name
 
 all_letters : (name : List ℕ) → IsUpper name → AllOf is_letter_or_digit name
 all_letters [] form = absurd form
 all_letters (b ∷ name) form = (or_right (is_small_letter b) _ (or_left (is_capital b) (is_digit b) form.0), form.1)
 
-same_full : (letter : ℕ) (d e : List ℕ) (name other : List ℕ) → IsUpper d → IsUpper e → full letter d name ≡ full letter e other → (d ≡ e) × (name ≡ other)
+pub same_full : (letter : ℕ) (d e : List ℕ) (name other : List ℕ) → IsUpper d → IsUpper e → full letter d name ≡ full letter e other → (d ≡ e) × (name ≡ other)
 same_full letter d e name other d_form e_form same =
     let split : d ++ 95 ∷ name ≡ e ++ 95 ∷ other =
     sym (append_assoc d (95 ∷ []) name) ∙ ap (drop 2) same ∙ append_assoc e (95 ∷ []) other in
     let parts = same_run is_letter_or_digit e (95 ∷ other) d (95 ∷ name) (all_letters e e_form) refl (all_letters d d_form) refl split in
     (parts.0, ap (drop 1) parts.1)
 
-upper_at : (domains : List (List ℕ)) (k : ℕ) → AllByRecursion IsUpper domains → k < length domains → IsUpper (get_or domains k [])
+pub upper_at : (domains : List (List ℕ)) (k : ℕ) → AllByRecursion IsUpper domains → k < length domains → IsUpper (get_or domains k [])
 upper_at [] k forms within = absurd (omega arith)
 upper_at (d ∷ domains) zero forms within = forms.0
 upper_at (d ∷ domains) (suc k) forms within = upper_at domains k forms.1 (omega arith)
 
 module _ (domains : List (List ℕ)) (forms : AllByRecursion IsUpper domains) (distinct : AreDistinct domains) where
-  same_place : (j k : ℕ) → j < length domains → k < length domains → get_or domains j [] ≡ get_or domains k [] → j ≡ k
+  pub same_place : (j k : ℕ) → j < length domains → k < length domains → get_or domains j [] ≡ get_or domains k [] → j ≡ k
   same_place j k j_within k_within same =
       one_place domains j k (get_or domains k []) distinct
       (slice_get-get_or domains j [] j_within ∙ ap Some same) (slice_get-get_or domains k [] k_within)
