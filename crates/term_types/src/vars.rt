@@ -34,7 +34,7 @@ enum Frame<'f, 't> {
     OfLambda(&'t Ty, Kind, &'f Vars<'f, 't>),
     /// Variables that are bound together, the first one first.
     OfGroup(&'f [Kinded<'t>], &'f Vars<'f, 't>),
-    /// What a pattern binds, the first one first.
+    /// What a pattern binds, with types that were made, the first one first.
     OfPattern(&'f [Found<'t>], &'f Vars<'f, 't>),
     /// The fields of a constructor that a pattern binds.
     OfFields(&'f Fields<'f, 't>, &'f Vars<'f, 't>),
