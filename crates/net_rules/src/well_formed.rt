@@ -11,11 +11,11 @@ mod names;
 mod ports;
 mod widths;
 
-use netlist::{Module, Net};
 use chw_base::{ModId, NoMemory, Or};
 use drivers::drivers_hold;
 use limits::limits_hold;
 use names::names_hold;
+use netlist::{Module, Net};
 use std::alloc::Global;
 use thiserror::Error;
 use widths::widths_hold;

@@ -1,15 +1,17 @@
 //! Rows of graphs and of small nets: the order that each has, or the cycle.
 #![tactic(auto)]
 
+mod flat;
 mod formed;
 mod graphs;
 mod nets;
 mod slow;
 
 use chw_base::Or;
+use flat::put_flat;
 use formed::put_formed;
 use graphs::{put_chain, put_graph};
-use nets::{put_flattened, put_found};
+use nets::put_found;
 use row_tables::{Unread, print_rows};
 use std::alloc::Global;
 use std::io;
@@ -26,7 +28,7 @@ fn answer(alloc: Global, call: &str, text: &str, out: &mut Vec<u8>) -> Result<()
         "chain" => put_chain(alloc, text, out),
         "has" | "order" => put_found(alloc, call, text, out),
         "formed" => put_formed(alloc, text, out),
-        "flatten" => put_flattened(alloc, out),
+        "flatten" => put_flat(alloc, text, out),
         _ => Err(Or::Fault(Unread)),
     }
 }

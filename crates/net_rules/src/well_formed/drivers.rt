@@ -7,8 +7,8 @@ ghost use Rattle.net_rules.specs.WellFormed.{DriversHold, NamesHold, wire_driven
 ghost use Rattle.net_rules.specs.Marks.{IsUnmarked, Marks};
 ghost use Rattle.netlist.specs.Wires.{driven};
 
-use netlist::{Cell, Module, Net};
 use chw_base::{NoMemory, WireId};
+use netlist::{Cell, Module, Net};
 use std::alloc::Global;
 
 // Adds the wires that a cell drives.

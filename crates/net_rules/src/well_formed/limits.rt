@@ -5,8 +5,8 @@ ghost use Rattle.std.specs.List.{AllByRecursion};
 ghost use Rattle.netlist.specs.Sound.{IsWireWidth};
 ghost use Rattle.net_rules.specs.WellFormed.{HasFewWords, LimitsHold};
 
-use netlist::{Cell, Module, Net};
 use chw_base::limits::{MODULES, RAM_WORDS, WIRE_BITS};
+use netlist::{Cell, Module, Net};
 
 // Whether each wire has from one bit to the most that it may have.
 fn are_wire_widths(widths: &[u32]) -> bool

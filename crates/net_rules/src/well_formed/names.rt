@@ -6,11 +6,11 @@ ghost use Rattle.netlist.specs.Sound.{IsWire};
 ghost use Rattle.net_rules.specs.WellFormed.{NamesExist, NamesHold, PartExists, TopNamesHold, UseExists};
 ghost use Rattle.netlist.specs.Wires.{driven, read_by};
 
-use netlist::{Cell, Module, Net};
 use crate::well_formed::ports::ports_hold;
 use crate::well_formed::widths::is_wire;
 use chw_base::{ModId, NoMemory, WireId};
 use chw_clock::Ports;
+use netlist::{Cell, Module, Net};
 use std::alloc::Global;
 
 // Whether these wires exist.

@@ -6,10 +6,10 @@ ghost use Rattle.netlist.specs.Sound.{AreArithmetic, AreCompared, AreEqual, AreS
 ghost use Rattle.net_rules.specs.WellFormed.{AgreesRam, AgreesUse, Together, TopWidthsHold, WidthsAgree, WidthsHold};
 ghost use Rattle.chw_clock.specs.declared.event.Port.{Port};
 
-use netlist::{Cell, Module, Net, Op1, Op2, RamIn};
 use chw_base::limits::{ADDRESS_BITS, ARITHMETIC_BITS};
 use chw_base::{ModId, WireId};
 use chw_clock::{Bits, Port, Ports};
+use netlist::{Cell, Module, Net, Op1, Op2, RamIn};
 
 /// The width of a wire, where it exists.
 pub(crate) fn width(widths: &[u32], w: WireId) -> Option<u32>
