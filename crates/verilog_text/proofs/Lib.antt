@@ -13,11 +13,13 @@ pub mod OneSource
 pub mod Places
 pub mod Pointwise
 pub mod PrintedCells
+pub mod PrintedDenotes
 pub mod PrintedDrivers
 pub mod PrintedFits
 pub mod PrintedItems
 pub mod PrintedModules
 pub mod PrintedNames
+pub mod PrintedNet
 pub mod PrintedSource
 pub mod PrintedWires
 pub mod Runs

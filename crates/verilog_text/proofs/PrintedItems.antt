@@ -65,7 +65,7 @@ module _ (laws : BitLaws) (ports : Ports) (m : Module) (input output : ℕ → L
   abbrev pub all : List Declared
   all = wires ports m input output
 
-  name_is : (w : WireId) → IsWire m.widths w → IsNameOf all (name_in here w) w
+  pub name_is : (w : WireId) → IsWire m.widths w → IsNameOf all (name_in here w) w
   name_is w is = named ports m input output (ports_some laws here m fits) fits.inputs [] apart fits.few_wires fits.few_cells w is
 
   names_are : (ws : List WireId) → AllByRecursion (IsWire m.widths) ws → AreNamesOf all (map (name_in here) ws) ws
