@@ -129,9 +129,9 @@ names_absent resets k (e ∷ domains) d absent = by_case (bytes_eq d e) refl (na
         × (is_among (clock_name e ∷ (reset_or_none b e ++ clock_names resets (k + 1) domains)) (reset_name d) ≡ false)
     tail true other later = (
       not_among (clock_name e) (reset_name e ∷ clock_names resets (k + 1) domains) (clock_name d) (λ same. other (clock_is d e same))
-      (not_among (reset_name e) (clock_names resets (k + 1) domains) (clock_name d) (no_clock d e) later.0),
+          (not_among (reset_name e) (clock_names resets (k + 1) domains) (clock_name d) (no_clock d e) later.0),
       not_among (clock_name e) (reset_name e ∷ clock_names resets (k + 1) domains) (reset_name d) (λ same. no_clock e d (sym same))
-      (not_among (reset_name e) (clock_names resets (k + 1) domains) (reset_name d) (λ same. other (ap (drop 4) same)) later.1),
+          (not_among (reset_name e) (clock_names resets (k + 1) domains) (reset_name d) (λ same. other (ap (drop 4) same)) later.1),
     )
     tail false other later = (
       not_among (clock_name e) (clock_names resets (k + 1) domains) (clock_name d) (λ same. other (clock_is d e same)) later.0,

@@ -21,6 +21,7 @@ pub mod PrintedModules
 pub mod PrintedNames
 pub mod PrintedNet
 pub mod PrintedSource
+pub mod PrintedText
 pub mod PrintedWires
 pub mod Runs
 pub mod Uniqueness

@@ -282,8 +282,13 @@ module _ (laws : BitLaws) (scope : Scope) (n : ℕ) (fit : NamesFit scope n) whe
       let clocks : List (List ℕ) = clock_names scope.resets 0 scope.domains in
       let signals : List Connection = map (λ (n : List ℕ). connection n n) clocks in
       let some : 1 ≤ length (connections_of scope reads drives) =
-      omega (arith, clock_names_some scope.resets 0 scope.domains fit.some, length-map clocks (λ (n : List ℕ). connection n n), length-append signals
-      (numbered_as (λ k (w : WireId). connection (input_text k) (name_in scope w)) 0 reads ++ numbered_as (λ k (w : WireId). connection (output_text k) (name_in scope w)) 0 drives)) in
+      omega (
+        arith,
+        clock_names_some scope.resets 0 scope.domains fit.some,
+        length-map clocks (λ (n : List ℕ). connection n n),
+        length-append signals
+            (numbered_as (λ k (w : WireId). connection (input_text k) (name_in scope w)) 0 reads ++ numbered_as (λ k (w : WireId). connection (output_text k) (name_in scope w)) 0 drives),
+      ) in
       let ports = commas_chunk connection_tokens free refl (connection [] []) (use_ports scope reads drives) (connections_of scope reads drives) some (ports_each reads drives reads_count drives_count read driven) in
       line_chunk (behind_free (behind_free
       (joined (behind_free (joined (name_chunk (module_name m) (numbered_form 109 m refl m_small)) (λ rest ok. refl) (fixed (blank 32 ∷ []) refl)) (name_chunk (use_text k) (numbered_form 117 k refl k_small)))

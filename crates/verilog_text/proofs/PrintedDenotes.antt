@@ -96,10 +96,11 @@ declarations_are : (scene : Scene) (cells : List Cell) (before : List Declared) 
 declarations_are scene cells before k [] rest parts are = subst (λ (d : List Declared). ItemsAre scene d rest parts) (append-nil before) are
 declarations_are scene cells before k (width ∷ widths) rest parts are =
     let item : Item = declared_item (driver cells k) k width in
-    let later : List Item = numbered_as (λ j width. declared_item (driver cells j) j width) (k + 1) widths in
-    (declared_is scene before (driver cells k) k width,
-    declarations_are scene cells (before ++ declared_by item) (k + 1) widths rest parts
-    (subst (λ (d : List Declared). ItemsAre scene d rest parts) (sym (append_assoc before (declared_by item) (flat_map declared_by later))) are))
+    let later : List Item = numbered_as (λ j width. declared_item (driver cells j) j width) (k + 1) widths in (
+      declared_is scene before (driver cells k) k width,
+      declarations_are scene cells (before ++ declared_by item) (k + 1) widths rest parts
+          (subst (λ (d : List Declared). ItemsAre scene d rest parts) (sym (append_assoc before (declared_by item) (flat_map declared_by later))) are),
+    )
 
 module _ (laws : BitLaws) (ports : Ports) (m : Module) (input output : ℕ → List ℕ) (fits : ModuleFits laws (scope_with ports m input output) m)
     (apart : PortsApart ports m input output (ports_some laws (scope_with ports m input output) m fits) fits.inputs [])
@@ -129,21 +130,23 @@ module _ (laws : BitLaws) (ports : Ports) (m : Module) (input output : ℕ → L
   cells_here k [] rest parts known are = are
   cells_here k (cell ∷ cells) rest parts known are =
       let none : every ++ declared_by (cell_item (scope_with ports m input output) k cell) ≡ every =
-      ap (λ (d : List Declared). every ++ d) (declares_none (scope_with ports m input output) k cell) ∙ append-nil every in
-      (cell_is laws ports m input output fits apart earlier few_earlier used_fits shown_lines k cell known.0,
-      subst (λ (d : List Declared). ItemsAre scene d (numbered_as (cell_item (scope_with ports m input output)) (k + 1) cells ++ rest) (cell_parts (k + 1) cells ++ parts)) (sym none)
-      (cells_here (k + 1) cells rest parts known.1 are))
+      ap (λ (d : List Declared). every ++ d) (declares_none (scope_with ports m input output) k cell) ∙ append-nil every in (
+        cell_is laws ports m input output fits apart earlier few_earlier used_fits shown_lines k cell known.0,
+        subst (λ (d : List Declared). ItemsAre scene d (numbered_as (cell_item (scope_with ports m input output)) (k + 1) cells ++ rest) (cell_parts (k + 1) cells ++ parts)) (sym none)
+            (cells_here (k + 1) cells rest parts known.1 are),
+      )
 
   shown_here : (k : ℕ) (ws : List WireId) → ((j : ℕ) (w : WireId) → slice_get ws j ≡ Some w → ItemIs scene every (shown_item (scope_with ports m input output) (k + j) w) (an_output (k + j) w))
       → ItemsAre scene every (numbered_as (shown_item (scope_with ports m input output)) k ws) (shown_parts k ws)
   shown_here k [] each = tt
   shown_here k (w ∷ ws) each =
-      let here : k + 0 ≡ k = omega arith in
-      (subst (λ (n : ℕ). ItemIs scene every (shown_item (scope_with ports m input output) n w) (an_output n w)) here (each 0 w refl),
-      subst (λ (d : List Declared). ItemsAre scene d (numbered_as (shown_item (scope_with ports m input output)) (k + 1) ws) (shown_parts (k + 1) ws)) (sym (append-nil every))
-      (shown_here (k + 1) ws (λ j v found.
-        let next : k + suc j ≡ k + 1 + j = omega arith in
-        subst (λ (n : ℕ). ItemIs scene every (shown_item (scope_with ports m input output) n v) (an_output n v)) next (each (suc j) v found))))
+      let here : k + 0 ≡ k = omega arith in (
+        subst (λ (n : ℕ). ItemIs scene every (shown_item (scope_with ports m input output) n w) (an_output n w)) here (each 0 w refl),
+        subst (λ (d : List Declared). ItemsAre scene d (numbered_as (shown_item (scope_with ports m input output)) (k + 1) ws) (shown_parts (k + 1) ws)) (sym (append-nil every))
+            (shown_here (k + 1) ws (λ j v found.
+            let next : k + suc j ≡ k + 1 + j = omega arith in
+            subst (λ (n : ℕ). ItemIs scene every (shown_item (scope_with ports m input output) n v) (an_output n v)) next (each (suc j) v found))),
+      )
 
   -- an output is assigned its wire
   shown_is : (n : ℕ) (w : WireId) → slice_get m.outputs n ≡ Some w → ItemIs scene every (shown_item (scope_with ports m input output) n w) (an_output n w)
@@ -173,8 +176,8 @@ module _ (laws : BitLaws) (ports : Ports) (m : Module) (input output : ℕ → L
       (subst (λ (d : List Declared). ItemsAre scene d (cells ++ shown) (cell_parts 0 m.cells ++ shown_parts 0 m.outputs)) (sym (wires_are ports m input output some fits.inputs name))
       (cells_here 0 m.cells shown (shown_parts 0 m.outputs) facts
       (shown_here 0 m.outputs (λ j w found.
-        let same : j ≡ 0 + j = omega arith in
-        subst (λ (n : ℕ). ItemIs scene every (shown_item (scope_with ports m input output) n w) (an_output n w)) same (shown_is j w found)))))
+      let same : j ≡ 0 + j = omega arith in
+      subst (λ (n : ℕ). ItemIs scene every (shown_item (scope_with ports m input output) n w) (an_output n w)) same (shown_is j w found)))))
 
   ends_at_zero : (k width : ℕ) → value (entry ports m input output k width).line.range.to ≡ 0
   ends_at_zero k width = at (ltb k m.inputs)

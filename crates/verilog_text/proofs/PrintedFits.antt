@@ -87,9 +87,16 @@ module _ (widths : List ℕ) (few : length widths < 2 ^ 64) (limits : AllByRecur
     cell_prints (Reg w domain initial a) exist agree few_words = (small w exist.driven.0, exist.part, has_bits w initial agree.0, small a exist.read.0)
     cell_prints (Ram w domain words inputs) exist agree few_words =
         let within = all_at IsWireWidth widths w.number agree.width limits agree.shown in
-        let bits = words_have_bits agree.width within words agree.each_word in
-        (small w exist.driven.0, exist.part, (few_words.0, few_words.1, bits), zero_bits words few_words.0 bits,
-        small inputs.read exist.read.0, small inputs.enable exist.read.1.0, small inputs.place exist.read.1.1.0, small inputs.value exist.read.1.1.1.0)
+        let bits = words_have_bits agree.width within words agree.each_word in (
+          small w exist.driven.0,
+          exist.part,
+          (few_words.0, few_words.1, bits),
+          zero_bits words few_words.0 bits,
+          small inputs.read exist.read.0,
+          small inputs.enable exist.read.1.0,
+          small inputs.place exist.read.1.1.0,
+          small inputs.value exist.read.1.1.1.0,
+        )
       where
         zero_bits : (words : List (List Bool)) → 1 ≤ length words → AllByRecursion HasBits words → HasBits (zero_word words)
         zero_bits [] some all = absurd (omega arith)

@@ -163,8 +163,13 @@ module _ (laws : BitLaws) (scope : Scope) (m : Module) (fits : ModuleFits laws s
   pub ports_some : 1 ≤ length (ports_of scope m)
   ports_some =
       let clocks : List (List ℕ) = clock_names scope.resets 0 scope.domains in
-      omega (arith, clock_names_some scope.resets 0 scope.domains fits.names.some, length-map clocks signal_port, length-append (map signal_port clocks)
-      (numbered_as (input_of scope) 0 (take m.inputs m.widths) ++ numbered_as (output_of scope m) 0 m.outputs))
+      omega (
+        arith,
+        clock_names_some scope.resets 0 scope.domains fits.names.some,
+        length-map clocks signal_port,
+        length-append (map signal_port clocks)
+            (numbered_as (input_of scope) 0 (take m.inputs m.widths) ++ numbered_as (output_of scope m) 0 m.outputs),
+      )
 
   pub module_chunk : (n : List ℕ) → HasForm a_name n → Chunk (module_text scope n m) (module_tokens (module_item scope n m)) free
   module_chunk n form =
@@ -193,14 +198,17 @@ modules_each : (laws : BitLaws) (ports : Ports) (count k : ℕ) (modules : List 
     → AllByRecursion (λ (m : Module). ModuleFits laws (inner_scope ports m) m) modules → ModuleFits laws (top_scope ports top) top
     → Each module_tokens free (numbered (text_of_module ports count) k (modules ++ top ∷ [])) (numbered_as (inner_item ports) k modules ++ top_item ports top ∷ [])
 modules_each laws ports count k [] top counted small inner last =
-    let is_last : eqb (k + 1) count ≡ true = eq-eqb (k + 1) count (omega arith) in
-    (subst (λ (b : Bool). Chunk (cond b (module_text (top_scope ports top) top_name top) (module_text (inner_scope ports top) (module_name k) top)) (module_tokens (top_item ports top)) free)
-    (sym is_last) (module_chunk laws (top_scope ports top) top last top_name top_form), tt)
+    let is_last : eqb (k + 1) count ≡ true = eq-eqb (k + 1) count (omega arith) in (
+      subst (λ (b : Bool). Chunk (cond b (module_text (top_scope ports top) top_name top) (module_text (inner_scope ports top) (module_name k) top)) (module_tokens (top_item ports top)) free)
+          (sym is_last) (module_chunk laws (top_scope ports top) top last top_name top_form),
+      tt,
+    )
 modules_each laws ports count k (m ∷ modules) top counted small inner last =
-    let is_inner : eqb (k + 1) count ≡ false = ne_eqb (k + 1) count (λ same. omega arith) in
-    (subst (λ (b : Bool). Chunk (cond b (module_text (top_scope ports m) top_name m) (module_text (inner_scope ports m) (module_name k) m)) (module_tokens (inner_item ports k m)) free)
-    (sym is_inner) (module_chunk laws (inner_scope ports m) m inner.0 (module_name k) (numbered_form 109 k refl (omega arith))),
-    modules_each laws ports count (k + 1) modules top (omega arith) small inner.1 last)
+    let is_inner : eqb (k + 1) count ≡ false = ne_eqb (k + 1) count (λ same. omega arith) in (
+      subst (λ (b : Bool). Chunk (cond b (module_text (top_scope ports m) top_name m) (module_text (inner_scope ports m) (module_name k) m)) (module_tokens (inner_item ports k m)) free)
+          (sym is_inner) (module_chunk laws (inner_scope ports m) m inner.0 (module_name k) (numbered_form 109 k refl (omega arith))),
+      modules_each laws ports count (k + 1) modules top (omega arith) small inner.1 last,
+    )
 
 -- the printed text splits into the tokens of the source
 pub net_reads : (laws : BitLaws) (ports : Ports) (modules : List Module) (top : Module) → NetFits laws ports modules top

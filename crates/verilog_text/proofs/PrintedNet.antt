@@ -89,7 +89,7 @@ output_widths m k name_at all (w ∷ ws) (p ∷ ps) same wide =
     λ i. head i ∷ tail i
 
 -- one more name that is new
-distinct_last : (names : List (List ℕ)) (last : List ℕ) → AreDistinct names → AllByRecursion (λ (n : List ℕ). n ≡ last → ⊥) names → AreDistinct (names ++ last ∷ [])
+pub distinct_last : (names : List (List ℕ)) (last : List ℕ) → AreDistinct names → AllByRecursion (λ (n : List ℕ). n ≡ last → ⊥) names → AreDistinct (names ++ last ∷ [])
 distinct_last [] last distinct others = (refl, tt)
 distinct_last (n ∷ names) last distinct others =
     (not_in_both names (last ∷ []) n distinct.0 (not_among last [] n others.0 refl), distinct_last names last distinct.1 others.1)
@@ -126,7 +126,7 @@ module _ (laws : BitLaws) (net : Net) (well : WellFormed net) (counted : AreCoun
         drives_it = drives_it m.inputs (length m.widths) m.cells (rules Driver).drivers k cell at;
       })
 
-  inner_denotes : (i : ℕ) (m : Module) → slice_get net.modules i ≡ Some m → (k : ℕ) → DenotesModule ports (numbered_as (inner_item ports) 0 (take i net.modules)) (inner_item ports k m) m
+  pub inner_denotes : (i : ℕ) (m : Module) → slice_get net.modules i ≡ Some m → (k : ℕ) → DenotesModule ports (numbered_as (inner_item ports) 0 (take i net.modules)) (inner_item ports k m) m
   inner_denotes i m found k =
       let fits = inner_fits laws net well counted i m found in
       let wires = fits.few_wires in
@@ -183,10 +183,10 @@ module _ (laws : BitLaws) (net : Net) (well : WellFormed net) (counted : AreCoun
           output_tags = λ k less. tags_at 1 (output_name ports.domains) (λ p. refl) ports.outputs k (omega arith);
         }
 
-    top_denotes : DenotesModule ports (numbered_as (inner_item ports) 0 (take i net.modules)) (top_item ports m) m
+    pub top_denotes : DenotesModule ports (numbered_as (inner_item ports) 0 (take i net.modules)) (top_item ports m) m
     top_denotes = module_denotes laws ports m top_input top_output fit top_apart (take i net.modules) (few_front i) (used_fits i) (facts i m found top_input top_output fit top_apart) top_name
 
-    top_inputs : ArePorts (input_name ports.domains) (inputs_of (all_of (top_item ports m).ports)) ports.inputs
+    pub top_inputs : ArePorts (input_name ports.domains) (inputs_of (all_of (top_item ports m).ports)) ports.inputs
     top_inputs =
         let top = (well.rules i m found Name).top last in
         let widths = (well.rules i m found Width).top last in
@@ -201,7 +201,7 @@ module _ (laws : BitLaws) (net : Net) (well : WellFormed net) (counted : AreCoun
               ∙ (ap (λ (n : ℕ). take n m.widths) (sym count) ∙ input_widths ports.inputs m.widths (omega arith) widths.inputs)));
         }
 
-    top_outputs : ArePorts (output_name ports.domains) (outputs_of (all_of (top_item ports m).ports)) ports.outputs
+    pub top_outputs : ArePorts (output_name ports.domains) (outputs_of (all_of (top_item ports m).ports)) ports.outputs
     top_outputs =
         let top = (well.rules i m found Name).top last in
         let widths = (well.rules i m found Width).top last in
