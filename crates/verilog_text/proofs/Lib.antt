@@ -1,6 +1,7 @@
 pub mod Chunks
 pub mod Decoding
 pub mod DistinctNames
+pub mod ExamplesShown
 pub mod Firsts
 pub mod Gaps
 pub mod Longest
@@ -24,4 +25,5 @@ pub mod PrintedSource
 pub mod PrintedText
 pub mod PrintedWires
 pub mod Runs
+pub mod Scanned
 pub mod Uniqueness
