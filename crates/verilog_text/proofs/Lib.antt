@@ -1,6 +1,7 @@
 pub mod Chunks
 pub mod Decoding
 pub mod DistinctNames
+pub mod ExamplesShown
 pub mod Firsts
 pub mod Gaps
 pub mod Longest
@@ -13,12 +14,16 @@ pub mod OneSource
 pub mod Places
 pub mod Pointwise
 pub mod PrintedCells
+pub mod PrintedDenotes
 pub mod PrintedDrivers
 pub mod PrintedFits
 pub mod PrintedItems
 pub mod PrintedModules
 pub mod PrintedNames
+pub mod PrintedNet
 pub mod PrintedSource
+pub mod PrintedText
 pub mod PrintedWires
 pub mod Runs
+pub mod Scanned
 pub mod Uniqueness

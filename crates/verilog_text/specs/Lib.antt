@@ -1,5 +1,6 @@
 pub mod Declared
 pub mod Denotes
+pub mod Examples
 pub mod Grammar
 pub mod Names
 pub mod Source

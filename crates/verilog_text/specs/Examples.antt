@@ -1,0 +1,59 @@
+-- A text that is written freely, and the net that it denotes; and a text that denotes no net.
+use Rattle.std.specs.Prelude.{ℕ, List, [], ◌∷◌, ◌++◌, codes}
+use Rattle.chw_base.specs.declared.index.DomId.{DomId}
+use Rattle.chw_base.specs.declared.index.WireId.{WireId}
+use Rattle.chw_bits.specs.Bits.{bits_of}
+use Rattle.chw_clock.specs.declared.event.Port.{Port}
+use Rattle.netlist.specs.declared.net.Cell.TheVariants.{Bin, Reg}
+use Rattle.netlist.specs.declared.net.Net.{Net}
+use Rattle.netlist.specs.declared.net.Op2.TheVariants.{Add}
+use Rattle.verilog_text.specs.VText.{VText}
+
+abbrev pub wire : ℕ → WireId
+wire n = record { number = n }
+
+abbrev pub dom : ℕ → DomId
+dom n = record { number = n }
+
+abbrev pub port : List ℕ → Port
+port name = record { name = name; dom = dom 0; width = 8 }
+
+-- a register that adds its input at each tick, and begins with 10
+abbrev pub sums : Net
+sums = record {
+  ports = record {
+    domains = codes "A" ∷ [];
+    resets = [];
+    inputs = port (codes "x") ∷ [];
+    outputs = port (codes "y") ∷ [];
+  };
+  modules = record {
+    inputs = 1;
+    widths = 8 ∷ 8 ∷ 8 ∷ [];
+    outputs = wire 2 ∷ [];
+    cells = Reg (wire 2) (dom 0) (bits_of 8 10) (wire 1) ∷ Bin (wire 1) Add (wire 2) (wire 0) ∷ [];
+  } ∷ [];
+}
+
+-- the text up to the operands of the sum, which is to be the register's input
+abbrev pub up_to_the_sum : List ℕ
+up_to_the_sum =
+    codes "/* a */module chw_top(input clk_A,input[007:0]i_A_x,output[7:0]o_A_y);"
+    ++ (codes "wire[7:00]sum;reg[7:0]kept= 08'hA;assign o_A_y= kept;"
+    ++ codes "always@(posedge clk_A)kept<= sum;assign sum= ")
+
+-- comments, few blanks, names of any kind, leading zeros, and items in any order
+abbrev pub free_text : List ℕ
+free_text = up_to_the_sum ++ codes "kept+i_A_x;endmodule// b"
+
+-- the same with a name that is declared nowhere
+abbrev pub unknown_text : List ℕ
+unknown_text = up_to_the_sum ++ codes "kept+i_A_z;endmodule// b"
+
+-- the free text denotes the net
+abbrev pub FreeText : Type 0
+FreeText = VText free_text sums
+
+-- the text with an unknown name denotes no net
+abbrev pub UnknownName : Type 0
+UnknownName = (net : Net) → VText unknown_text net → ⊥

@@ -1,0 +1,12 @@
+//! Worked examples of texts, each as the contract of a call that does nothing.
+ghost use Rattle.verilog_text.specs.Examples.{FreeText, UnknownName};
+
+/// A text with comments, few blanks, leading zeros, names of any kind and items in any order denotes a net.
+pub fn of_a_free_text()
+    ensures { FreeText }
+{}
+
+/// With a name that is declared nowhere it denotes none.
+pub fn of_an_unknown_name()
+    ensures { UnknownName }
+{}
