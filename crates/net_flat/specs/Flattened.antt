@@ -1,12 +1,12 @@
 -- The flat net of a net: one module with the wires and cells of all instances.
 use Rattle.std.specs.Prelude.{◌≡◌, ◌↔◌, ℕ, ◌+◌, ◌==◌, List, [], ◌∷◌, ◌++◌, length, map, reverse}
 use Rattle.std.specs.Prelude.{Some, slice_get, flat_map, if◌then◌else◌}
-use Rattle.std.specs.List.{sum_by}
 use Rattle.chw_base.specs.declared.index.ModId.{ModId}
 use Rattle.chw_base.specs.declared.index.WireId.{WireId}
 use Rattle.netlist.specs.Sound.{DrivesFrom}
 use Rattle.netlist.specs.declared.net.Cell.{Cell}
-use Rattle.netlist.specs.declared.net.Cell.TheVariants.{Const, Copy, Join, Cut, Un, Bin, Mux, Reg, Ram, Use}
+use Rattle.netlist.specs.declared.net.Cell.TheVariants.{Const, Copy, Join, Cut, Un, Bin, Mux}
+use Rattle.netlist.specs.declared.net.Cell.TheVariants.{Reg, Ram, Use}
 use Rattle.netlist.specs.declared.net.Flat.{Flat}
 use Rattle.netlist.specs.declared.net.Module.{Module}
 use Rattle.netlist.specs.declared.net.Net.{Net}
@@ -18,7 +18,7 @@ widths_of_use widths_of _ = []
 
 -- the widths of the flat wires of an instance of the module of this number, among these modules,
 -- the last one first: its own wires, then those of each of its uses, in order of cells
-pub instance_widths : List Module → ℕ → List ℕ
+unfoldable pub instance_widths : List Module → ℕ → List ℕ
 instance_widths [] k = []
 instance_widths (m ∷ earlier) k =
     if k == length earlier
@@ -66,7 +66,8 @@ moved base (Ram w domain words inputs) = Ram (wire_from base w) domain words (re
   read = wire_from base inputs.read;
   enable = wire_from base inputs.enable;
   place = wire_from base inputs.place;
-  value = wire_from base inputs.value })
+  value = wire_from base inputs.value;
+})
 moved base (Use k reads drives) = Use k (map (wire_from base) reads) (map (wire_from base) drives)
 
 -- the cell is no use of a module
@@ -85,14 +86,16 @@ pub data IsFlatCell (net : Net) : Cell → Type 0 where
       → IsInstance net base i → slice_get net.modules i ≡ Some m
       → IsUse m.cells before k reads drives
       → (j : ℕ) (r : WireId) → slice_get reads j ≡ Some r
-      → IsFlatCell net (Copy (record { number = base + wires_before net m before + j }) (wire_from base r))
+      → IsFlatCell net (Copy
+      (record { number = base + wires_before net m before + j }) (wire_from base r))
   -- a wire that a use drives copies the output of the used instance
   output : (base i : ℕ) (m : Module) (before : List Cell) (k : ModId) (reads drives : List WireId)
       → IsInstance net base i → slice_get net.modules i ≡ Some m
       → IsUse m.cells before k reads drives
       → (used : Module) → slice_get net.modules k.number ≡ Some used
       → (j : ℕ) (w o : WireId) → slice_get drives j ≡ Some w → slice_get used.outputs j ≡ Some o
-      → IsFlatCell net (Copy (wire_from base w) (wire_from (base + wires_before net m before) o))
+      → IsFlatCell net (Copy
+      (wire_from base w) (wire_from (base + wires_before net m before) o))
 
 -- the top: the last module
 pub record IsTop (net : Net) (i : ℕ) (m : Module) : Type 0 where

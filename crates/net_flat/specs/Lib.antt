@@ -1,1 +1,5 @@
+pub mod Drivers
+pub mod Entering
 pub mod Flattened
+pub mod Instances
+pub mod Sizes

@@ -1,7 +1,6 @@
-//! Copies of the parts of a net.
+//! Copies of ports, names and words.
 ghost use Rattle.std.specs.Prelude.{◌≡◌, IfOk};
 
-use netlist::Cell;
 use chw_base::{NoMemory, Seq};
 use chw_clock::{Bits, Port, Ports};
 use std::alloc::Global;
@@ -61,45 +60,13 @@ pub(crate) fn copy_ports(alloc: Global, ports: &Ports) -> Result<Ports, NoMemory
     })
 }
 
-fn copy_words(alloc: Global, words: &Seq<Bits>) -> Result<Seq<Bits>, NoMemory>
+/// The same words once more.
+pub(crate) fn copy_words(alloc: Global, words: &Seq<Bits>) -> Result<Seq<Bits>, NoMemory>
     ensures { IfOk result (λ copy. copy ≡ words.now) }
 {
     let mut copy = Vec::new(alloc);
     for word in words.as_slice() {
         copy.push(word.copy(alloc)?)?;
-    }
-    Ok(Seq::from(copy))
-}
-
-fn copy_cell(alloc: Global, cell: &Cell) -> Result<Cell, NoMemory>
-    ensures { IfOk result (λ copy. copy ≡ cell.now) }
-{
-    Ok(match cell {
-        Cell::Const(w, bits) => Cell::Const(*w, bits.copy(alloc)?),
-        Cell::Copy(w, a) => Cell::Copy(*w, *a),
-        Cell::Join(w, parts) => Cell::Join(*w, copy_items(alloc, parts)?),
-        Cell::Cut(w, a, high, low) => Cell::Cut(*w, *a, *high, *low),
-        Cell::Un(w, op, a) => Cell::Un(*w, *op, *a),
-        Cell::Bin(w, op, a, b) => Cell::Bin(*w, *op, *a, *b),
-        Cell::Mux(w, c, a, b) => Cell::Mux(*w, *c, *a, *b),
-        Cell::Reg(w, domain, initial, a) => Cell::Reg(*w, *domain, initial.copy(alloc)?, *a),
-        Cell::Ram(w, domain, words, inputs) => {
-            Cell::Ram(*w, *domain, copy_words(alloc, words)?, *inputs)
-        }
-        Cell::Use(module, reads, drives) => {
-            let reads = copy_items(alloc, reads)?;
-            Cell::Use(*module, reads, copy_items(alloc, drives)?)
-        }
-    })
-}
-
-/// The same cells once more.
-pub(crate) fn copy_cells(alloc: Global, cells: &Seq<Cell>) -> Result<Seq<Cell>, NoMemory>
-    ensures { IfOk result (λ copy. copy ≡ cells.now) }
-{
-    let mut copy = Vec::new(alloc);
-    for cell in cells.as_slice() {
-        copy.push(copy_cell(alloc, cell)?)?;
     }
     Ok(Seq::from(copy))
 }

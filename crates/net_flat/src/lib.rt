@@ -3,5 +3,11 @@
 
 mod copies;
 pub mod flatten;
+mod instances;
+pub mod laws;
+mod moves;
+mod parts;
+mod sizes;
+mod tables;
 
 pub use flatten::TooLarge;

@@ -1,13 +1,20 @@
 -- Marks of wires that are driven.
-use Rattle.std.proofs.Common.{◌≡◌, ℕ, ◌+◌, ◌<◌, ◌≤◌, Bool, true, false, inl, inr, List, length, get_or, set, Some, None, sym, ap, ◌∙◌, subst, arith}
+use Rattle.std.proofs.Common.{◌≡◌, ◌≢◌, ℕ, ◌+◌, ◌<◌, ◌≤◌, ◌⊎◌, Bool, true, false, inl, inr, List, length, get_or, get_or-set_same, get_or-set_other, set, Some, None, sym, ap, ◌∙◌, subst, arith}
 use Rattle.std.specs.Prelude.{option_map}
-use Rattle.std.proofs.lemmas.Bool.{cases_lt, false≢true}
+use Rattle.std.proofs.lemmas.Bool.{cases_eq, cases_lt, false≢true}
 use Rattle.std.proofs.lemmas.Option.{slice_get_past, slice_get-get_or}
 use Rattle.chw_base.specs.declared.index.WireId.{WireId}
 use Rattle.net_rules.specs.Marks.{IsUnmarked, Marks}
 use Rattle.netlist.specs.Sound.{EachOnce}
 use Rattle.net_rules.specs.WellFormed.{wire_driven_at}
-use Rattle.netlist.proofs.Lists.{write_split}
+
+-- an element after a write: the one that was written, or another
+write_split : {X : Type 0} (xs : List X) (p : ℕ) (y : X) (q : ℕ) (d : X) → p < length xs
+    → ((q ≡ p) × (get_or (set xs p y) q d ≡ y)) ⊎ ((q ≢ p) × (get_or (set xs p y) q d ≡ get_or xs q d))
+write_split xs p y q d l = elim (cases_eq q p) [
+  | inl e ↦ inl (e, ap (λ k. get_or (set xs p y) k d) e ∙ get_or-set_same xs p y d l)
+  | inr n ↦ inr (n, get_or-set_other xs p q y d n)
+]
 
 -- the wire at a place of the list
 pub at_place : (driven : List WireId) (i : ℕ) (d : WireId) → i < length driven → wire_driven_at driven i ≡ Some (get_or driven i d).number

@@ -1,6 +1,6 @@
 -- Cells that drive the wires in order, from the first that is no input: which wire each drives, and which cell drives a wire.
-use Rattle.std.proofs.Common.{◌≡◌, ℕ, ◌+◌, ◌-◌, ◌<◌, ◌≤◌, List, [], ◌∷◌, length, sym, ◌∙◌, ap, inl, inr, arith, Some, None, zero, suc}
-use Rattle.std.specs.Prelude.{if◌then◌else◌}
+use Rattle.std.proofs.Common.{◌≡◌, ℕ, ◌+◌, ◌-◌, ◌<◌, ◌≤◌, List, [], ◌∷◌, length, sym, ◌∙◌, ap, inl, inr, arith, Some, zero, suc}
+use Rattle.std.specs.Prelude.{◌^◌, if◌then◌else◌}
 use Rattle.std.proofs.lemmas.Bool.{cases_lt, le-ltb, lt-ltb}
 use Rattle.std.proofs.lemmas.Option.{same_Some}
 use Rattle.netlist.specs.Feeds.{target_at}
@@ -17,17 +17,17 @@ target_in_order w (cell ∷ cells) d zero l = let e : w ≡ w + zero = omega ari
 target_in_order w (cell ∷ cells) d (suc p) l =
     let e : (w + 1) + p ≡ w + suc p = omega arith in target_in_order (w + 1) cells d.1 p (omega (arith, l)) ∙ ap Some e
 
-pub place_of_input : (inputs w : ℕ) → w < inputs → driving_place inputs w ≡ None
-place_of_input inputs w l = ap (λ b. if b then None else Some (w - inputs)) (lt-ltb w inputs l)
+place_of_input : (inputs w : ℕ) → w < inputs → driving_place inputs w ≡ 2 ^ 32 - 1
+place_of_input inputs w l = ap (λ b. if b then 2 ^ 32 - 1 else w - inputs) (lt-ltb w inputs l)
 
-pub place_past_inputs : (inputs w : ℕ) → inputs ≤ w → driving_place inputs w ≡ Some (w - inputs)
-place_past_inputs inputs w l = ap (λ b. if b then None else Some (w - inputs)) (le-ltb w inputs l)
+place_past_inputs : (inputs w : ℕ) → inputs ≤ w → driving_place inputs w ≡ w - inputs
+place_past_inputs inputs w l = ap (λ b. if b then 2 ^ 32 - 1 else w - inputs) (le-ltb w inputs l)
 
--- a wire that has a driving place stands after the inputs, as far as the place says
-pub wire_of_place : (inputs w p : ℕ) → driving_place inputs w ≡ Some p → w ≡ inputs + p
-wire_of_place inputs w p e = elim (cases_lt w inputs) [
-  | inl l ↦ let none = place_of_input inputs w l in absurd (cc)
-  | inr l ↦ let same : w - inputs ≡ p = same_Some _ _ (sym (place_past_inputs inputs w l) ∙ e) in omega arith
+-- a wire whose driving place may be a cell's stands after the inputs, as far as the place says
+pub wire_of_place : (inputs w p : ℕ) → driving_place inputs w ≡ p → p < 2 ^ 32 - 1 → w ≡ inputs + p
+wire_of_place inputs w p e l = elim (cases_lt w inputs) [
+  | inl h ↦ let past = place_of_input inputs w h in absurd (omega (arith, past, e))
+  | inr h ↦ let past = place_past_inputs inputs w h in omega (arith, past, e)
 ]
 
 module _ (inputs : ℕ) (cells : List Cell) (d : DrivesFrom inputs cells) where
@@ -43,17 +43,12 @@ module _ (inputs : ℕ) (cells : List Cell) (d : DrivesFrom inputs cells) where
     once = λ p q w e f. let h = driven_wire p w e in let k = driven_wire q w f in omega (arith, h, k);
   }
 
-  -- the cell at the place where a wire is driven drives it, and no other does
-  pub place_drives : (w p : ℕ) → w < inputs + length cells → driving_place inputs w ≡ Some p → target_at cells p ≡ Some w
-  place_drives w p l e =
-      let is : w ≡ inputs + p = wire_of_place inputs w p e in
-      target_in_order inputs cells d p (omega (arith, l, is)) ∙ ap Some (sym is)
-
-  pub place_found : (w p : ℕ) → target_at cells p ≡ Some w → driving_place inputs w ≡ Some p
+  -- the place where a wire is driven is that of the cell that drives it
+  pub place_found : (w p : ℕ) → target_at cells p ≡ Some w → driving_place inputs w ≡ p
   place_found w p e =
       let is = driven_wire p w e in
-      let at : w - inputs ≡ p = omega (arith, is) in
-      place_past_inputs inputs w (omega (arith, is)) ∙ ap Some at
+      let past = place_past_inputs inputs w (omega (arith, is)) in
+      omega (arith, is, past)
 
 module _ (flat : Flat) (sound : Sound flat) where
   -- in a sound net each wire that is no input is driven by exactly one cell

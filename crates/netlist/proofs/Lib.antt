@@ -12,7 +12,6 @@ pub mod OneValue
 pub mod Ordered
 pub mod Periods
 pub mod Places
-pub mod Placing
 pub mod Rounds
 pub mod Values
 pub mod Waiting

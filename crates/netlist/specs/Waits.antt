@@ -1,26 +1,18 @@
--- The wires of a flat net as a graph, by the wires that the cell that drives each waits for.
-use Rattle.std.specs.Prelude.{ℕ, ◌-◌, nat_lt, List, [], ◌++◌, map, replicate, reverse}
-use Rattle.std.specs.Prelude.{Option, Some, None, if◌then◌else◌, option_and_then, slice_get}
+-- The cells of a flat net as a graph, in which each refers to those that drive what it waits for.
+-- The cells drive the wires after the inputs in order.
+use Rattle.std.specs.Prelude.{ℕ, ◌-◌, ◌^◌, nat_lt, List, map, reverse, if◌then◌else◌}
 use Rattle.netlist.specs.Feeds.{awaited}
 use Rattle.netlist.specs.declared.net.Cell.{Cell}
 
--- the place of the cell that drives a wire, unless it is one of so many inputs: the cells drive the
--- wires after these in order
-abbrev pub driving_place : ℕ → ℕ → Option ℕ
-driving_place inputs wire = if nat_lt wire inputs then None else Some (wire - inputs)
+-- the place of the cell that drives a wire, where so many wires are inputs. For an input it is past
+-- all cells.
+abbrev pub driving_place : ℕ → ℕ → ℕ
+driving_place inputs wire = if nat_lt wire inputs then 2 ^ 32 - 1 else wire - inputs
 
--- the wires that a cell waits for, the last one first
-abbrev pub waits_of : Cell → List ℕ
-waits_of cell = reverse (map (λ w. w.number) (awaited cell))
+-- the places of the cells that drive the wires that a cell waits for, the last one first
+abbrev pub waits_of : ℕ → Cell → List ℕ
+waits_of inputs cell = reverse (map (λ w. driving_place inputs w.number) (awaited cell))
 
-abbrev pub waits_if_any : Option Cell → List ℕ
-waits_if_any None = []
-waits_if_any (Some cell) = waits_of cell
-
--- the wires that the cell at this place waits for
-abbrev pub waits_at : List Cell → Option ℕ → List ℕ
-waits_at cells place = waits_if_any (option_and_then (slice_get cells) place)
-
--- by the number of a wire, the wires that the cell that drives it waits for. An input has none.
+-- by the place of a cell, the places of those that drive what it waits for
 abbrev pub waits : ℕ → List Cell → List (List ℕ)
-waits inputs cells = replicate inputs [] ++ map waits_of cells
+waits inputs cells = map (waits_of inputs) cells

@@ -1,0 +1,17 @@
+pub mod Below
+pub mod Cells
+pub mod Filled
+pub mod Fitting
+pub mod Lists
+pub mod Once
+pub mod OneFlat
+pub mod Placed
+pub mod Progress
+pub mod Pushed
+pub mod SoFar
+pub mod Sounds
+pub mod Uses
+pub mod Whole
+pub mod Widths
+pub mod Within
+pub mod Written
