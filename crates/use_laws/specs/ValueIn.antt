@@ -1,5 +1,5 @@
 -- The bits of the wires of a net of modules, without flattening it.
-use Rattle.std.specs.Prelude.{◌≡◌, ◌↔◌, ℕ, ◌+◌, ◌<◌, ◌≤◌, true, false, List, [], ◌∷◌, Bool, length}
+use Rattle.std.specs.Prelude.{◌≡◌, ℕ, ◌+◌, ◌<◌, ◌≤◌, true, false, List, [], ◌∷◌, Bool, length, take}
 use Rattle.std.specs.Prelude.{Some, None, slice_get}
 use Rattle.chw_base.specs.declared.index.DomId.{DomId}
 use Rattle.chw_base.specs.declared.index.ModId.{ModId}
@@ -7,7 +7,7 @@ use Rattle.chw_base.specs.declared.index.WireId.{WireId}
 use Rattle.chw_bits.specs.Bits.{number_of}
 use Rattle.chw_clock.specs.Histories.{before, taken}
 use Rattle.chw_clock.specs.declared.event.Event.{Event}
-use Rattle.net_flat.specs.Flattened.{IsTop, IsUse, wires_before}
+use Rattle.net_flat.specs.Flattened.{IsTop, wires_before}
 use Rattle.netlist.specs.Feeds.{target}
 use Rattle.netlist.specs.NetValue.{Memory, writes, zeros}
 use Rattle.netlist.specs.Operators.{KeepsNothing, operator}
@@ -21,9 +21,17 @@ use Rattle.netlist.specs.declared.net.Net.{Net}
 -- use on the way to it from the top, the last use first.
 pub data IsAt (net : Net) : List ℕ → Module → Type 0 where
   top : (i : ℕ) (m : Module) → IsTop net i m → IsAt net [] m
-  used : (path : List ℕ) (m used : Module) (place : ℕ) (k : ModId) (reads drives : List WireId)
+  used : (path : List ℕ) (place : ℕ) (m inner : Module) (k : ModId) (reads drives : List WireId)
       → IsAt net path m → slice_get m.cells place ≡ Some (Use k reads drives)
-      → slice_get net.modules k.number ≡ Some used → IsAt net (place ∷ path) used
+      → slice_get net.modules k.number ≡ Some inner → IsAt net (place ∷ path) inner
+
+-- the first flat wire of an instance
+pub data BeginsAt (net : Net) : List ℕ → ℕ → Type 0 where
+  top : BeginsAt net [] 0
+  used : (path : List ℕ) (base place : ℕ) (m : Module) (k : ModId) (reads drives : List WireId)
+      → BeginsAt net path base → IsAt net path m
+      → slice_get m.cells place ≡ Some (Use k reads drives)
+      → BeginsAt net (place ∷ path) (base + wires_before net m (take place m.cells))
 
 -- the module of the instance has this cell
 pub record HasCellAt (net : Net) (path : List ℕ) (cell : Cell) : Type 0 where
@@ -31,6 +39,14 @@ pub record HasCellAt (net : Net) (path : List ℕ) (cell : Cell) : Type 0 where
   pub at : IsAt net path m
   pub place : ℕ
   pub stands : slice_get m.cells place ≡ Some cell
+
+-- the use at this place of an instance reads and drives these wires
+pub record HasUseAt (net : Net) (path : List ℕ) (place : ℕ) (reads drives : List WireId)
+    : Type 0 where
+  pub k : ModId
+  pub m : Module
+  pub at : IsAt net path m
+  pub stands : slice_get m.cells place ≡ Some (Use k reads drives)
 
 -- the wire of this instance has this width
 pub record HasWidthAt (net : Net) (path : List ℕ) (w : WireId) (width : ℕ) : Type 0 where
@@ -42,30 +58,6 @@ pub record HasWidthAt (net : Net) (path : List ℕ) (w : WireId) (width : ℕ) :
 abbrev pub HasRamAt : Net → List ℕ → WireId → Memory → Type 0
 HasRamAt net path w ram = HasCellAt net path (Ram w ram.domain ram.words ram.inputs)
 
--- the use at this place of an instance reads this wire for the input of this number
-pub record Enters (net : Net) (path : List ℕ) (place j : ℕ) (r : WireId) : Type 0 where
-  pub k : ModId
-  pub reads : List WireId
-  pub drives : List WireId
-  pub m : Module
-  pub at : IsAt net path m
-  pub stands : slice_get m.cells place ≡ Some (Use k reads drives)
-  pub read : slice_get reads j ≡ Some r
-
--- the use at this place of an instance drives this wire from this output wire of its module
-pub record Leaves (net : Net) (path : List ℕ) (place : ℕ) (w o : WireId) : Type 0 where
-  pub k : ModId
-  pub reads : List WireId
-  pub drives : List WireId
-  pub m : Module
-  pub at : IsAt net path m
-  pub stands : slice_get m.cells place ≡ Some (Use k reads drives)
-  pub used : Module
-  pub found : slice_get net.modules k.number ≡ Some used
-  pub j : ℕ
-  pub driven : slice_get drives j ≡ Some w
-  pub output : slice_get used.outputs j ≡ Some o
-
 mutual
   -- the wire of the instance has these bits at the history
   pub data ValueIn (net : Net) : List ℕ → List Event → ℕ → List Bool → Type 0 where
@@ -74,13 +66,16 @@ mutual
         → w < length net.ports.inputs → slice_get present.inputs w ≡ Some bits
         → ValueIn net [] (present ∷ past) w bits
     -- an input of a used instance has the bits of the wire that the use reads
-    enters : (path : List ℕ) (place j : ℕ) (r : WireId) (h : List Event) (bits : List Bool)
-        → Enters net path place j r → ValueIn net path h r.number bits
-        → ValueIn net (place ∷ path) h j bits
-    -- a wire that a use drives has the bits of the output of the used instance
-    leaves : (path : List ℕ) (place : ℕ) (w o : WireId) (h : List Event) (bits : List Bool)
-        → Leaves net path place w o → ValueIn net (place ∷ path) h o.number bits
-        → ValueIn net path h w.number bits
+    enters : (path : List ℕ) (place j : ℕ) (reads drives : List WireId) (r : WireId)
+        (h : List Event) (bits : List Bool)
+        → HasUseAt net path place reads drives → slice_get reads j ≡ Some r
+        → ValueIn net path h r.number bits → ValueIn net (place ∷ path) h j bits
+    -- a wire that a use drives has the bits of an output of the used instance
+    leaves : (path : List ℕ) (place j : ℕ) (reads drives : List WireId) (inner : Module)
+        (w o : WireId) (h : List Event) (bits : List Bool)
+        → HasUseAt net path place reads drives → IsAt net (place ∷ path) inner
+        → slice_get drives j ≡ Some w → slice_get inner.outputs j ≡ Some o
+        → ValueIn net (place ∷ path) h o.number bits → ValueIn net path h w.number bits
     -- the cells of the instance's module give what those of a flat net give
     operated : (path : List ℕ) (cell : Cell) (w : ℕ) (h : List Event) (values : List (List Bool))
         → HasCellAt net path cell → KeepsNothing cell → target cell ≡ Some w
@@ -112,38 +107,32 @@ mutual
         → ValueIn net path h w.number bits
 
   -- the wires of the instance have these bits at the history
-  pub data ReadIn (net : Net) (path : List ℕ)
-      : List Event → List WireId → List (List Bool) → Type 0 where
-    read_none : (h : List Event) → ReadIn net path h [] []
-    read_and : (h : List Event) (w : WireId) (wires : List WireId) (bits : List Bool)
-        (values : List (List Bool))
+  pub data ReadIn (net : Net)
+      : List ℕ → List Event → List WireId → List (List Bool) → Type 0 where
+    read_none : (path : List ℕ) (h : List Event) → ReadIn net path h [] []
+    read_and : (path : List ℕ) (h : List Event) (w : WireId) (wires : List WireId)
+        (bits : List Bool) (values : List (List Bool))
         → ValueIn net path h w.number bits → ReadIn net path h wires values
         → ReadIn net path h (w ∷ wires) (bits ∷ values)
 
   -- the RAM of the instance has these bits at the address, before the write of the present event
-  pub data WordIn (net : Net) (path : List ℕ)
-      : Memory → List Event → ℕ → List Bool → Type 0 where
-    unwritten : (ram : Memory) (h : List Event) (address : ℕ) (bits : List Bool)
+  pub data WordIn (net : Net)
+      : List ℕ → Memory → List Event → ℕ → List Bool → Type 0 where
+    unwritten : (path : List ℕ) (ram : Memory) (h : List Event) (address : ℕ) (bits : List Bool)
         → before h ram.domain ≡ None → slice_get ram.words address ≡ Some bits
         → WordIn net path ram h address bits
-    written : (ram : Memory) (h past : List Event) (address : ℕ) (enable place bits : List Bool)
+    written : (path : List ℕ) (ram : Memory) (h past : List Event) (address : ℕ)
+        (enable place bits : List Bool)
         → before h ram.domain ≡ Some past
         → ValueIn net path past ram.inputs.enable.number enable
         → ValueIn net path past ram.inputs.place.number place
         → writes enable place address ≡ true
         → ValueIn net path past ram.inputs.value.number bits
         → WordIn net path ram h address bits
-    kept : (ram : Memory) (h past : List Event) (address : ℕ) (enable place bits : List Bool)
+    kept : (path : List ℕ) (ram : Memory) (h past : List Event) (address : ℕ)
+        (enable place bits : List Bool)
         → before h ram.domain ≡ Some past
         → ValueIn net path past ram.inputs.enable.number enable
         → ValueIn net path past ram.inputs.place.number place
         → writes enable place address ≡ false
         → WordIn net path ram past address bits → WordIn net path ram h address bits
-
--- the first flat wire of an instance
-pub data BeginsAt (net : Net) : List ℕ → ℕ → Type 0 where
-  top : BeginsAt net [] 0
-  used : (path : List ℕ) (base : ℕ) (m : Module) (before : List Cell) (k : ModId)
-      (reads drives : List WireId)
-      → BeginsAt net path base → IsAt net path m → IsUse m.cells before k reads drives
-      → BeginsAt net (length before ∷ path) (base + wires_before net m before)

@@ -1,0 +1,5 @@
+mod FlatCells
+mod FlatWidths
+mod Forth
+mod Instances
+mod Moved
