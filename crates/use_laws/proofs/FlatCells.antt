@@ -1,6 +1,5 @@
 -- The flat cells of an instance: those of its module, and the copies at its uses.
-use Rattle.std.proofs.Common.{◌≡◌, ℕ, ◌+◌, Bool, List, [], ◌∷◌, length, take, Some, slice_get, refl, sym, ap, subst, ◌∙◌, arith}
-use Rattle.chw_base.specs.declared.index.ModId.{ModId}
+use Rattle.std.proofs.Common.{◌≡◌, ℕ, ◌+◌, Bool, List, [], ◌∷◌, take, Some, slice_get, refl, sym, subst}
 use Rattle.chw_base.specs.declared.index.WireId.{WireId}
 use Rattle.chw_clock.specs.declared.event.Event.{Event}
 use Rattle.net_flat.specs.Flattened.{IsFlatOf, NoUse, moved, wire_from, wires_before}
@@ -15,7 +14,7 @@ use Rattle.netlist.specs.declared.net.Flat.{Flat}
 use Rattle.netlist.specs.declared.net.Module.{Module}
 use Rattle.netlist.specs.declared.net.Net.{Net}
 use Rattle.use_laws.specs.ValueIn.{BeginsAt, HasCellAt, HasUseAt, IsAt}
-use Rattle.use_laws.proofs.Instances.{BeginsUsed, InstanceOf, begins_by, instance_of, module_used}
+use Rattle.use_laws.proofs.Instances.{BeginsUsed, begins_by, instance_of, module_used}
 
 -- the flat wire of this number
 abbrev pub wire_at : ℕ → WireId

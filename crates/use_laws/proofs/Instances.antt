@@ -1,11 +1,10 @@
 -- Instances: a path has one module, and an instance with its first flat wire is one of the flat net's.
-use Rattle.std.proofs.Common.{◌≡◌, ℕ, ◌+◌, List, [], ◌∷◌, length, take, Some, slice_get, refl, sym, ap, subst, ◌∙◌, arith}
+use Rattle.std.proofs.Common.{◌≡◌, ℕ, ◌+◌, List, [], ◌∷◌, take, Some, slice_get, refl, sym, ap, ◌∙◌, arith}
 use Rattle.chw_base.specs.declared.index.ModId.{ModId}
 use Rattle.chw_base.specs.declared.index.WireId.{WireId}
 use Rattle.net_flat.specs.Flattened.{IsInstance, IsTop, wires_before}
 use Rattle.net_flat.specs.Flattened as flattened
 use Rattle.net_flat.proofs.Within.{stands_at}
-use Rattle.netlist.specs.declared.net.Cell.{Cell}
 use Rattle.netlist.specs.declared.net.Cell.TheVariants.{Use}
 use Rattle.netlist.specs.declared.net.Module.{Module}
 use Rattle.netlist.specs.declared.net.Net.{Net}

@@ -1,7 +1,6 @@
 -- A cell of a module among the flat wires of an instance: what it drives, reads and gives.
-use Rattle.std.proofs.Common.{◌≡◌, ℕ, ◌+◌, Bool, List, [], ◌∷◌, map, Some, None, refl, sym, ap, ◌∙◌}
+use Rattle.std.proofs.Common.{◌≡◌, ℕ, ◌+◌, Bool, List, map, Some, refl, sym, ap, ◌∙◌}
 use Rattle.chw_base.specs.declared.index.DomId.{DomId}
-use Rattle.chw_base.specs.declared.index.ModId.{ModId}
 use Rattle.chw_base.specs.declared.index.WireId.{WireId}
 use Rattle.net_flat.specs.Flattened.{NoUse, moved, wire_from}
 use Rattle.netlist.specs.Feeds.{target}
@@ -9,7 +8,7 @@ use Rattle.netlist.specs.NetValue.{Memory}
 use Rattle.netlist.specs.Operators.{KeepsNothing, operator}
 use Rattle.netlist.specs.Wires.{read_by}
 use Rattle.netlist.specs.declared.net.Cell.{Cell}
-use Rattle.netlist.specs.declared.net.Cell.TheVariants.{Const, Copy, Join, Cut, Un, Bin, Mux, Reg, Ram, Use}
+use Rattle.netlist.specs.declared.net.Cell.TheVariants.{Reg, Ram, Use}
 use Rattle.netlist.specs.declared.net.RamIn.{RamIn}
 
 pub target_moved : (base : ℕ) (cell : Cell) (w : ℕ) → target cell ≡ Some w → target (moved base cell) ≡ Some (base + w)
