@@ -37,7 +37,8 @@ pub record IsUse (cells before : List Cell) (k : ModId) (reads drives : List Wir
 -- how many flat wires stand before those of a use, counted from its user's first wire: the user's
 -- own wires and those of the uses before it
 abbrev pub wires_before : Net → Module → List Cell → ℕ
-wires_before net m before = length m.widths + length (flat_map (widths_of_use (widths_in net)) before)
+wires_before net m before =
+    length m.widths + length (flat_map (widths_of_use (widths_in net)) before)
 
 -- an instance of a module: its first flat wire, and the module's number
 pub data IsInstance (net : Net) : ℕ → ℕ → Type 0 where
