@@ -1,12 +1,12 @@
 -- What the flat wire of a wire of an instance has, the wire has.
-use Rattle.std.proofs.Common.{◌≡◌, ℕ, ◌+◌, ◌<◌, ◌≤◌, ◌⊎◌, inl, inr, Bool, true, false, List, [], ◌∷◌, length, map, Option, Some, None, slice_get, refl, sym, ap, subst, ◌∙◌, arith}
+use Rattle.std.proofs.Common.{◌≡◌, ℕ, ◌+◌, ◌<◌, ◌≤◌, ◌⊎◌, inl, inr, Bool, List, [], ◌∷◌, length, map, Option, Some, None, slice_get, refl, sym, ap, subst, ◌∙◌, arith}
 use Rattle.std.specs.List.{AllByRecursion}
 use Rattle.chw_base.specs.declared.index.DomId.{DomId}
 use Rattle.chw_base.specs.declared.index.WireId.{WireId}
 use Rattle.chw_bits.specs.Bits.{number_of}
-use Rattle.chw_clock.specs.Histories.{before, taken}
+use Rattle.chw_clock.specs.Histories.{before}
 use Rattle.chw_clock.specs.declared.event.Event.{Event}
-use Rattle.net_flat.specs.Flattened.{IsFlatOf, moved, wire_from}
+use Rattle.net_flat.specs.Flattened.{IsFlatOf, wire_from}
 use Rattle.net_rules.specs.WellFormed.{WellFormed}
 use Rattle.netlist.specs.Feeds.{target}
 use Rattle.netlist.specs.NetValue.{HasCell, HasRam, Memory, NetValue, ReadValues, WordAt, zeros}
@@ -26,8 +26,8 @@ use Rattle.use_laws.specs.ValueIn as net_of
 use Rattle.use_laws.proofs.FlatCells.{wire_at}
 use Rattle.use_laws.proofs.FlatWidths.{inner_width}
 use Rattle.use_laws.proofs.Instances.{instance_of}
-use Rattle.use_laws.proofs.Moved.{MemoryOf, RegisterOf, keeps_unmoved, memory_of, moved_memory, operator_moved, read_by_moved, register_of}
-use Rattle.use_laws.proofs.Sources.{IsOwn, IsPassed, Source, Stands, by_flat_cell, drives_no_input, flat_cell, source, top_input}
+use Rattle.use_laws.proofs.Moved.{keeps_unmoved, memory_of, moved_memory, operator_moved, read_by_moved, register_of}
+use Rattle.use_laws.proofs.Sources.{OwnCell, PassedOn, WireSource, InstanceAt, by_flat_cell, drives_no_input, flat_cell, source, top_input}
 
 -- one wire that is read
 no_reading : (net : Net) (path : List ℕ) (h : List Event) (values : List (List Bool)) → ReadIn net path h [] values → values ≡ []
@@ -53,7 +53,7 @@ record IsRegisterAt (net : Net) (path : List ℕ) (base : ℕ) (m : Module) (w :
   within : read.number < length m.widths
 
 register_at : (net : Net) (path : List ℕ) (base : ℕ) (m : Module) (w : ℕ) (v a : WireId) (domain : DomId) (initial : List Bool)
-    → IsOwn net path base m w (Reg v domain initial a) ⊎ IsPassed net path w (Reg v domain initial a)
+    → OwnCell net path base m w (Reg v domain initial a) ⊎ PassedOn net path w (Reg v domain initial a)
     → IsRegisterAt net path base m w a domain initial
 register_at net path base m w v a domain initial (inr p) = let e = p.«is» in absurd (cc)
 register_at net path base m w v a domain initial (inl o) =
@@ -79,7 +79,7 @@ record IsMemoryAt (net : Net) (path : List ℕ) (base : ℕ) (m : Module) (w : �
   within : AllByRecursion (IsWire m.widths) (read_by (Ram driven inner.domain inner.words inner.inputs))
 
 memory_at : (net : Net) (path : List ℕ) (base : ℕ) (m : Module) (w : ℕ) (v : WireId) (ram : Memory)
-    → IsOwn net path base m w (Ram v ram.domain ram.words ram.inputs) ⊎ IsPassed net path w (Ram v ram.domain ram.words ram.inputs)
+    → OwnCell net path base m w (Ram v ram.domain ram.words ram.inputs) ⊎ PassedOn net path w (Ram v ram.domain ram.words ram.inputs)
     → IsMemoryAt net path base m w ram
 memory_at net path base m w v ram (inr p) = let e = p.«is» in absurd (cc)
 memory_at net path base m w v ram (inl o) =
@@ -97,15 +97,15 @@ memory_at net path base m w v ram (inl o) =
 module _ (net : Net) (flat : Flat) (wf : WellFormed net) (f : IsFlatOf net flat) where
   -- the wires of an instance whose flat wires are read have these bits
   abbrev Rest : List Event → List WireId → List (List Bool) → Type 0
-  Rest h wires values = (path : List ℕ) (base : ℕ) (m : Module) (inner : List WireId) → Stands net path base m
+  Rest h wires values = (path : List ℕ) (base : ℕ) (m : Module) (inner : List WireId) → InstanceAt net path base m
       → AllByRecursion (IsWire m.widths) inner → wires ≡ map (wire_from base) inner → ReadIn net path h inner values
 
-  input_back : (path : List ℕ) (base : ℕ) (m : Module) (w n : ℕ) (present : Event) (past : List Event) (bits : List Bool) → Stands net path base m
+  input_back : (path : List ℕ) (base : ℕ) (m : Module) (w n : ℕ) (present : Event) (past : List Event) (bits : List Bool) → InstanceAt net path base m
       → w < length m.widths → n ≡ base + w → n < length flat.ports.inputs → slice_get present.inputs n ≡ Some bits
       → ValueIn net path (present ∷ past) w bits
   input_back path base m w n present past bits st l e within at = from (source net flat wf f path base m w st l)
     where
-      from : Source net flat path base m w → ValueIn net path (present ∷ past) w bits
+      from : WireSource net flat path base m w → ValueIn net path (present ∷ past) w bits
       from (top_input p zero_base inside) =
           let same : n ≡ w = omega arith in
           let here = subst (λ k. slice_get present.inputs k ≡ Some bits) same at in
@@ -114,8 +114,8 @@ module _ (net : Net) (flat : Flat) (wf : WellFormed net) (f : IsFlatOf net flat)
           let inside : n < length net.ports.inputs = subst (λ ports. n < length ports.inputs) f.ports within in
           absurd (drives_no_input net flat wf f c n has (t ∙ ap Some (sym e)) inside)
 
-  operated_back : (path : List ℕ) (base : ℕ) (m : Module) (w : ℕ) (c : Cell) (h : List Event) (values : List (List Bool)) → Stands net path base m
-      → KeepsNothing c → Rest h (read_by c) values → IsOwn net path base m w c ⊎ IsPassed net path w c
+  operated_back : (path : List ℕ) (base : ℕ) (m : Module) (w : ℕ) (c : Cell) (h : List Event) (values : List (List Bool)) → InstanceAt net path base m
+      → KeepsNothing c → Rest h (read_by c) values → OwnCell net path base m w c ⊎ PassedOn net path w c
       → ValueIn net path h w (operator c values)
   operated_back path base m w c h values st keeps rest (inl o) =
       let reads = ap read_by o.«is» ∙ read_by_moved base o.cell in
@@ -129,12 +129,22 @@ module _ (net : Net) (flat : Flat) (wf : WellFormed net) (f : IsFlatOf net flat)
       let gives : operator c values ≡ one.bits = ap (λ x. operator x values) p.«is» ∙ ap (λ xs. operator (Copy p.to (wire_at (p.base + p.from))) xs) one.«is» in
       subst (λ bits. ValueIn net path h w bits) (sym gives) (p.gives h one.bits one.value)
 
-  width_back : (path : List ℕ) (base : ℕ) (m : Module) (w n : ℕ) (v : WireId) (width : ℕ) → Stands net path base m → w < length m.widths → n ≡ base + w
+  width_back : (path : List ℕ) (base : ℕ) (m : Module) (w n : ℕ) (v : WireId) (width : ℕ) → InstanceAt net path base m → w < length m.widths → n ≡ base + w
       → v.number ≡ w → slice_get flat.widths n ≡ Some width → HasWidthAt net path v width
   width_back path base m w n v width st l e same wide =
       let there : slice_get flat.widths (base + w) ≡ Some width = subst (λ k. slice_get flat.widths k ≡ Some width) e wide in
       let here = inner_width net flat base m w width wf f (instance_of net path base m st.begins st.at) l there in
       record { m = m; at = st.at; wide = subst (λ k. slice_get m.widths k ≡ Some width) (sym same) here }
+
+  register_back : (path : List ℕ) (base : ℕ) (m : Module) (w : ℕ) (v a : WireId) (domain : DomId) (initial : List Bool) → InstanceAt net path base m
+      → w < length m.widths → HasCell flat (Reg v domain initial a) → v.number ≡ base + w → IsRegisterAt net path base m w a domain initial
+  register_back path base m w v a domain initial st l has e =
+      register_at net path base m w v a domain initial (by_flat_cell net flat wf f path base m w v.number (Reg v domain initial a) st l has refl e)
+
+  memory_back : (path : List ℕ) (base : ℕ) (m : Module) (w : ℕ) (v : WireId) (ram : Memory) → InstanceAt net path base m → w < length m.widths
+      → HasRam flat v ram → v.number ≡ base + w → IsMemoryAt net path base m w ram
+  memory_back path base m w v ram st l has e =
+      memory_at net path base m w v ram (by_flat_cell net flat wf f path base m w v.number (Ram v ram.domain ram.words ram.inputs) st l has refl e)
 
   before_back : (h : List Event) (ram inner : Memory) (base : ℕ) (o : Option (List Event)) → ram ≡ moved_memory base inner → before h ram.domain ≡ o
       → before h inner.domain ≡ o
@@ -142,33 +152,33 @@ module _ (net : Net) (flat : Flat) (wf : WellFormed net) (f : IsFlatOf net flat)
 
   mutual
     pub value_back : (h : List Event) (n : ℕ) (bits : List Bool) (path : List ℕ) (base : ℕ) (m : Module) (w : ℕ) → NetValue flat h n bits
-        → Stands net path base m → w < length m.widths → n ≡ base + w → ValueIn net path h w bits
+        → InstanceAt net path base m → w < length m.widths → n ≡ base + w → ValueIn net path h w bits
     value_back _ _ _ path base m w (input n present past bits within at) st l e = input_back path base m w n present past bits st l e within at
     value_back _ _ _ path base m w (operated c n h values has keeps t reads) st l e =
         operated_back path base m w c h values st keeps
         (λ path base m inner st within same. reading_back h (read_by c) values path base m inner reads st within same)
         (by_flat_cell net flat wf f path base m w n c st l has t e)
     value_back _ _ _ path base m w (first v a domain initial h has none) st l e =
-        let r = register_at net path base m w v a domain initial (by_flat_cell net flat wf f path base m w v.number (Reg v domain initial a) st l has refl e) in
+        let r = register_back path base m w v a domain initial st l has e in
         subst (λ k. ValueIn net path h k initial) r.driven_is (net_of.first path r.driven r.read domain initial h r.has none)
     value_back _ _ _ path base m w (later v a domain initial bits h past has at x) st l e =
-        let r = register_at net path base m w v a domain initial (by_flat_cell net flat wf f path base m w v.number (Reg v domain initial a) st l has refl e) in
+        let r = register_back path base m w v a domain initial st l has e in
         subst (λ k. ValueIn net path h k bits) r.driven_is
         (net_of.later path r.driven r.read domain initial bits h past r.has at (value_back past a.number bits path base m r.read.number x st r.within r.read_is))
     value_back _ _ _ path base m w (unread v ram width h has wide none) st l e =
-        let r = memory_at net path base m w v ram (by_flat_cell net flat wf f path base m w v.number (Ram v ram.domain ram.words ram.inputs) st l has refl e) in
+        let r = memory_back path base m w v ram st l has e in
         subst (λ k. ValueIn net path h k (zeros width)) r.driven_is
         (net_of.unread path r.driven r.inner width h r.has (width_back path base m w v.number r.driven width st l e r.driven_is wide)
         (before_back h ram r.inner base None r.ram_is none))
     value_back _ _ _ path base m w (outside v ram width h past address has wide at x past_end) st l e =
-        let r = memory_at net path base m w v ram (by_flat_cell net flat wf f path base m w v.number (Ram v ram.domain ram.words ram.inputs) st l has refl e) in
+        let r = memory_back path base m w v ram st l has e in
         subst (λ k. ValueIn net path h k (zeros width)) r.driven_is
         (net_of.outside path r.driven r.inner width h past address r.has (width_back path base m w v.number r.driven width st l e r.driven_is wide)
         (before_back h ram r.inner base (Some past) r.ram_is at)
         (value_back past ram.inputs.read.number address path base m r.inner.inputs.read.number x st r.within.0 (ap (λ (y : Memory). y.inputs.read.number) r.ram_is))
         (subst (λ (y : Memory). length y.words ≤ number_of address) r.ram_is past_end))
     value_back _ _ _ path base m w (shown v ram h past address bits has at x inside held) st l e =
-        let r = memory_at net path base m w v ram (by_flat_cell net flat wf f path base m w v.number (Ram v ram.domain ram.words ram.inputs) st l has refl e) in
+        let r = memory_back path base m w v ram st l has e in
         subst (λ k. ValueIn net path h k bits) r.driven_is
         (net_of.shown path r.driven r.inner h past address bits r.has (before_back h ram r.inner base (Some past) r.ram_is at)
         (value_back past ram.inputs.read.number address path base m r.inner.inputs.read.number x st r.within.0 (ap (λ (y : Memory). y.inputs.read.number) r.ram_is))
@@ -176,7 +186,7 @@ module _ (net : Net) (flat : Flat) (wf : WellFormed net) (f : IsFlatOf net flat)
         (word_back ram past (number_of address) bits path base m r.inner held st r.within r.ram_is))
 
     reading_back : (h : List Event) (wires : List WireId) (values : List (List Bool)) (path : List ℕ) (base : ℕ) (m : Module) (inner : List WireId)
-        → ReadValues flat h wires values → Stands net path base m → AllByRecursion (IsWire m.widths) inner → wires ≡ map (wire_from base) inner
+        → ReadValues flat h wires values → InstanceAt net path base m → AllByRecursion (IsWire m.widths) inner → wires ≡ map (wire_from base) inner
         → ReadIn net path h inner values
     reading_back _ _ _ path base m [] (read_none h) st within e = net_of.read_none path h
     reading_back _ _ _ path base m (x ∷ inner) (read_none h) st within e = absurd (cc)
@@ -189,7 +199,7 @@ module _ (net : Net) (flat : Flat) (wf : WellFormed net) (f : IsFlatOf net flat)
         (reading_back h wires values path base m inner vs st within.1 rest_are)
 
     word_back : (ram : Memory) (h : List Event) (address : ℕ) (bits : List Bool) (path : List ℕ) (base : ℕ) (m : Module) (inner : Memory)
-        → WordAt flat ram h address bits → Stands net path base m
+        → WordAt flat ram h address bits → InstanceAt net path base m
         → AllByRecursion (IsWire m.widths) (inner.inputs.read ∷ inner.inputs.enable ∷ inner.inputs.place ∷ inner.inputs.value ∷ [])
         → ram ≡ moved_memory base inner → WordIn net path inner h address bits
     word_back _ _ _ _ path base m inner (unwritten ram h address bits none at) st within e =

@@ -13,7 +13,7 @@ use Rattle.netlist.specs.declared.net.Cell.TheVariants.{Copy}
 use Rattle.netlist.specs.declared.net.Flat.{Flat}
 use Rattle.netlist.specs.declared.net.Module.{Module}
 use Rattle.netlist.specs.declared.net.Net.{Net}
-use Rattle.use_laws.specs.ValueIn.{BeginsAt, HasCellAt, HasUseAt, IsAt}
+use Rattle.use_laws.specs.ValueIn.{BeginsAt, HasCellAt, HasUseAt, IsModuleAt}
 use Rattle.use_laws.proofs.Instances.{BeginsUsed, begins_by, instance_of, module_used}
 
 -- the flat wire of this number
@@ -44,7 +44,7 @@ input_cell net flat path place j base reads drives r f b u e =
 
 -- a wire that a use drives copies an output of the used instance
 pub output_cell : (net : Net) (flat : Flat) (path : List ℕ) (place j base : ℕ) (reads drives : List WireId) (inner : Module) (w o : WireId)
-    → IsFlatOf net flat → BeginsAt net path base → (u : HasUseAt net path place reads drives) → IsAt net (place ∷ path) inner
+    → IsFlatOf net flat → BeginsAt net path base → (u : HasUseAt net path place reads drives) → IsModuleAt net (place ∷ path) inner
     → slice_get drives j ≡ Some w → slice_get inner.outputs j ≡ Some o
     → HasCell flat (Copy (wire_from base w) (wire_from (base + wires_before net u.m (take place u.m.cells)) o))
 output_cell net flat path place j base reads drives inner w o f begins u at d e =

@@ -22,21 +22,21 @@ use Rattle.netlist.specs.declared.net.Flat.{Flat}
 use Rattle.netlist.specs.declared.net.Module.{Module}
 use Rattle.netlist.specs.declared.net.Net.{Net}
 use Rattle.netlist.proofs.Driven.{driven_wire}
-use Rattle.use_laws.specs.ValueIn.{BeginsAt, HasCellAt, HasUseAt, IsAt, ValueIn}
+use Rattle.use_laws.specs.ValueIn.{BeginsAt, HasCellAt, HasUseAt, IsModuleAt, ValueIn}
 use Rattle.use_laws.specs.ValueIn.BeginsAt.{top as begins_top, used as begins_used}
-use Rattle.use_laws.specs.ValueIn.IsAt.{used}
+use Rattle.use_laws.specs.ValueIn.IsModuleAt.{used}
 use Rattle.use_laws.specs.ValueIn.ValueIn.{enters, leaves}
 use Rattle.use_laws.proofs.FlatCells.{input_cell, output_cell, own_cell, wire_at}
 use Rattle.use_laws.proofs.Instances.{BeginsUsed, InstanceOf, at_top, instance_of, module_used}
 use Rattle.use_laws.proofs.Moved.{target_moved}
 
 -- an instance, its first flat wire and its module
-pub record Stands (net : Net) (path : List ℕ) (base : ℕ) (m : Module) : Type 0 where
-  pub at : IsAt net path m
+pub record InstanceAt (net : Net) (path : List ℕ) (base : ℕ) (m : Module) : Type 0 where
+  pub at : IsModuleAt net path m
   pub begins : BeginsAt net path base
 
 -- the flat cell is that of a cell of the instance's module, which drives the wire
-pub record IsOwn (net : Net) (path : List ℕ) (base : ℕ) (m : Module) (w : ℕ) (c : Cell) : Type 0 where
+pub record OwnCell (net : Net) (path : List ℕ) (base : ℕ) (m : Module) (w : ℕ) (c : Cell) : Type 0 where
   pub cell : Cell
   pub has : HasCellAt net path cell
   pub drives : target cell ≡ Some w
@@ -44,11 +44,11 @@ pub record IsOwn (net : Net) (path : List ℕ) (base : ℕ) (m : Module) (w : �
   pub «is» : c ≡ moved base cell
 
 -- the flat cell copies a wire of another instance, whose bits the wire has
-pub record IsPassed (net : Net) (path : List ℕ) (w : ℕ) (c : Cell) : Type 0 where
+pub record PassedOn (net : Net) (path : List ℕ) (w : ℕ) (c : Cell) : Type 0 where
   pub other : List ℕ
   pub base : ℕ
   pub m : Module
-  pub stands : Stands net other base m
+  pub stands : InstanceAt net other base m
   pub from : ℕ
   pub within : from < length m.widths
   pub to : WireId
@@ -56,10 +56,10 @@ pub record IsPassed (net : Net) (path : List ℕ) (w : ℕ) (c : Cell) : Type 0 
   pub gives : (h : List Event) (bits : List Bool) → ValueIn net other h from bits → ValueIn net path h w bits
 
 -- the wire is an input of the top, or a flat cell drives its flat wire
-pub data Source (net : Net) (flat : Flat) (path : List ℕ) (base : ℕ) (m : Module) (w : ℕ) : Type 0 where
-  top_input : path ≡ [] → base ≡ 0 → w < length net.ports.inputs → Source net flat path base m w
-  flat_cell : (c : Cell) → HasCell flat c → target c ≡ Some (base + w) → IsOwn net path base m w c ⊎ IsPassed net path w c
-      → Source net flat path base m w
+pub data WireSource (net : Net) (flat : Flat) (path : List ℕ) (base : ℕ) (m : Module) (w : ℕ) : Type 0 where
+  top_input : path ≡ [] → base ≡ 0 → w < length net.ports.inputs → WireSource net flat path base m w
+  flat_cell : (c : Cell) → HasCell flat c → target c ≡ Some (base + w) → OwnCell net path base m w c ⊎ PassedOn net path w c
+      → WireSource net flat path base m w
 
 -- where a wire is driven among cells
 record DrivenIn (cells : List Cell) (w : ℕ) : Type 0 where
@@ -99,14 +99,14 @@ module _ (net : Net) (flat : Flat) (wf : WellFormed net) (f : IsFlatOf net flat)
   names_of base m inst = (inst.i, wf.rules inst.i m inst.found Name)
 
   -- what a cell of an instance's module names exists
-  read_exist : (path : List ℕ) (base place : ℕ) (m : Module) (cell : Cell) → Stands net path base m → slice_get m.cells place ≡ Some cell
+  read_exist : (path : List ℕ) (base place : ℕ) (m : Module) (cell : Cell) → InstanceAt net path base m → slice_get m.cells place ≡ Some cell
       → AllByRecursion (IsWire m.widths) (read_by cell)
   read_exist path base place m cell st here =
       let names = names_of base m (instance_of net path base m st.begins st.at) in
       (all_at (NamesExist (length net.ports.domains) (take names.0 net.modules) m.widths) m.cells place cell names.1.cells here).read
 
-  input_source : (path : List ℕ) (base : ℕ) (m : Module) (w : ℕ) → BeginsAt net path base → IsAt net path m → w < m.inputs
-      → Source net flat path base m w
+  input_source : (path : List ℕ) (base : ℕ) (m : Module) (w : ℕ) → BeginsAt net path base → IsModuleAt net path m → w < m.inputs
+      → WireSource net flat path base m w
   input_source _ _ m w begins_top at l =
       let t = at_top net m at in
       let names : NamesHold net t.0 m = wf.rules t.0 m t.1.stands Name in
@@ -123,7 +123,7 @@ module _ (net : Net) (flat : Flat) (wf : WellFormed net) (f : IsFlatOf net flat)
       let long : w < length reads = omega (arith, a.inputs, ap (λ (x : Module). x.inputs) same) in
       let r = get_or reads w (wire_at 0) in
       let here : slice_get reads w ≡ Some r = slice_get-get_or reads w (wire_at 0) long in
-      let st : Stands net path base n = record { at = outer; begins = begins } in
+      let st : InstanceAt net path base n = record { at = outer; begins = begins } in
       flat_cell (Copy (wire_at (base + wires_before net n (take place n.cells) + w)) (wire_from base r))
       (input_cell net flat path place w (base + wires_before net n (take place n.cells)) reads drives r f b u here) refl
       (inr (record {
@@ -138,13 +138,13 @@ module _ (net : Net) (flat : Flat) (wf : WellFormed net) (f : IsFlatOf net flat)
         gives = λ h bits v. enters path place w reads drives r h bits u here v;
       }))
 
-  use_source : (path : List ℕ) (base place : ℕ) (m : Module) (k : ModId) (reads drives : List WireId) (j : ℕ) (v : WireId) → Stands net path base m
-      → slice_get m.cells place ≡ Some (Use k reads drives) → slice_get drives j ≡ Some v → Source net flat path base m v.number
+  use_source : (path : List ℕ) (base place : ℕ) (m : Module) (k : ModId) (reads drives : List WireId) (j : ℕ) (v : WireId) → InstanceAt net path base m
+      → slice_get m.cells place ≡ Some (Use k reads drives) → slice_get drives j ≡ Some v → WireSource net flat path base m v.number
   use_source path base place m k reads drives j v st here d =
       let inst = instance_of net path base m st.begins st.at in
       let a = use_at net inst.i m place k reads drives wf inst.found here in
       let u : HasUseAt net path place reads drives = record { k = k; m = m; at = st.at; stands = here } in
-      let inner : IsAt net (place ∷ path) a.used = used path place m a.used k reads drives st.at here a.found in
+      let inner : IsModuleAt net (place ∷ path) a.used = used path place m a.used k reads drives st.at here a.found in
       let next = base + wires_before net m (take place m.cells) in
       let o = get_or a.used.outputs j (wire_at 0) in
       let given : slice_get a.used.outputs j ≡ Some o =
@@ -164,20 +164,20 @@ module _ (net : Net) (flat : Flat) (wf : WellFormed net) (f : IsFlatOf net flat)
         gives = λ h bits x. leaves path place j reads drives a.used v o h bits u inner d given x;
       }))
 
-  own_source : (path : List ℕ) (base place : ℕ) (m : Module) (cell : Cell) (j : ℕ) (v : WireId) → NoUse cell → Stands net path base m
-      → slice_get m.cells place ≡ Some cell → slice_get (driven cell) j ≡ Some v → Source net flat path base m v.number
+  own_source : (path : List ℕ) (base place : ℕ) (m : Module) (cell : Cell) (j : ℕ) (v : WireId) → NoUse cell → InstanceAt net path base m
+      → slice_get m.cells place ≡ Some cell → slice_get (driven cell) j ≡ Some v → WireSource net flat path base m v.number
   own_source path base place m cell j v own st here d =
       let has : HasCellAt net path cell = record { m = m; at = st.at; place = place; stands = here } in
       let t = target_driven cell j v own d in
       flat_cell (moved base cell) (own_cell net flat path base cell f st.begins has own) (target_moved base cell v.number t)
       (inl (record { cell = cell; has = has; drives = t; read = read_exist path base place m cell st here; «is» = refl }))
 
-  cell_source : (path : List ℕ) (base place : ℕ) (m : Module) (cell : Cell) (j : ℕ) (v : WireId) → Stands net path base m
-      → slice_get m.cells place ≡ Some cell → slice_get (driven cell) j ≡ Some v → Source net flat path base m v.number
+  cell_source : (path : List ℕ) (base place : ℕ) (m : Module) (cell : Cell) (j : ℕ) (v : WireId) → InstanceAt net path base m
+      → slice_get m.cells place ≡ Some cell → slice_get (driven cell) j ≡ Some v → WireSource net flat path base m v.number
   cell_source path base place m (Use k reads drives) j v st here d = use_source path base place m k reads drives j v st here d
   cell_source path base place m cell j v st here d = own_source path base place m cell j v tt st here d
 
-  pub source : (path : List ℕ) (base : ℕ) (m : Module) (w : ℕ) → Stands net path base m → w < length m.widths → Source net flat path base m w
+  pub source : (path : List ℕ) (base : ℕ) (m : Module) (w : ℕ) → InstanceAt net path base m → w < length m.widths → WireSource net flat path base m w
   source path base m w st l = elim (cases_lt w m.inputs) [
     | inl h ↦ input_source path base m w st.begins st.at h
     | inr h ↦
@@ -185,7 +185,7 @@ module _ (net : Net) (flat : Flat) (wf : WellFormed net) (f : IsFlatOf net flat)
         let hold : DriversHold net inst.i m = wf.rules inst.i m inst.found Driver in
         let at = hold.drivers.driven w h l in
         let d = driven_in m.cells at.0 w at.1 in
-        subst (λ n. Source net flat path base m n) d.number (cell_source path base d.place m d.cell d.j d.v st d.stands d.drives)
+        subst (λ n. WireSource net flat path base m n) d.number (cell_source path base d.place m d.cell d.j d.v st d.stands d.drives)
   ]
 
   -- a flat wire is driven by one flat cell, and no input is
@@ -206,12 +206,12 @@ module _ (net : Net) (flat : Flat) (wf : WellFormed net) (f : IsFlatOf net flat)
       omega (arith, wire_of_cell c n has t, ports.inputs)
 
   -- a flat cell that drives the flat wire of a wire is the instance's own, or passes bits on
-  pub by_flat_cell : (path : List ℕ) (base : ℕ) (m : Module) (w n : ℕ) (c : Cell) → Stands net path base m → w < length m.widths
-      → HasCell flat c → target c ≡ Some n → n ≡ base + w → IsOwn net path base m w c ⊎ IsPassed net path w c
+  pub by_flat_cell : (path : List ℕ) (base : ℕ) (m : Module) (w n : ℕ) (c : Cell) → InstanceAt net path base m → w < length m.widths
+      → HasCell flat c → target c ≡ Some n → n ≡ base + w → OwnCell net path base m w c ⊎ PassedOn net path w c
   by_flat_cell path base m w n c st l has t e = from (source path base m w st l)
     where
-      from : Source net flat path base m w → IsOwn net path base m w c ⊎ IsPassed net path w c
+      from : WireSource net flat path base m w → OwnCell net path base m w c ⊎ PassedOn net path w c
       from (top_input p zero_base within) = absurd (drives_no_input c n has t (omega arith))
       from (flat_cell d there s either) =
           let same = same_cell d c n there has (s ∙ ap Some (sym e)) t in
-          subst (λ x. IsOwn net path base m w x ⊎ IsPassed net path w x) same either
+          subst (λ x. OwnCell net path base m w x ⊎ PassedOn net path w x) same either

@@ -7,11 +7,11 @@ ghost use Rattle.netlist.specs.NetValue.{NetValue};
 ghost use Rattle.netlist.specs.declared.net.Flat.{Flat};
 ghost use Rattle.netlist.specs.declared.net.Module.{Module};
 ghost use Rattle.netlist.specs.declared.net.Net.{Net};
-ghost use Rattle.use_laws.specs.ValueIn.{BeginsAt, IsAt, ValueIn};
+ghost use Rattle.use_laws.specs.ValueIn.{BeginsAt, IsModuleAt, ValueIn};
 
 /// In a well formed net a wire of an instance has the bits that its flat wire has in the flat net.
 pub fn bits_through_uses()
     ensures { (net : Net) (flat : Flat) (path : List ℕ) (m : Module) (base : ℕ) (h : List Event) (w : ℕ) (bits : List Bool) →
-        WellFormed net → IsFlatOf net flat → IsAt net path m → BeginsAt net path base → w < length m.widths
+        WellFormed net → IsFlatOf net flat → IsModuleAt net path m → BeginsAt net path base → w < length m.widths
         → (ValueIn net path h w bits ↔ NetValue flat h (base + w) bits) }
 {}
