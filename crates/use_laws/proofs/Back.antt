@@ -29,7 +29,7 @@ use Rattle.use_laws.proofs.Instances.{instance_of}
 use Rattle.use_laws.proofs.Moved.{keeps_unmoved, memory_of, moved_memory, operator_moved, read_by_moved, register_of}
 use Rattle.use_laws.proofs.Sources.{OwnCell, PassedOn, WireSource, InstanceAt, by_flat_cell, drives_no_input, flat_cell, source, top_input}
 
--- one wire that is read
+-- what is read of no wire, and of one
 no_reading : (net : Net) (path : List ℕ) (h : List Event) (values : List (List Bool)) → ReadIn net path h [] values → values ≡ []
 no_reading net _ _ _ (net_of.read_none path h) = refl
 
@@ -100,6 +100,7 @@ module _ (net : Net) (flat : Flat) (wf : WellFormed net) (f : IsFlatOf net flat)
   Rest h wires values = (path : List ℕ) (base : ℕ) (m : Module) (inner : List WireId) → InstanceAt net path base m
       → AllByRecursion (IsWire m.widths) inner → wires ≡ map (wire_from base) inner → ReadIn net path h inner values
 
+  -- an input of the flat net is a wire of the top, since every other flat wire is driven
   input_back : (path : List ℕ) (base : ℕ) (m : Module) (w n : ℕ) (present : Event) (past : List Event) (bits : List Bool) → InstanceAt net path base m
       → w < length m.widths → n ≡ base + w → n < length flat.ports.inputs → slice_get present.inputs n ≡ Some bits
       → ValueIn net path (present ∷ past) w bits
@@ -114,6 +115,7 @@ module _ (net : Net) (flat : Flat) (wf : WellFormed net) (f : IsFlatOf net flat)
           let inside : n < length net.ports.inputs = subst (λ ports. n < length ports.inputs) f.ports within in
           absurd (drives_no_input net flat wf f c n has (t ∙ ap Some (sym e)) inside)
 
+  -- a flat cell that keeps nothing is one of the module, or a copy of a wire of another instance
   operated_back : (path : List ℕ) (base : ℕ) (m : Module) (w : ℕ) (c : Cell) (h : List Event) (values : List (List Bool)) → InstanceAt net path base m
       → KeepsNothing c → Rest h (read_by c) values → OwnCell net path base m w c ⊎ PassedOn net path w c
       → ValueIn net path h w (operator c values)
@@ -129,6 +131,7 @@ module _ (net : Net) (flat : Flat) (wf : WellFormed net) (f : IsFlatOf net flat)
       let gives : operator c values ≡ one.bits = ap (λ x. operator x values) p.«is» ∙ ap (λ xs. operator (Copy p.to (wire_at (p.base + p.from))) xs) one.«is» in
       subst (λ bits. ValueIn net path h w bits) (sym gives) (p.gives h one.bits one.value)
 
+  -- a wire has the width of its flat wire
   width_back : (path : List ℕ) (base : ℕ) (m : Module) (w n : ℕ) (v : WireId) (width : ℕ) → InstanceAt net path base m → w < length m.widths → n ≡ base + w
       → v.number ≡ w → slice_get flat.widths n ≡ Some width → HasWidthAt net path v width
   width_back path base m w n v width st l e same wide =
@@ -136,6 +139,7 @@ module _ (net : Net) (flat : Flat) (wf : WellFormed net) (f : IsFlatOf net flat)
       let here = inner_width net flat base m w width wf f (instance_of net path base m st.begins st.at) l there in
       record { m = m; at = st.at; wide = subst (λ k. slice_get m.widths k ≡ Some width) (sym same) here }
 
+  -- a flat register and a flat RAM are those of the module
   register_back : (path : List ℕ) (base : ℕ) (m : Module) (w : ℕ) (v a : WireId) (domain : DomId) (initial : List Bool) → InstanceAt net path base m
       → w < length m.widths → HasCell flat (Reg v domain initial a) → v.number ≡ base + w → IsRegisterAt net path base m w a domain initial
   register_back path base m w v a domain initial st l has e =
