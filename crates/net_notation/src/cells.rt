@@ -33,14 +33,32 @@ fn wires(
     Ok(Seq::from(wires))
 }
 
-// The bits of a group: how many, and their number.
-fn bits(alloc: Global, groups: &[Vec<u32>], group: usize) -> Result<Bits, Or<Unread>> {
-    let width = field(groups, group, 0)?;
-    let number = field(groups, group, 1)?;
+// Bits that have this number.
+fn numbered(alloc: Global, width: u32, number: u32) -> Result<Bits, Or<Unread>> {
     match Bits::of_number(alloc, width, u128::from(number)) {
         Ok(bits) => Ok(bits),
         Err(_) => Err(Or::Fault(Unread)),
     }
+}
+
+// The bits of a group: how many, and their number, of which each number behind the first gives 32 further bits.
+fn bits(alloc: Global, groups: &[Vec<u32>], group: usize) -> Result<Bits, Or<Unread>> {
+    let width = field(groups, group, 0)?;
+    let first = field(groups, group, 1)?;
+    let numbers = groups.get(group).ok_or(Or::Fault(Unread))?;
+    let behind = numbers.len().min(1_000) as u32 - 2;
+    let Some(begins) = width.checked_sub(32 * behind) else {
+        return Err(Or::Fault(Unread));
+    };
+    let mut bits = numbered(alloc, begins.min(1_000), first)?;
+    for number in numbers.iter().skip(2) {
+        let low = numbered(alloc, 32, *number)?;
+        if bits.len() > 10_000 {
+            return Err(Or::Fault(Unread));
+        }
+        bits = bits.join(alloc, &low)?;
+    }
+    Ok(bits)
 }
 
 // The bits of each group but the first.

@@ -5,7 +5,8 @@
 //! | the ports | `DOMAINS:RESETS:INPUTS:OUTPUTS`, the inputs and the outputs with commas between |
 //! | a port | `NAME DOMAIN WIDTH` |
 //! | a module | `INPUTS:WIDTHS:OUTPUTS:CELLS`, the cells with commas between |
-//! | a cell | its kind, the wires that it drives and reads and its other numbers; behind `;` bits as `WIDTH NUMBER` |
+//! | a cell | its kind, the wires that it drives and reads and its other numbers; behind `;` bits |
+//! | bits | `WIDTH NUMBER`; a number of more than 32 bits in parts, of which each behind the first has 32 bits |
 //! | a RAM | `Ram WIRE DOMAIN ADDRESS ENABLE PLACE VALUE`, and its words |
 //! | a use | `Use MODULE;READS;DRIVES` |
 #![tactic(auto)]
