@@ -1,13 +1,9 @@
 -- The parts of a net, one after the other.
 use Rattle.std.proofs.Common.{◌≡◌, ℕ, zero, suc, ◌+◌, ◌<◌, ◌≤◌, List, [], ◌∷◌, ◌++◌, length, get_or, take, min, refl, sym, ap, ◌∙◌, arith, add-zero}
 use Rattle.std.proofs.lemmas.List.{take_more, length-take-le}
-use Rattle.std.specs.List.{AllByRecursion}
 use Rattle.flat_form.specs.FlatNet.{cell_of, cells_of, input_ports, port}
 use Rattle.flat_form.specs.declared.flat.Binding.{Binding}
 use Rattle.flat_form.specs.declared.flat.Parameter.{Parameter}
-use Rattle.flat_form.specs.declared.flat.Right.{Right}
-use Rattle.flat_form.specs.declared.flat.Right.TheVariants.{Same, Register, Sum}
-use Rattle.verilog_text.specs.Text.{HasLine}
 
 cells_push : (names : List (List ℕ)) (k : ℕ) (xs : List Binding) (x : Binding) → cells_of names k (xs ++ x ∷ []) ≡ cells_of names k xs ++ cell_of names (k + length xs) x.right ∷ []
 cells_push names k [] x = ap (λ n. cell_of names n x.right ∷ []) (sym (add-zero k))
@@ -41,13 +37,3 @@ ports_all (p ∷ ps) [] zero le = refl
 ports_all (p ∷ ps) [] (suc i) le = refl
 ports_all (p ∷ ps) (n ∷ ns) zero le = absurd (omega arith)
 ports_all (p ∷ ps) (n ∷ ns) (suc i) le = ap (λ qs. port n p.width ∷ qs) (ports_all ps ns i (omega arith))
-
--- each cell of a flat description has a line
-pub cells_have_lines : (names : List (List ℕ)) (k : ℕ) (bs : List Binding) → AllByRecursion HasLine (cells_of names k bs)
-cells_have_lines names k [] = tt
-cells_have_lines names k (b ∷ bs) = (line_of b.right, cells_have_lines names (k + 1) bs)
-  where
-    line_of : (right : Right) → HasLine (cell_of names k right)
-    line_of (Same y) = tt
-    line_of (Register bits y) = tt
-    line_of (Sum y z) = tt

@@ -3,7 +3,6 @@ ghost use Rattle.std.specs.Prelude.{◌≡◌, ℕ, ◌+◌, ◌^◌, ◌<◌, L
 ghost use Rattle.flat_form.specs.FlatNet.{cell_of, cells_of, input_ports, module_of, net_of, port, ports_of, wire_of};
 ghost use Rattle.flat_form.specs.Holds.{Holds, names_of, signals};
 ghost use Rattle.flat_form.specs.Tables.{Tables, texts};
-ghost use Rattle.verilog_text.specs.Text.{HasText};
 
 use crate::flat::{Binding, FlatText, Parameter, Right};
 use crate::owned::owned;
@@ -124,7 +123,6 @@ fn module_of(alloc: Global, f: &FlatText, table: Table) -> Result<Module, NoMemo
 pub fn net(alloc: Global, f: &FlatText) -> Result<Net, NoMemory>
     requires { Holds f.now }
     ensures net { IfOk result (λ n. n ≡ net_of f.now) }
-    ensures text { IfOk result (λ n. HasText n) }
 {
     let Some(table) = table_of(alloc, f)? else {
         unreachable!();

@@ -1,8 +1,7 @@
 //! Rows of texts: those that are flat, each with the Verilog text of its net, and others.
 #![tactic(auto)]
 
-ghost use Rattle.std.specs.Prelude.{◌<◌, ◌^◌, length, IfOk};
-ghost use Rattle.verilog_text.specs.Text.{HasText};
+ghost use Rattle.std.specs.Prelude.{◌<◌, ◌^◌, length};
 
 use chw_base::Or;
 use flat_form::{NotFlat, net, read};
@@ -38,7 +37,6 @@ fn text_of(alloc: Global, text: &str) -> Result<Vec<u8>, Or<NotFlat>>
 
 fn net_of(alloc: Global, text: &str) -> Result<Net, Or<NotFlat>>
     requires { length text.now < 2 ^ 32 }
-    ensures { IfOk result HasText }
 {
     let flat = read(alloc, text.as_bytes())?;
     Ok(net(alloc, &flat)?)

@@ -1,6 +1,7 @@
 //! Graphs, and what `order_of` finds in them.
 use chw_base::{NoMemory, Or};
 use graph_order::{Ordering, order_of};
+use net_notation::groups_of;
 use row_tables::{Unread, put, put_number};
 use std::alloc::{AllocError, Global};
 
@@ -8,25 +9,11 @@ use std::alloc::{AllocError, Global};
 const CHAIN: u32 = 100_000;
 
 // The graph of a text: nodes are parted by semicolons, the numbers that one names by spaces.
-pub(crate) fn graph(alloc: Global, text: &str) -> Result<Vec<Vec<u32>>, Or<Unread>> {
-    let mut graph = Vec::new(alloc);
-    if text != "none" {
-        for node in text.split(';') {
-            graph.push(names(alloc, node)?)?;
-        }
+fn graph(alloc: Global, text: &str) -> Result<Vec<Vec<u32>>, Or<Unread>> {
+    if text == "none" {
+        return Ok(Vec::new(alloc));
     }
-    Ok(graph)
-}
-
-pub(crate) fn names(alloc: Global, node: &str) -> Result<Vec<u32>, Or<Unread>> {
-    let mut names = Vec::new(alloc);
-    for word in node.split_whitespace() {
-        let Ok(name) = word.parse::<u32>() else {
-            return Err(Or::Fault(Unread));
-        };
-        names.push(name)?;
-    }
-    Ok(names)
+    groups_of(alloc, text)
 }
 
 // The nodes that are found, and whether they are in order.

@@ -1,3 +1,4 @@
 pub mod Drivers
-pub mod Header
 pub mod Parts
+pub mod Roles
+pub mod Scopes

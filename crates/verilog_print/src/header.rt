@@ -1,129 +1,108 @@
 //! The list of ports in a module's header.
-ghost use Rattle.std.specs.Prelude.{◌≡◌, ◌++◌, Bool, List, map, if◌then◌else◌, codes, false, OnOk};
-ghost use Rattle.verilog_text.specs.Text.{clock_item, clock_items, domain_items, reset_item, input_item, output_item, header_items, commas};
-ghost use Rattle.verilog_print.specs.Header.{comma_if, items_text};
+ghost use Rattle.std.specs.Prelude.{◌≡◌, ◌++◌, take, slice_index_or, OnOk};
+ghost use Rattle.verilog_text.specs.Text.{commas, header_items, input_item, numbered, output_item, width_in};
+ghost use Rattle.verilog_print.specs.Parts.{items_text};
+ghost use Rattle.verilog_print.specs.Scopes.{input_in, output_in, scope_of};
 
+use crate::clocks::{Role, put_clocks};
 use crate::names::{put_input, put_output};
-use crate::pieces::{put, put_range};
-use chw_base::{Name, NoMemory};
-use chw_clock::{Port, Ports};
-
-/// Writes a comma and a space where an item stands before.
-fn put_comma(out: &mut Vec<u8>, before: bool) -> Result<(), NoMemory>
-    ensures { OnOk result (out.new.items ≡ out.old.items ++ comma_if before) }
-{
-    if before {
-        put(out, b", ")?;
-    }
-    Ok(())
-}
-
-/// Writes the clock of a domain as an item of the header.
-fn put_clock_item(out: &mut Vec<u8>, domain: &Name) -> Result<(), NoMemory>
-    ensures { OnOk result (out.new.items ≡ out.old.items ++ clock_item domain.now) }
-{
-    put(out, b"input clk_")?;
-    put(out, domain.as_slice())?;
-    Ok(())
-}
+use crate::pieces::{put, put_comma, put_range};
+use crate::scope::Scope;
+use chw_base::{NoMemory, WireId};
+use netlist::Module;
 
 /// Writes an input as an item of the header.
-fn put_input_item(out: &mut Vec<u8>, ports: &Ports, port: &Port) -> Result<(), NoMemory>
-    ensures { OnOk result (out.new.items ≡ out.old.items ++ input_item ports.now.domains port.now) }
+fn put_input_item(
+    out: &mut Vec<u8>,
+    scope: &Scope,
+    number: usize,
+    width: u32,
+) -> Result<(), NoMemory>
+    ensures { OnOk result (out.new.items ≡ out.old.items ++ input_item width (input_in scope.now number)) }
 {
     put(out, b"input ")?;
-    put_range(out, port.width)?;
+    put_range(out, width)?;
     put(out, b" ")?;
-    put_input(out, ports, port)?;
+    put_input(out, scope, number)?;
     Ok(())
 }
 
 /// Writes an output as an item of the header.
-fn put_output_item(out: &mut Vec<u8>, ports: &Ports, port: &Port) -> Result<(), NoMemory>
-    ensures { OnOk result (out.new.items ≡ out.old.items ++ output_item ports.now.domains port.now) }
+fn put_output_item(
+    out: &mut Vec<u8>,
+    scope: &Scope,
+    number: usize,
+    width: u32,
+) -> Result<(), NoMemory>
+    ensures { OnOk result (out.new.items ≡ out.old.items ++ output_item width (output_in scope.now number)) }
 {
     put(out, b"output ")?;
-    put_range(out, port.width)?;
+    put_range(out, width)?;
     put(out, b" ")?;
-    put_output(out, ports, port)?;
+    put_output(out, scope, number)?;
     Ok(())
 }
 
-/// Writes the reset of a domain as an item of the header.
-fn put_reset_item(out: &mut Vec<u8>, domain: &Name) -> Result<(), NoMemory>
-    ensures { OnOk result (out.new.items ≡ out.old.items ++ reset_item domain.now) }
+/// The first of these widths, as many as the module has inputs.
+fn input_widths(body: &Module) -> &[u32]
+    ensures { result.now ≡ take body.now.inputs body.now.widths }
 {
-    put(out, b"input rst_")?;
-    put(out, domain.as_slice())?;
-    Ok(())
-}
-
-/// Writes the clock of a domain and its reset, where it has one; `before` says whether an item stands before them.
-fn put_domain_items(
-    out: &mut Vec<u8>,
-    ports: &Ports,
-    number: usize,
-    domain: &Name,
-    before: bool,
-) -> Result<(), NoMemory>
-    ensures { OnOk result (out.new.items ≡ out.old.items ++ items_text before (domain_items ports.now.resets number domain.now)) }
-{
-    put_comma(out, before)?;
-    put_clock_item(out, domain)?;
-    if ports.has_reset(number) {
-        put_comma(out, true)?;
-        put_reset_item(out, domain)?;
+    let widths = body.widths.as_slice();
+    let count = body.inputs as usize;
+    if count < widths.len() {
+        &widths[..count]
+    } else {
+        widths
     }
-    Ok(())
 }
 
-/// Writes the clocks, each with its reset after it where its domain has one.
-fn put_clocks(out: &mut Vec<u8>, ports: &Ports) -> Result<(), NoMemory>
-    ensures { OnOk result (out.new.items
-        ≡ out.old.items ++ items_text false (clock_items ports.now.resets 0 ports.now.domains)) }
+/// The width of a wire, and 0 where there is none of this number.
+fn width_of(body: &Module, wire: WireId) -> u32
+    ensures { result ≡ width_in body.now wire }
 {
-    for (number, domain) in ports.domains.as_slice().iter().enumerate() {
-        put_domain_items(out, ports, number, domain, number > 0)?;
+    match body.widths.as_slice().get(wire.number as usize) {
+        Some(width) => *width,
+        None => 0,
     }
-    Ok(())
 }
 
 /// Writes the inputs; `after` says whether an item stands before them.
-fn put_inputs(out: &mut Vec<u8>, ports: &Ports, after: bool) -> Result<(), NoMemory>
+fn put_inputs(out: &mut Vec<u8>, scope: &Scope, widths: &[u32], after: bool) -> Result<(), NoMemory>
     ensures { OnOk result (out.new.items
-        ≡ out.old.items ++ items_text after (map (input_item ports.now.domains) ports.now.inputs)) }
+        ≡ out.old.items ++ items_text after (numbered (λ k width. input_item width (input_in scope.now k)) 0 widths.now)) }
 {
     let mut before = after;
-    for port in ports.inputs.as_slice() {
+    for (number, width) in widths.iter().enumerate() {
         put_comma(out, before)?;
-        put_input_item(out, ports, port)?;
+        put_input_item(out, scope, number, *width)?;
         before = true;
     }
     Ok(())
 }
 
 /// Writes the outputs; `after` says whether an item stands before them.
-fn put_outputs(out: &mut Vec<u8>, ports: &Ports, after: bool) -> Result<(), NoMemory>
-    ensures { OnOk result (out.new.items
-        ≡ out.old.items ++ items_text after (map (output_item ports.now.domains) ports.now.outputs)) }
+fn put_outputs(out: &mut Vec<u8>, scope: &Scope, body: &Module, after: bool) -> Result<(), NoMemory>
+    ensures { OnOk result (out.new.items ≡ out.old.items
+        ++ items_text after (numbered (λ k w. output_item (width_in body.now w) (output_in scope.now k)) 0 body.now.outputs)) }
 {
     let mut before = after;
-    for port in ports.outputs.as_slice() {
+    for (number, wire) in body.outputs.as_slice().iter().enumerate() {
         put_comma(out, before)?;
-        put_output_item(out, ports, port)?;
+        put_output_item(out, scope, number, width_of(body, *wire))?;
         before = true;
     }
     Ok(())
 }
 
 /// Writes the items of the header: the clocks with their resets, the inputs and the outputs.
-pub fn put_header(out: &mut Vec<u8>, ports: &Ports) -> Result<(), NoMemory>
-    ensures { OnOk result (out.new.items ≡ out.old.items ++ commas (header_items ports.now)) }
+pub fn put_header(out: &mut Vec<u8>, scope: &Scope, body: &Module) -> Result<(), NoMemory>
+    ensures { OnOk result (out.new.items ≡ out.old.items ++ commas (header_items (scope_of scope.now) body.now)) }
 {
-    let clocks = !ports.domains.is_empty();
-    let inputs = !ports.inputs.is_empty();
-    put_clocks(out, ports)?;
-    put_inputs(out, ports, clocks)?;
-    put_outputs(out, ports, clocks || inputs)?;
+    let inputs = input_widths(body);
+    let clocks = !scope.ports.domains.is_empty();
+    let some = clocks | !inputs.is_empty();
+    put_clocks(out, Role::Declared, scope.ports)?;
+    put_inputs(out, scope, inputs, clocks)?;
+    put_outputs(out, scope, body, some)?;
     Ok(())
 }

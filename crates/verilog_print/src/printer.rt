@@ -1,16 +1,18 @@
 //! A net's whole text.
-ghost use Rattle.std.specs.Prelude.{◌≡◌, ◌++◌, OnOk, IfOk};
-ghost use Rattle.std.specs.List.{flat_map, AllByRecursion};
-ghost use Rattle.verilog_text.specs.Text.{HasLine, HasText, assign_line, cell_line, name_in, net_text, output_lines, top_scope, top_text};
-ghost use Rattle.verilog_text.specs.Names.{output_name};
+ghost use Rattle.std.specs.Prelude.{◌≡◌, ◌++◌, ◌<◌, length, OnOk, IfOk};
+ghost use Rattle.std.specs.List.{concat};
+ghost use Rattle.verilog_text.specs.Text.{assign_line, cell_line, module_text, name_in, net_text, numbered, output_lines, text_of_module};
+ghost use Rattle.verilog_print.specs.Parts.{first_line};
+ghost use Rattle.verilog_print.specs.Scopes.{output_in, scope_of, title};
 
 use crate::cells::put_cell;
 use crate::header::put_header;
-use crate::names::{put_name, put_output};
+use crate::names::{put_name, put_output, put_title};
 use crate::pieces::put;
+use crate::scope::Scope;
 use crate::wires::put_declarations;
 use chw_base::{NoMemory, WireId};
-use chw_clock::{Port, Ports};
+use chw_clock::Ports;
 use netlist::{Cell, Module, Net};
 use std::alloc::Global;
 
@@ -18,75 +20,114 @@ use std::alloc::Global;
 fn put_cells(
     alloc: Global,
     out: &mut Vec<u8>,
-    ports: &Ports,
+    scope: &Scope,
     cells: &[Cell],
 ) -> Result<(), NoMemory>
-    requires { AllByRecursion HasLine cells.now }
-    ensures { OnOk result (out.new.items ≡ out.old.items ++ flat_map (cell_line (top_scope ports.now)) cells.now) }
+    ensures { OnOk result (out.new.items ≡ out.old.items ++ concat (numbered (cell_line (scope_of scope.now)) 0 cells.now)) }
 {
-    for cell in cells {
-        put_cell(alloc, out, ports, cell)?;
+    for (place, cell) in cells.iter().enumerate() {
+        put_cell(alloc, out, scope, place, cell)?;
     }
     Ok(())
 }
 
-/// Writes the assignment of an output.
+/// Writes the assignment of the output of this number.
 fn put_output_line(
     out: &mut Vec<u8>,
-    ports: &Ports,
-    port: &Port,
+    scope: &Scope,
+    number: usize,
     wire: WireId,
 ) -> Result<(), NoMemory>
     ensures { OnOk result (out.new.items
-        ≡ out.old.items ++ assign_line (output_name ports.now.domains port.now) (name_in (top_scope ports.now) wire)) }
+        ≡ out.old.items ++ assign_line (output_in scope.now number) (name_in (scope_of scope.now) wire)) }
 {
     put(out, b"  assign ")?;
-    put_output(out, ports, port)?;
+    put_output(out, scope, number)?;
     put(out, b" = ")?;
-    put_name(out, ports, wire)?;
+    put_name(out, scope, wire)?;
     put(out, b";\n")?;
     Ok(())
 }
 
 /// Writes one assignment for each output.
-fn put_output_lines(out: &mut Vec<u8>, ports: &Ports, wires: &[WireId]) -> Result<(), NoMemory>
-    ensures { OnOk result (out.new.items ≡ out.old.items ++ output_lines (top_scope ports.now) ports.now.outputs wires.now) }
+fn put_output_lines(out: &mut Vec<u8>, scope: &Scope, outputs: &[WireId]) -> Result<(), NoMemory>
+    ensures { OnOk result (out.new.items ≡ out.old.items ++ output_lines (scope_of scope.now) outputs.now) }
 {
-    for (place, port) in ports.outputs.as_slice().iter().enumerate() {
-        let Some(wire) = wires.get(place) else {
-            return Ok(());
-        };
-        put_output_line(out, ports, port, *wire)?;
+    for (number, wire) in outputs.iter().enumerate() {
+        put_output_line(out, scope, number, *wire)?;
     }
     Ok(())
 }
 
-/// Writes the text of the top.
-fn put_top(alloc: Global, out: &mut Vec<u8>, ports: &Ports, top: &Module) -> Result<(), NoMemory>
-    requires { AllByRecursion HasLine top.now.cells }
-    ensures { OnOk result (out.new.items ≡ out.old.items ++ top_text ports.now top.now) }
+/// Writes the first line of a module.
+fn put_first_line(
+    out: &mut Vec<u8>,
+    scope: &Scope,
+    number: usize,
+    body: &Module,
+) -> Result<(), NoMemory>
+    ensures { OnOk result (out.new.items
+        ≡ out.old.items ++ first_line (scope_of scope.now) (title scope.now.is_top number) body.now) }
 {
-    put(out, b"module chw_top (")?;
-    put_header(out, ports)?;
+    put(out, b"module ")?;
+    put_title(out, scope.is_top, number)?;
+    put(out, b" (")?;
+    put_header(out, scope, body)?;
     put(out, b");\n")?;
-    put_declarations(alloc, out, top)?;
-    put_cells(alloc, out, ports, top.cells.as_slice())?;
-    put_output_lines(out, ports, top.outputs.as_slice())?;
+    Ok(())
+}
+
+/// Writes the text of a module.
+fn put_module(
+    alloc: Global,
+    out: &mut Vec<u8>,
+    scope: &Scope,
+    number: usize,
+    body: &Module,
+) -> Result<(), NoMemory>
+    ensures { OnOk result (out.new.items
+        ≡ out.old.items ++ module_text (scope_of scope.now) (title scope.now.is_top number) body.now) }
+{
+    put_first_line(out, scope, number, body)?;
+    put_declarations(alloc, out, body)?;
+    put_cells(alloc, out, scope, body.cells.as_slice())?;
+    put_output_lines(out, scope, body.outputs.as_slice())?;
     put(out, b"endmodule\n")?;
     Ok(())
 }
 
-/// The Verilog text of a net of one module whose cells have a line each.
+/// Writes the text of the module of this number, of so many.
+fn put_module_of(
+    alloc: Global,
+    out: &mut Vec<u8>,
+    ports: &Ports,
+    count: usize,
+    number: usize,
+    body: &Module,
+) -> Result<(), NoMemory>
+    requires { number < count }
+    ensures { OnOk result (out.new.items ≡ out.old.items ++ text_of_module ports.now count number body.now) }
+{
+    let scope = Scope {
+        ports,
+        is_top: number + 1 == count,
+        inputs: body.inputs,
+    };
+    put_module(alloc, out, &scope, number, body)?;
+    Ok(())
+}
+
+/// The Verilog text of a net.
 ///
-/// The header comes first, then the declarations of the wires that are no inputs, the lines of the cells and the assignments of the
-/// outputs, each in order. `NoMemory` comes where memory was wanting.
+/// The modules come in order. In each the header is first, then the declarations of the wires that are no inputs, the lines of the
+/// cells and the assignments of the outputs, each in order. `NoMemory` comes where memory was wanting.
 pub fn print(alloc: Global, net: &Net) -> Result<Vec<u8>, NoMemory>
-    requires { HasText net.now }
     ensures { IfOk result (λ text. text.items ≡ net_text net.now) }
 {
     let mut out = Vec::new(alloc);
-    if let [top] = net.modules.as_slice() {
-        put_top(alloc, &mut out, &net.ports, top)?;
+    let modules = net.modules.as_slice();
+    for (number, body) in modules.iter().enumerate() {
+        put_module_of(alloc, &mut out, &net.ports, modules.len(), number, body)?;
     }
     Ok(out)
 }

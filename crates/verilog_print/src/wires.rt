@@ -1,13 +1,14 @@
 //! The declarations of wires, by the cells that drive them.
 ghost use Rattle.std.specs.Prelude.{◌≡◌, ◌++◌, ◌==◌, ◌<◌, ℕ, length, drop, slice_index_or, if◌then◌else◌, Some, None, OnOk, IfOk};
 ghost use Rattle.std.specs.List.{list_any};
-ghost use Rattle.verilog_text.specs.Text.{Scope, declaration, declarations};
+ghost use Rattle.verilog_text.specs.Text.{declaration, declarations, memory_declaration, register_declaration, wire_declaration};
 ghost use Rattle.netlist.specs.Wires.{driven, driver};
-ghost use Rattle.verilog_print.specs.Parts.{register_declaration, wire_declaration};
+ghost use Rattle.verilog_print.specs.Parts.{register_start};
+ghost use Rattle.netlist.specs.NetValue.{zeros};
 ghost use Rattle.verilog_print.specs.Drivers.{cell_at};
 
-use crate::names::put_wire;
-use crate::pieces::{put, put_literal, put_range};
+use crate::names::{put_memory, put_wire};
+use crate::pieces::{put, put_literal, put_low_bits, put_number, put_range};
 use chw_base::{NoMemory, WireId};
 use chw_clock::Bits;
 use netlist::{Cell, Module};
@@ -59,7 +60,7 @@ fn drivers(alloc: Global, cells: &[Cell], count: usize) -> Result<Vec<Option<usi
     Ok(table)
 }
 
-/// Writes the declaration of a wire that no register drives.
+/// Writes the declaration of a wire that neither a register nor a RAM drives.
 fn declare_wire(out: &mut Vec<u8>, wire: usize, width: u32) -> Result<(), NoMemory>
     ensures { OnOk result (out.new.items ≡ out.old.items ++ wire_declaration wire width) }
 {
@@ -71,9 +72,20 @@ fn declare_wire(out: &mut Vec<u8>, wire: usize, width: u32) -> Result<(), NoMemo
     Ok(())
 }
 
+/// Writes the start of a register's declaration, up to its initial bits.
+fn start_register(out: &mut Vec<u8>, wire: usize, width: u32) -> Result<(), NoMemory>
+    ensures { OnOk result (out.new.items ≡ out.old.items ++ register_start wire width) }
+{
+    put(out, b"  reg ")?;
+    put_range(out, width)?;
+    put(out, b" ")?;
+    put_wire(out, wire)?;
+    put(out, b" = ")?;
+    Ok(())
+}
+
 /// Writes the declaration of a register with its initial bits.
 fn declare_register(
-    alloc: Global,
     out: &mut Vec<u8>,
     wire: usize,
     width: u32,
@@ -81,13 +93,49 @@ fn declare_register(
 ) -> Result<(), NoMemory>
     ensures { OnOk result (out.new.items ≡ out.old.items ++ register_declaration wire width initial.now) }
 {
+    start_register(out, wire, width)?;
+    put_literal(out, initial)?;
+    put(out, b";\n")?;
+    Ok(())
+}
+
+/// Writes the declaration of what a RAM shows, which is zeros at first.
+fn declare_shown(alloc: Global, out: &mut Vec<u8>, wire: usize, width: u32) -> Result<(), NoMemory>
+    ensures { OnOk result (out.new.items ≡ out.old.items ++ register_declaration wire width (zeros width)) }
+{
+    start_register(out, wire, width)?;
+    put_low_bits(alloc, out, width, 0)?;
+    put(out, b";\n")?;
+    Ok(())
+}
+
+/// Writes the declaration of a memory of so many words.
+fn declare_memory(out: &mut Vec<u8>, wire: usize, width: u32, count: usize) -> Result<(), NoMemory>
+    ensures { OnOk result (out.new.items ≡ out.old.items ++ memory_declaration wire width count) }
+{
     put(out, b"  reg ")?;
     put_range(out, width)?;
     put(out, b" ")?;
-    put_wire(out, wire)?;
-    put(out, b" = ")?;
-    put_literal(alloc, out, initial)?;
-    put(out, b";\n")?;
+    put_memory(out, wire)?;
+    put(out, b" [0:")?;
+    put_number(out, count.saturating_sub(1))?;
+    put(out, b"];\n")?;
+    Ok(())
+}
+
+/// Writes the declarations of what a RAM of so many words shows, and of its memory.
+fn declare_ram(
+    alloc: Global,
+    out: &mut Vec<u8>,
+    wire: usize,
+    width: u32,
+    count: usize,
+) -> Result<(), NoMemory>
+    ensures { OnOk result (out.new.items ≡ out.old.items
+        ++ (register_declaration wire width (zeros width) ++ memory_declaration wire width count)) }
+{
+    declare_shown(alloc, out, wire, width)?;
+    declare_memory(out, wire, width, count)?;
     Ok(())
 }
 
@@ -100,28 +148,26 @@ fn declare(
     wire: usize,
     width: u32,
 ) -> Result<(), NoMemory>
-    ensures { (scope : Scope) →
-        OnOk result (out.new.items ≡ out.old.items ++ declaration scope (cell_at cells.now place) wire width) }
+    ensures { OnOk result (out.new.items ≡ out.old.items ++ declaration (cell_at cells.now place) wire width) }
 {
     let Some(place) = place else {
         return declare_wire(out, wire, width);
     };
     match cells.get(place) {
-        Some(Cell::Reg(_, _, initial, _)) => declare_register(alloc, out, wire, width, initial),
+        Some(Cell::Reg(_, _, initial, _)) => declare_register(out, wire, width, initial),
+        Some(Cell::Ram(_, _, words, _)) => declare_ram(alloc, out, wire, width, words.len()),
         _ => declare_wire(out, wire, width),
     }
 }
 
 /// Writes the declarations of all wires that are no inputs, in order.
-pub fn put_declarations(alloc: Global, out: &mut Vec<u8>, top: &Module) -> Result<(), NoMemory>
-    ensures { (scope : Scope) →
-        OnOk result (out.new.items
-        ≡ out.old.items ++ declarations scope top.now.cells top.now.inputs (drop top.now.inputs top.now.widths)) }
+pub fn put_declarations(alloc: Global, out: &mut Vec<u8>, body: &Module) -> Result<(), NoMemory>
+    ensures { OnOk result (out.new.items ≡ out.old.items ++ declarations body.now) }
 {
-    let cells = top.cells.as_slice();
-    let widths = top.widths.as_slice();
+    let cells = body.cells.as_slice();
+    let widths = body.widths.as_slice();
     let places = drivers(alloc, cells, widths.len())?;
-    for wire in top.inputs as usize..widths.len() {
+    for wire in body.inputs as usize..widths.len() {
         declare(alloc, out, cells, places[wire], wire, widths[wire])?;
     }
     Ok(())

@@ -1,33 +1,28 @@
-//! Writes the Verilog texts of two nets: an accumulator, and a net with each form of cell that has a text.
+//! Rows of nets, each with its Verilog text.
 #![tactic(auto)]
 
-ghost use Rattle.verilog_text.specs.Text.{HasText};
-
-mod nets;
-
-use chw_base::NoMemory;
-use netlist::Net;
-use nets::{accumulator, all_cells};
+use chw_base::Or;
+use net_notation::net_of;
+use row_tables::{Unread, print_rows, put_bytes};
 use std::alloc::Global;
-use std::io::{self, Print};
+use std::io;
 use verilog_print::print;
 
 fn main(rt: HostRuntime) -> io::Result<()> {
-    match texts(rt.alloc()) {
-        Ok(texts) => rt.write_all(texts.as_slice()),
-        Err(NoMemory) => println!(rt; "no memory"),
+    print_rows(&rt, answer)
+}
+
+// Writes what a call gives.
+fn answer(alloc: Global, call: &str, text: &str, out: &mut Vec<u8>) -> Result<(), Or<Unread>> {
+    match call {
+        "print" => put_printed(alloc, text, out),
+        _ => Err(Or::Fault(Unread)),
     }
 }
 
-fn texts(alloc: Global) -> Result<Vec<u8>, NoMemory> {
-    let mut texts = text(alloc, accumulator(alloc)?)?;
-    let second = text(alloc, all_cells(alloc)?)?;
-    texts.extend_from_slice(second.as_slice())?;
-    Ok(texts)
-}
-
-fn text(alloc: Global, net: Net) -> Result<Vec<u8>, NoMemory>
-    requires { HasText net }
-{
-    print(alloc, &net)
+// Writes the Verilog text of a net, a line feed as `{{0a}}`.
+fn put_printed(alloc: Global, text: &str, out: &mut Vec<u8>) -> Result<(), Or<Unread>> {
+    let net = net_of(alloc, text)?;
+    let printed = print(alloc, &net)?;
+    Ok(put_bytes(out, &printed)?)
 }

@@ -1,9 +1,11 @@
 -- what is written, with the assignments that are left, is all
 use Rattle.std.proofs.Common.{◌≡◌, ◌++◌, drop}
-use Rattle.verilog_text.specs.Text.{output_lines, top_scope}
+use Rattle.std.specs.List.{concat}
+use Rattle.verilog_text.specs.Text.{assign_line, name_in, numbered}
+use Rattle.verilog_print.specs.Scopes.{output_in, scope_of}
 use Rattle.verilog_print.proofs.printer.put_output_lines.Given as goal
 
-abbrev pub invariant-loop-place : goal.invariant-loop-place
-invariant-loop-place l =
-    l.out.items ++ output_lines (top_scope l.ports) (drop l.place l.ports.outputs) (drop l.place l.wires)
-    ≡ l.initial.out.items ++ output_lines (top_scope l.ports) l.ports.outputs l.wires
+abbrev pub invariant-loop-number : goal.invariant-loop-number
+invariant-loop-number l =
+    l.out.items ++ concat (numbered (λ k w. assign_line (output_in l.scope k) (name_in (scope_of l.scope) w)) l.number (drop l.number l.outputs))
+    ≡ l.initial.out.items ++ concat (numbered (λ k w. assign_line (output_in l.scope k) (name_in (scope_of l.scope) w)) 0 l.outputs)
