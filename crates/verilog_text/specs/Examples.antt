@@ -1,10 +1,11 @@
--- A text that is written freely, and the net that it denotes; and a text that denotes no net.
+-- A text that is written freely, and the net that it denotes; a text that denotes no net; and the
+-- printed text of a net of two modules.
 use Rattle.std.specs.Prelude.{ℕ, List, [], ◌∷◌, ◌++◌, codes}
 use Rattle.chw_base.specs.declared.index.DomId.{DomId}
 use Rattle.chw_base.specs.declared.index.WireId.{WireId}
 use Rattle.chw_bits.specs.Bits.{bits_of}
 use Rattle.chw_clock.specs.declared.event.Port.{Port}
-use Rattle.netlist.specs.declared.net.Cell.TheVariants.{Bin, Reg}
+use Rattle.netlist.specs.declared.net.Cell.TheVariants.{Bin, Const, Reg, Use}
 use Rattle.netlist.specs.declared.net.Net.{Net}
 use Rattle.netlist.specs.declared.net.Op2.TheVariants.{Add}
 use Rattle.verilog_text.specs.VText.{VText}
@@ -57,3 +58,41 @@ FreeText = VText free_text sums
 -- the text with an unknown name denotes no net
 abbrev pub UnknownName : Type 0
 UnknownName = (net : Net) → VText unknown_text net → ⊥
+
+-- a register that counts: it takes what a module gives, which adds 1
+abbrev pub counter : Net
+counter = record {
+  ports = record {
+    domains = codes "Sys" ∷ [];
+    resets = [];
+    inputs = [];
+    outputs = port (codes "o") ∷ [];
+  };
+  modules = record {
+    inputs = 1;
+    widths = 8 ∷ 8 ∷ 8 ∷ [];
+    outputs = wire 2 ∷ [];
+    cells = Const (wire 1) (bits_of 8 1) ∷ Bin (wire 2) Add (wire 0) (wire 1) ∷ [];
+  } ∷ record {
+    inputs = 0;
+    widths = 8 ∷ 8 ∷ [];
+    outputs = wire 1 ∷ [];
+    cells = Use (record { number = 0 }) (wire 1 ∷ []) (wire 0 ∷ [])
+        ∷ Reg (wire 1) (dom 0) (bits_of 8 0) (wire 0) ∷ [];
+  } ∷ [];
+}
+
+-- its printed text
+abbrev pub counter_text : List ℕ
+counter_text =
+    codes "module m0 (input clk_Sys, input [7:0] i0, output [7:0] y0);\n"
+    ++ (codes "  wire [7:0] w1;\n  wire [7:0] w2;\n"
+    ++ (codes "  assign w1 = 8'h01;\n  assign w2 = i0 + w1;\n  assign y0 = w2;\nendmodule\n"
+    ++ (codes "module chw_top (input clk_Sys, output [7:0] o_Sys_o);\n"
+    ++ (codes "  wire [7:0] w0;\n  reg [7:0] w1 = 8'h00;\n"
+    ++ (codes "  m0 u0 (.clk_Sys(clk_Sys), .i0(w1), .y0(w0));\n"
+    ++ codes "  always @(posedge clk_Sys) w1 <= w0;\n  assign o_Sys_o = w1;\nendmodule\n")))))
+
+-- the text denotes the counter
+abbrev pub CounterText : Type 0
+CounterText = VText counter_text counter
