@@ -4,7 +4,7 @@ use Rattle.std.specs.Prelude.{IsTrue, codes}
 use Rattle.std.proofs.lemmas.Bool.{and_parts, false≢true, or_cases}
 use Rattle.verilog_text.specs.VForms.{HasForm, Sort, Token, is_keyword, is_sign}
 use Rattle.verilog_text.specs.VForms.Sort.{keyword, number, sign, signed}
-use Rattle.verilog_text.specs.VTokens.{IsLongest, Placed, TokensFrom, is_white, placed}
+use Rattle.verilog_text.specs.VTokens.{IsLongest, Placed, TokensFrom, is_white, placed_token}
 use Rattle.verilog_text.specs.VTokens.Gap.{none, white}
 use Rattle.verilog_text.specs.VTokens.TokensFrom.{ends, next}
 use Rattle.verilog_text.proofs.Longest.{alone_longest, dark, is_alone, is_plain, is_token_byte, plain_longest, signed_longest, white_longest}
@@ -35,7 +35,7 @@ white_before b blank (ends place rest last) at same =
 white_before b blank (next place gap bytes rest sort tokens gaps longest splits) at same =
     let begin : place + length gap ≡ at + length (b ∷ gap) = omega (arith, same) in
     let first = next at (b ∷ gap) bytes rest sort tokens (white b gap blank gaps) longest (subst (λ (p : ℕ). TokensFrom (p + length bytes) rest tokens) begin splits) in
-    subst (λ (p : ℕ). TokensFrom at (b ∷ (gap ++ (bytes ++ rest))) (placed p sort bytes ∷ tokens)) (sym begin) first
+    subst (λ (p : ℕ). TokensFrom at (b ∷ (gap ++ (bytes ++ rest))) (placed_token p sort bytes ∷ tokens)) (sym begin) first
 
 pub reads_white : (b : ℕ) (text : List ℕ) (tokens : List Token) → IsTrue (is_white b) → Reads text tokens → Reads (b ∷ text) tokens
 reads_white b text tokens blank reads = record {
@@ -46,7 +46,7 @@ reads_white b text tokens blank reads = record {
 
 pub reads_token : (sort : Sort) (bytes rest : List ℕ) (tokens : List Token) → IsLongest sort bytes rest → Reads rest tokens → Reads (bytes ++ rest) (token sort bytes ∷ tokens)
 reads_token sort bytes rest tokens longest reads = record {
-  placed_at = λ at. placed (at + 0) sort bytes ∷ reads.placed_at (at + 0 + length bytes);
+  placed_at = λ at. placed_token (at + 0) sort bytes ∷ reads.placed_at (at + 0 + length bytes);
   splits = λ at. next at [] bytes rest sort (reads.placed_at (at + 0 + length bytes)) none longest (reads.splits (at + 0 + length bytes));
   tokens_are = λ at. ap (λ (l : List Token). token sort bytes ∷ l) (reads.tokens_are (at + 0 + length bytes));
 }

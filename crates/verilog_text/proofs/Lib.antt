@@ -1,4 +1,5 @@
 pub mod Chunks
+pub mod CounterShown
 pub mod Decoding
 pub mod DistinctNames
 pub mod ExamplesShown

@@ -6,7 +6,7 @@ use Rattle.std.proofs.lemmas.List.{length-append}
 use Rattle.chw_base.specs.Names.{AllOf, BeginsThen, is_digit, is_name_byte}
 use Rattle.verilog_text.specs.VForms.{HasForm, Sort, Token, begins_word, is_hex_digit, is_keyword, is_sign}
 use Rattle.verilog_text.specs.VForms.Sort.{keyword, literal, name, number, sign, signed}
-use Rattle.verilog_text.specs.VTokens.{HasNoEnd, InLine, IsLongest, Placed, TokensFrom, block_comment, is_white, line_comment, placed}
+use Rattle.verilog_text.specs.VTokens.{HasNoEnd, InLine, IsLongest, Placed, TokensFrom, block_comment, is_white, line_comment, placed_token}
 use Rattle.verilog_text.specs.VTokens.Gap.{block, none}
 use Rattle.verilog_text.specs.VTokens.TokensFrom.{ends, next}
 use Rattle.verilog_text.proofs.Chunks.{Reads, reads_token, reads_white, token}
@@ -40,8 +40,8 @@ block_before inside no_end (next place gap bytes rest sort tokens gaps longest s
     let begin : place + length gap ≡ at + length (block_comment inside ++ gap) = omega (arith, same, length-append (block_comment inside) gap) in
     let first = next at (block_comment inside ++ gap) bytes rest sort tokens (block inside gap no_end gaps) longest
     (subst (λ (p : ℕ). TokensFrom (p + length bytes) rest tokens) begin splits) in
-    subst (λ (t : List ℕ). TokensFrom at t (placed (place + length gap) sort bytes ∷ tokens)) (append_assoc (block_comment inside) gap (bytes ++ rest))
-    (subst (λ (p : ℕ). TokensFrom at ((block_comment inside ++ gap) ++ (bytes ++ rest)) (placed p sort bytes ∷ tokens)) (sym begin) first)
+    subst (λ (t : List ℕ). TokensFrom at t (placed_token (place + length gap) sort bytes ∷ tokens)) (append_assoc (block_comment inside) gap (bytes ++ rest))
+    (subst (λ (p : ℕ). TokensFrom at ((block_comment inside ++ gap) ++ (bytes ++ rest)) (placed_token p sort bytes ∷ tokens)) (sym begin) first)
 
 pub reads_block : (inside text : List ℕ) (tokens : List Token) → HasNoEnd inside → Reads text tokens → Reads (block_comment inside ++ text) tokens
 reads_block inside text tokens no_end reads = record {

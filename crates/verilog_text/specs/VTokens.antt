@@ -50,8 +50,8 @@ pub record Placed : Type 0 where
   pub at : ℕ
   pub token : Token
 
-abbrev pub placed : ℕ → Sort → List ℕ → Placed
-placed at sort bytes = record { at = at; token = record { sort = sort; bytes = bytes } }
+abbrev pub placed_token : ℕ → Sort → List ℕ → Placed
+placed_token at sort bytes = record { at = at; token = record { sort = sort; bytes = bytes } }
 
 -- the rest of a text, which begins at a place, splits into these tokens
 pub data TokensFrom : ℕ → List ℕ → List Placed → Type 0 where
@@ -59,7 +59,7 @@ pub data TokensFrom : ℕ → List ℕ → List Placed → Type 0 where
   next : (at : ℕ) (gap bytes rest : List ℕ) (sort : Sort) (tokens : List Placed)
       → Gap gap → IsLongest sort bytes rest
       → TokensFrom (at + length gap + length bytes) rest tokens
-      → TokensFrom at (gap ++ (bytes ++ rest)) (placed (at + length gap) sort bytes ∷ tokens)
+      → TokensFrom at (gap ++ (bytes ++ rest)) (placed_token (at + length gap) sort bytes ∷ tokens)
 
 -- the text splits into these tokens
 abbrev pub VTokens : List ℕ → List Placed → Type 0
