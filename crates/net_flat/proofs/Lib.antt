@@ -1,5 +1,6 @@
 pub mod Below
 pub mod Cells
+pub mod ExampleShown
 pub mod Filled
 pub mod Fitting
 pub mod Lists

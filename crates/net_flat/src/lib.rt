@@ -2,6 +2,7 @@
 #![tactic(auto)]
 
 mod copies;
+pub mod examples;
 pub mod flatten;
 mod instances;
 pub mod laws;

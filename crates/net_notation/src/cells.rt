@@ -52,13 +52,18 @@ fn bits(alloc: Global, groups: &[Vec<u32>], group: usize) -> Result<Bits, Or<Unr
     };
     let mut bits = numbered(alloc, begins.min(1_000), first)?;
     for number in numbers.iter().skip(2) {
-        let low = numbered(alloc, 32, *number)?;
-        if bits.len() > 10_000 {
-            return Err(Or::Fault(Unread));
-        }
-        bits = bits.join(alloc, &low)?;
+        bits = longer(alloc, &bits, *number)?;
     }
     Ok(bits)
+}
+
+// Bits with those of one more number behind them.
+fn longer(alloc: Global, bits: &Bits, number: u32) -> Result<Bits, Or<Unread>> {
+    let low = numbered(alloc, 32, number)?;
+    if bits.len() > 10_000 || low.len() > 32 {
+        return Err(Or::Fault(Unread));
+    }
+    Ok(bits.join(alloc, &low)?)
 }
 
 // The bits of each group but the first.
