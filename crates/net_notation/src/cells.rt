@@ -46,7 +46,7 @@ fn bits(alloc: Global, groups: &[Vec<u32>], group: usize) -> Result<Bits, Or<Unr
     let width = field(groups, group, 0)?;
     let first = field(groups, group, 1)?;
     let numbers = groups.get(group).ok_or(Or::Fault(Unread))?;
-    let behind = numbers.len().min(1_000) as u32 - 2;
+    let behind = (numbers.len().min(1_000) as u32).saturating_sub(2);
     let Some(begins) = width.checked_sub(32 * behind) else {
         return Err(Or::Fault(Unread));
     };

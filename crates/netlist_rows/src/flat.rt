@@ -3,6 +3,7 @@ ghost use Rattle.std.specs.Prelude.{IfOk};
 ghost use Rattle.netlist.specs.Sound.{Sound};
 ghost use Rattle.net_rules.specs.WellFormed.{WellFormed};
 
+use crate::nets::put_found_in;
 use chw_base::{NoMemory, Or, WireId};
 use net_flat::flatten::flatten;
 use net_notation::net_of;
@@ -30,13 +31,28 @@ pub(crate) fn flat_of(alloc: Global, net: &Net) -> Result<Flat, Or<Unread>>
     }
 }
 
+// The net of a text, in which pieces may stand several times.
+fn net_in(alloc: Global, text: &str) -> Result<Net, Or<Unread>> {
+    let bytes = bytes_of(alloc, text)?;
+    match std::str::from_utf8(&bytes) {
+        Ok(text) => net_of(alloc, text),
+        Err(_) => Err(Or::Fault(Unread)),
+    }
+}
+
+/// Writes an order of the cells of a net's flat net, or a loop of its wires.
+pub(crate) fn put_flat_found(
+    alloc: Global,
+    text: &str,
+    out: &mut Vec<u8>,
+) -> Result<(), Or<Unread>> {
+    let flat = flat_of(alloc, &net_in(alloc, text)?)?;
+    put_found_in(alloc, false, &flat, out)
+}
+
 /// Writes how many wires the flat net of a net has, and its cells where they are few; or that it is too large.
 pub(crate) fn put_flat(alloc: Global, text: &str, out: &mut Vec<u8>) -> Result<(), Or<Unread>> {
-    let bytes = bytes_of(alloc, text)?;
-    let Ok(text) = std::str::from_utf8(&bytes) else {
-        return Err(Or::Fault(Unread));
-    };
-    let net = net_of(alloc, text)?;
+    let net = net_in(alloc, text)?;
     match well_formed(alloc, &net) {
         Ok(()) => put_flat_of(alloc, &net, out),
         Err(Or::Memory) => Err(Or::Memory),
@@ -55,7 +71,7 @@ fn put_flat_of(alloc: Global, net: &Net, out: &mut Vec<u8>) -> Result<(), Or<Unr
 }
 
 fn put_parts(out: &mut Vec<u8>, flat: &Flat) -> Result<(), NoMemory> {
-    put_number(out, "", flat.widths.len() as u32)?;
+    put_number(out, "", flat.widths.len().min(1_000_000) as u32)?;
     put(out, " wires")?;
     let cells = flat.cells.as_slice();
     if cells.len() > FEW {

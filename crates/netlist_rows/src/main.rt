@@ -8,7 +8,7 @@ mod nets;
 mod slow;
 
 use chw_base::Or;
-use flat::put_flat;
+use flat::{put_flat, put_flat_found};
 use formed::put_formed;
 use graphs::{put_chain, put_graph};
 use nets::put_found;
@@ -29,6 +29,7 @@ fn answer(alloc: Global, call: &str, text: &str, out: &mut Vec<u8>) -> Result<()
         "has" | "order" => put_found(alloc, call, text, out),
         "formed" => put_formed(alloc, text, out),
         "flatten" => put_flat(alloc, text, out),
+        "found" => put_flat_found(alloc, text, out),
         _ => Err(Or::Fault(Unread)),
     }
 }

@@ -75,8 +75,13 @@ pub(crate) fn put_found(
     put_found_in(alloc, call == "has", &flat, out)
 }
 
-// The same of a sound net.
-fn put_found_in(alloc: Global, has: bool, flat: &Flat, out: &mut Vec<u8>) -> Result<(), Or<Unread>>
+/// The same of a sound net.
+pub(crate) fn put_found_in(
+    alloc: Global,
+    has: bool,
+    flat: &Flat,
+    out: &mut Vec<u8>,
+) -> Result<(), Or<Unread>>
     requires { Sound flat.now }
 {
     let cells = flat.cells.as_slice();
