@@ -1,3 +1,4 @@
 pub mod Kept
 pub mod Tables
 pub mod Operands
+pub mod Parts

@@ -2,7 +2,10 @@
 #![tactic(auto)]
 
 mod narrow;
+mod narrow_step;
 mod reading;
+mod room;
 pub mod word;
+mod words;
 
 pub use word::Word;
