@@ -1,3 +1,5 @@
 pub mod Keeping
 pub mod Made
 pub mod Wiring
+pub mod BitLists
+pub mod PartBits

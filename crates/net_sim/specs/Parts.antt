@@ -1,5 +1,5 @@
 -- A part of a list that has these bits.
-use Rattle.std.specs.Prelude.{◌≡◌, ℕ, ◌+◌, ◌≤◌, Bool, List, drop, length, take}
+use Rattle.std.specs.Prelude.{◌≡◌, ◌+◌, ◌≤◌, Bool, List, drop, length, take}
 use Rattle.net_sim.specs.declared.room.Part.{Part}
 
 -- the part is within the list, and has these bits

@@ -5,6 +5,7 @@ mod narrow;
 mod narrow_step;
 mod reading;
 mod room;
+mod wide;
 pub mod word;
 mod words;
 

@@ -34,7 +34,9 @@ pub(crate) fn lay_list(bits: &[bool], room: &mut [bool]) -> Part
 /// Writes a word at the beginning.
 pub(crate) fn lay_word(word: &Word, room: &mut [bool]) -> Part
     requires { length word.now ≤ length room.old }
-    ensures { HasBits result room.new word.now }
+    ensures bits { HasBits result room.new word.now }
+    ensures start { result.from ≡ 0 }
+    ensures count { result.count ≡ length word.now }
 {
     lay(word, room, 0);
     Part {

@@ -1,5 +1,5 @@
-use Rattle.std.proofs.Common.{◌≡◌, ◌<◌, ◌+◌, ◌-◌, length, sym, ap, subst, ◌∙◌, arith}
-use Rattle.chw_bits.specs.Bits.{bits_of, cut_of}
+use Rattle.std.proofs.Common.{◌<◌, ◌+◌, ◌-◌, length, sym, ap, subst, ◌∙◌}
+use Rattle.chw_bits.specs.Bits.{cut_of}
 use Rattle.net_sim.proofs.Keeping.{number_from_bits}
 use Rattle.net_sim.proofs.narrow_step.cut.Goals as goal
 use Rattle.net_sim.specs.Tables.{value_in}

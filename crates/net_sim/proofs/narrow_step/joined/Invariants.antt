@@ -1,5 +1,5 @@
 -- the number of the parts so far, and their width
-use Rattle.std.proofs.Common.{◌≡◌, ◌≤◌, ◌<◌, ◌^◌, length, take}
+use Rattle.std.proofs.Common.{◌≡◌, ◌≤◌, ◌<◌, ◌^◌, take}
 use Rattle.std.specs.Prelude.{flat_map}
 use Rattle.chw_bits.specs.Bits.{number_of}
 use Rattle.net_sim.specs.Tables.{values_in}
