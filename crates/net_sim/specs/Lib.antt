@@ -2,3 +2,4 @@ pub mod Kept
 pub mod Tables
 pub mod Operands
 pub mod Parts
+pub mod Stepping

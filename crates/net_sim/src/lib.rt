@@ -5,7 +5,9 @@ mod narrow;
 mod narrow_step;
 mod reading;
 mod room;
+mod settle;
 mod wide;
+mod wide_step;
 pub mod word;
 mod words;
 

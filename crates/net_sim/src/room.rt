@@ -1,5 +1,5 @@
 //! Room for the bits of wide words, in which they are made before they are put.
-ghost use Rattle.std.specs.Prelude.{◌≡◌, ◌+◌, ◌<◌, ◌≤◌, ◌++◌, length, take};
+ghost use Rattle.std.specs.Prelude.{◌≡◌, ◌+◌, ◌<◌, ◌≤◌, ◌++◌, length, take, replicate};
 ghost use Rattle.net_sim.specs.Parts.{HasBits};
 
 use crate::word::Word;
@@ -42,5 +42,15 @@ pub(crate) fn lay_word(word: &Word, room: &mut [bool]) -> Part
     Part {
         from: 0,
         count: word.len() as usize,
+    }
+}
+
+/// Writes so many equal bits from this place on.
+pub(crate) fn fill(room: &mut [bool], at: usize, count: usize, bit: bool)
+    requires { at + count ≤ length room.old }
+    ensures { take (at + count) room.new ≡ take at room.old ++ replicate count bit }
+{
+    for i in 0..count {
+        room[at + i] = bit;
     }
 }

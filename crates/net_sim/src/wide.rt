@@ -1,14 +1,14 @@
 //! The operators on words of any width, bit by bit.
-ghost use Rattle.std.specs.Prelude.{◌≡◌, ◌+◌, ◌<◌, ◌≤◌, ◌++◌, ◌==◌, nat_lt, int_lt, length, take, drop, map, min, not, count_by, ◌%◌};
+ghost use Rattle.std.specs.Prelude.{◌≡◌, ◌+◌, ◌<◌, ◌≤◌, ◌++◌, ◌==◌, nat_lt, int_lt, length, take, drop, map, min, not, count_by, ◌%◌, ◌*◌, replicate, false};
 ghost use Rattle.std.specs.List.{list_all, list_any};
 ghost use Rattle.chw_bits.specs.Bits.{number_of};
 ghost use Rattle.chw_bits.specs.Bitwise.{bit_by_bit};
 ghost use Rattle.chw_bits.specs.Integers.{signed};
-ghost use Rattle.net_sim.specs.Operands.{bit_of_two};
+ghost use Rattle.net_sim.specs.Operands.{IsArithmetic, Suit, bit_of_two};
 ghost use Rattle.net_sim.specs.Parts.{HasBits};
 ghost use Rattle.netlist.specs.Operators.{operator1, operator2};
 
-use crate::room::{Part, lay_list, lay_word};
+use crate::room::{Part, fill, lay, lay_list, lay_word};
 use crate::word::Word;
 use netlist::{Op1, Op2};
 
@@ -88,6 +88,35 @@ pub(crate) fn bitwise(op: Op2, left: &Word, right: &Word, room: &mut [bool]) -> 
     }
 }
 
+// A word moved up by a number of places, with zeros below.
+fn moved_up(word: &Word, places: u32, room: &mut [bool]) -> Part
+    requires { places + length word.now ≤ length room.old }
+    ensures { HasBits result room.new
+        (take (length word.now) (drop places (word.now ++ replicate places false))) }
+{
+    let count = word.len() as usize;
+    lay(word, room, 0);
+    fill(room, count, places as usize, false);
+    Part {
+        from: places as usize,
+        count,
+    }
+}
+
+// A word moved down by a number of places, with a bit above so many times.
+fn moved_down(word: &Word, places: u32, above: bool, room: &mut [bool]) -> Part
+    requires { places + length word.now ≤ length room.old }
+    ensures { HasBits result room.new
+        (take (length word.now) (replicate places above ++ word.now)) }
+{
+    fill(room, 0, places as usize, above);
+    lay(word, room, places as usize);
+    Part {
+        from: 0,
+        count: word.len() as usize,
+    }
+}
+
 /// Whether two words mean one number.
 pub(crate) fn are_equal(left: &Word, right: &Word) -> bool
     requires { length left.now ≡ length right.now }
@@ -139,4 +168,25 @@ pub(crate) fn amount(word: &Word, most: u32) -> u32
         n = (2 * n + u64::from(word.bit(i))).min(most);
     }
     n as u32
+}
+
+/// What an operator makes of two words, unless it is a sum, a difference or a product.
+pub(crate) fn bits_of_two(op: Op2, left: &Word, right: &Word, room: &mut [bool]) -> Part
+    requires kind { IsArithmetic op → ⊥ }
+    requires suit { Suit op left.now right.now }
+    requires some { 0 < length left.now }
+    requires enough { 2 * length left.now ≤ length room.old }
+    ensures { HasBits result room.new (operator2 op left.now right.now) }
+{
+    let places = amount(right, left.len());
+    match op {
+        Op2::Add | Op2::Sub | Op2::Mul => Part { from: 0, count: 0 },
+        Op2::And | Op2::Or | Op2::Xor => bitwise(op, left, right, room),
+        Op2::Eq => lay_list(&[are_equal(left, right)], room),
+        Op2::LtU => lay_list(&[is_less(left, right, 0)], room),
+        Op2::LtS => lay_list(&[is_less_signed(left, right)], room),
+        Op2::Shl => moved_up(left, places, room),
+        Op2::Shr => moved_down(left, places, false, room),
+        Op2::Sar => moved_down(left, places, left.bit(0), room),
+    }
 }

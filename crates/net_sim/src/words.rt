@@ -1,6 +1,6 @@
 //! Words by the wires that they are of.
-ghost use Rattle.std.specs.Prelude.{◌≡◌, ◌==◌, length, map, if◌then◌else◌};
-ghost use Rattle.chw_bits.specs.Bits.{number_of};
+ghost use Rattle.std.specs.Prelude.{◌≡◌, ◌==◌, ◌<◌, ◌≤◌, ◌^◌, length, map, slice_set, if◌then◌else◌};
+ghost use Rattle.chw_bits.specs.Bits.{bits_of, number_of};
 ghost use Rattle.net_sim.specs.Tables.{value_in};
 ghost use Rattle.netlist.specs.Sound.{HasWidth, IsWire};
 
@@ -30,4 +30,33 @@ pub(crate) fn chosen(words: &[Word], on: WireId, first: WireId, second: WireId) 
     } else {
         second
     }
+}
+
+/// Makes the narrow word of a wire the one of a number.
+pub(crate) fn put_number_at(words: &mut [Word], w: WireId, n: u128)
+    requires wire { IsWire (map length words.old) w }
+    requires narrow { length (value_in words.old w.number) ≤ 128 }
+    requires below { n < 2 ^ length (value_in words.old w.number) }
+    ensures { words.new
+        ≡ slice_set words.old w.number (bits_of (length (value_in words.old w.number)) n) }
+{
+    words[w.number as usize].put_number(n);
+}
+
+/// Puts these bits in place of those of a wire.
+pub(crate) fn put_bits_at(words: &mut [Word], w: WireId, bits: &[bool])
+    requires wire { IsWire (map length words.old) w }
+    requires width { length bits.now ≡ length (value_in words.old w.number) }
+    ensures { words.new ≡ slice_set words.old w.number bits.now }
+{
+    words[w.number as usize].put_bits(bits);
+}
+
+/// Puts the bits of a word in place of those of a wire.
+pub(crate) fn put_word_at(words: &mut [Word], w: WireId, word: &Word)
+    requires wire { IsWire (map length words.old) w }
+    requires width { length word.now ≡ length (value_in words.old w.number) }
+    ensures { words.new ≡ slice_set words.old w.number word.now }
+{
+    words[w.number as usize].copy_from(word);
 }

@@ -1,0 +1,53 @@
+//! The bits that an event gives the wires that keep nothing.
+ghost use Rattle.std.specs.Prelude.{◌≡◌, ℕ, ◌<◌, ◌≤◌, length, map, Some, slice_set};
+ghost use Rattle.std.specs.List.{AllByRecursion};
+ghost use Rattle.net_sim.specs.Tables.{given_in};
+ghost use Rattle.netlist.specs.Feeds.{target};
+ghost use Rattle.netlist.specs.Operators.{KeepsNothing};
+ghost use Rattle.netlist.specs.Sound.{FitsCell, IsWireWidth};
+
+use crate::narrow_step::made_number;
+use crate::wide_step::made_bits;
+use crate::word::Word;
+use crate::words::{put_bits_at, put_number_at};
+use chw_base::WireId;
+use netlist::Cell;
+
+// The wire that a cell drives, where it keeps nothing.
+fn target_of(cell: &Cell) -> WireId
+    requires { KeepsNothing cell.now }
+    ensures { target cell.now ≡ Some result.number }
+{
+    match cell {
+        Cell::Const(w, _)
+        | Cell::Copy(w, _)
+        | Cell::Join(w, _)
+        | Cell::Cut(w, _, _, _)
+        | Cell::Un(w, _, _)
+        | Cell::Bin(w, _, _, _)
+        | Cell::Mux(w, _, _, _)
+        | Cell::Reg(w, _, _, _)
+        | Cell::Ram(w, _, _, _) => *w,
+        Cell::Use(_, _, _) => WireId { number: 0 },
+    }
+}
+
+/// Settles the wire of a cell that keeps nothing.
+pub(crate) fn settle(words: &mut [Word], cell: &Cell, room: &mut [bool])
+    requires fits { (domains : ℕ) × FitsCell domains (map length words.old) cell.now }
+    requires widths { AllByRecursion IsWireWidth (map length words.old) }
+    requires kind { KeepsNothing cell.now }
+    requires enough { length room.old ≡ 8192 }
+    ensures wire { (w : ℕ) → target cell.now ≡ Some w →
+        words.new ≡ slice_set words.old w (given_in words.old cell.now) }
+    ensures widths { map length words.new ≡ map length words.old }
+{
+    let w = target_of(cell);
+    match made_number(words, cell) {
+        Some(n) => put_number_at(words, w, n),
+        None => {
+            let part = made_bits(words, cell, room);
+            put_bits_at(words, w, &room[part.from..part.from + part.count]);
+        }
+    }
+}
