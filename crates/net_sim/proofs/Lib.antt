@@ -6,3 +6,4 @@ pub mod PartBits
 pub mod Shifting
 pub mod Cells
 pub mod Values
+pub mod Renewing

@@ -47,7 +47,7 @@ shown_wire flat places table event past w sound settled lt by_driver = from (cas
     from (inr above) = let driver = (driven_once flat sound).driven w above lt in by_driver driver.0 driver.1
 
 -- what a cell awaits, by its place
-awaited_there : (flat : Flat) (place k : ℕ) (cell : Cell) (v : WireId) → slice_get flat.cells place ≡ Some cell → KeepsNothing cell
+pub awaited_there : (flat : Flat) (place k : ℕ) (cell : Cell) (v : WireId) → slice_get flat.cells place ≡ Some cell → KeepsNothing cell
     → slice_get (read_by cell) k ≡ Some v → awaited_at flat.cells place k ≡ Some v.number
 awaited_there flat place k cell v at keeps reads =
     ap (option_and_then (λ c. awaited_wire c k)) at

@@ -3,3 +3,4 @@ pub mod Tables
 pub mod Operands
 pub mod Parts
 pub mod Stepping
+pub mod Settling

@@ -1,6 +1,7 @@
 //! The table that steps a flat net: the bits of its wires, event by event.
 #![tactic(auto)]
 
+mod inputs;
 mod narrow;
 mod narrow_step;
 mod reading;

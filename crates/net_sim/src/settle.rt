@@ -1,17 +1,19 @@
 //! The bits that an event gives the wires that keep nothing.
-ghost use Rattle.std.specs.Prelude.{◌≡◌, ℕ, ◌<◌, ◌≤◌, length, map, Some, slice_set};
+ghost use Rattle.std.specs.Prelude.{◌≡◌, ℕ, ◌<◌, ◌≤◌, length, map, Some, slice_get, slice_set};
 ghost use Rattle.std.specs.List.{AllByRecursion};
+ghost use Rattle.net_sim.specs.Settling.{Renews, SettledBefore};
 ghost use Rattle.net_sim.specs.Tables.{given_in};
 ghost use Rattle.netlist.specs.Feeds.{target};
 ghost use Rattle.netlist.specs.Operators.{KeepsNothing};
-ghost use Rattle.netlist.specs.Sound.{FitsCell, IsWireWidth};
+ghost use Rattle.netlist.specs.Orders.{IsOrder};
+ghost use Rattle.netlist.specs.Sound.{FitsCell, IsWireWidth, Sound};
 
 use crate::narrow_step::made_number;
 use crate::wide_step::made_bits;
 use crate::word::Word;
 use crate::words::{put_bits_at, put_number_at};
 use chw_base::WireId;
-use netlist::Cell;
+use netlist::{Cell, Flat, Order};
 
 // The wire that a cell drives, where it keeps nothing.
 fn target_of(cell: &Cell) -> WireId
@@ -49,5 +51,39 @@ pub(crate) fn settle(words: &mut [Word], cell: &Cell, room: &mut [bool])
             let part = made_bits(words, cell, room);
             put_bits_at(words, w, &room[part.from..part.from + part.count]);
         }
+    }
+}
+
+// The cell at a place.
+fn cell_at(flat: &Flat, place: u32) -> &Cell
+    requires { place < length flat.now.cells }
+    ensures { slice_get flat.now.cells place ≡ Some result.now }
+{
+    &flat.cells.as_slice()[place as usize]
+}
+
+// Settles the wire of a cell, if it keeps nothing.
+fn renew(words: &mut [Word], cell: &Cell, room: &mut [bool])
+    requires fits { (domains : ℕ) × FitsCell domains (map length words.old) cell.now }
+    requires widths { AllByRecursion IsWireWidth (map length words.old) }
+    requires enough { length room.old ≡ 8192 }
+    ensures { Renews cell.now words.old words.new }
+{
+    match cell {
+        Cell::Reg(_, _, _, _) | Cell::Ram(_, _, _, _) | Cell::Use(_, _, _) => {}
+        _ => settle(words, cell, room),
+    }
+}
+
+/// Settles the wires of all cells that keep nothing, each after those that it reads.
+pub(crate) fn settle_all(words: &mut [Word], flat: &Flat, order: &Order, room: &mut [bool])
+    requires sound { Sound flat.now }
+    requires order { IsOrder flat.now order.now.cells }
+    requires widths { map length words.old ≡ flat.now.widths }
+    requires enough { length room.old ≡ 8192 }
+    ensures { SettledBefore flat.now order.now.cells words.old words.new (length order.now.cells) }
+{
+    for place in order.cells.as_slice() {
+        renew(words, cell_at(flat, *place), room);
     }
 }
