@@ -7,3 +7,5 @@ pub mod Shifting
 pub mod Cells
 pub mod Values
 pub mod Renewing
+pub mod Incoming
+pub mod Writing

@@ -4,3 +4,4 @@ pub mod Operands
 pub mod Parts
 pub mod Stepping
 pub mod Settling
+pub mod Ticking

@@ -2,6 +2,7 @@
 #![tactic(auto)]
 
 mod inputs;
+mod memory;
 mod narrow;
 mod narrow_step;
 mod reading;

@@ -1,0 +1,70 @@
+-- What an event changes: what registers and RAMs show after it, and the words of RAMs.
+use Rattle.std.specs.Prelude.{◌≡◌, ℕ, ◌<◌, ◌==◌, ◌&&◌, Bool, true, List, [], length, Some, slice_get}
+use Rattle.std.specs.Prelude.{if◌then◌else◌, nat_lt, slice_index_or, slice_set}
+use Rattle.chw_bits.specs.Bits.{number_of}
+use Rattle.chw_clock.specs.Histories.{resets, ticks}
+use Rattle.chw_clock.specs.declared.event.Event.{Event}
+use Rattle.net_sim.specs.Tables.{value_in}
+use Rattle.netlist.specs.Feeds.{target}
+use Rattle.netlist.specs.NetValue.{zeros}
+use Rattle.netlist.specs.declared.net.Cell.{Cell}
+use Rattle.netlist.specs.declared.net.Cell.TheVariants.{Reg, Ram}
+use Rattle.netlist.specs.declared.net.Flat.{Flat}
+use Rattle.netlist.specs.declared.net.RamIn.{RamIn}
+
+-- the cell is a register or a RAM whose domain ticks
+abbrev pub Moves : Event → Cell → Type 0
+Moves event (Reg w domain initial a) = ticks event domain ≡ true
+Moves event (Ram w domain words inputs) = ticks event domain ≡ true
+Moves event _ = ⊥
+
+-- the cell is a RAM whose domain ticks
+abbrev pub MovesWords : Event → Cell → Type 0
+MovesWords event (Ram w domain words inputs) = ticks event domain ≡ true
+MovesWords event _ = ⊥
+
+-- the word at an address of a memory, and zeros where there is none
+abbrev pub shown_word : (memory : List (List Bool)) (address width : ℕ) → List Bool
+shown_word memory address width =
+    if nat_lt address (length memory) then value_in memory address else zeros width
+
+-- what a register or a RAM shows after an event in which it moves
+abbrev pub moved_bits : Event → List (List Bool) → List (List (List Bool)) → Cell → List Bool
+moved_bits event table memories (Reg w domain initial a) =
+    if resets event domain then initial else value_in table a.number
+moved_bits event table memories (Ram w domain words inputs) =
+    shown_word (slice_index_or memories w.number []) (number_of (value_in table inputs.read.number))
+    (length (value_in table w.number))
+moved_bits event table memories _ = []
+
+-- the words of a memory after a write: none is changed without enable, or if none is at the place
+abbrev pub written_words : (enable place value : List Bool) → List (List Bool) → List (List Bool)
+written_words enable place value memory =
+    if number_of enable == 1 && nat_lt (number_of place) (length memory)
+    then slice_set memory (number_of place) value else memory
+
+-- the words of a RAM after an event in which it moves
+abbrev pub moved_words : List (List Bool) → Cell → List (List Bool) → List (List Bool)
+moved_words table (Ram w domain words inputs) memory =
+    written_words (value_in table inputs.enable.number) (value_in table inputs.place.number)
+    (value_in table inputs.value.number) memory
+moved_words table _ memory = memory
+
+-- Cells of one kind write what is theirs into a list, by the wires that they drive.
+
+-- the cell has written its item, if it is of the kind, and no other is changed
+pub record Writes (X : Type 0) (none : X) (Kind : Cell → Type 0) (made : Cell → X → X)
+    (cell : Cell) (old new : List X) : Type 0 where
+  pub item : Kind cell → (w : ℕ) → target cell ≡ Some w
+      → new ≡ slice_set old w (made cell (slice_index_or old w none))
+  pub stays : (Kind cell → ⊥) → new ≡ old
+
+-- the cells before a place have written theirs, and no other is changed
+pub record WrittenBefore (X : Type 0) (none : X) (Kind : Cell → Type 0) (made : Cell → X → X)
+    (flat : Flat) (old new : List X) (i : ℕ) : Type 0 where
+  pub items : (j w : ℕ) (cell : Cell) → j < i → slice_get flat.cells j ≡ Some cell → Kind cell
+      → target cell ≡ Some w → slice_index_or new w none ≡ made cell (slice_index_or old w none)
+  pub others : (w : ℕ)
+      → ((j : ℕ) (cell : Cell) → j < i → slice_get flat.cells j ≡ Some cell → Kind cell
+        → target cell ≡ Some w → ⊥)
+      → slice_index_or new w none ≡ slice_index_or old w none
