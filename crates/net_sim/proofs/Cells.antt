@@ -3,7 +3,7 @@ use Rattle.std.proofs.Common.{◌≡◌, ℕ, ◌<◌, Bool, List, [], ◌∷◌
 use Rattle.std.specs.Prelude.{option_and_then}
 use Rattle.std.specs.List.{AllByRecursion}
 use Rattle.std.proofs.lemmas.Option.{slice_get-get_or}
-use Rattle.std.proofs.lemmas.List.{map-set, set-get_or}
+use Rattle.std.proofs.lemmas.List.{get_or_default, map-set, set-get_or}
 use Rattle.chw_base.specs.declared.index.WireId.{WireId}
 use Rattle.netlist.proofs.Places.{all_at}
 use Rattle.netlist.proofs.Widths.{Lengths, operator_width}
@@ -16,7 +16,7 @@ use Rattle.netlist.specs.declared.net.Cell.{Cell}
 use Rattle.netlist.specs.declared.net.Cell.TheVariants.{Const, Copy, Join, Cut, Un, Bin, Mux, Reg, Ram, Use}
 use Rattle.netlist.specs.declared.net.Flat.{Flat}
 use Rattle.net_sim.specs.Tables.{given_in, value_in, values_in}
-use Rattle.net_sim.proofs.Wiring.{is_wire, one_fits, two_fit, width_at, wire_width}
+use Rattle.net_sim.proofs.Wiring.{is_wire, one_fits, two_fit, width_at, wire_within, wire_width}
 
 -- each wire that is no input is driven by one cell
 pub driven_once : (flat : Flat) → Sound flat → DrivenOnce (length flat.ports.inputs) (length flat.widths) flat.cells
@@ -97,3 +97,9 @@ widths_kept table w bits same =
     map-set length table w bits
     ∙ ap (set (map length table) w) (same ∙ sym (width_at table w))
     ∙ set-get_or (map length table) w 0
+
+-- the same of a word as it is read
+pub kept_read : (table : List (List Bool)) (w : WireId) (d bits : List Bool) → IsWire (map length table) w
+    → length bits ≡ length (get_or table w.number d) → map length (set table w.number bits) ≡ map length table
+kept_read table w d bits is same =
+    widths_kept table w.number bits (same ∙ ap length (get_or_default table w.number d [] (wire_within table w is)))

@@ -9,3 +9,6 @@ pub mod Values
 pub mod Renewing
 pub mod Incoming
 pub mod Writing
+pub mod Moving
+pub mod Histories
+pub mod Stepped

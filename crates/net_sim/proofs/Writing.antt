@@ -1,25 +1,27 @@
 -- Cells that write their items one after another.
-use Rattle.std.proofs.Common.{◌≡◌, ◌≢◌, ℕ, zero, suc, ◌+◌, ◌<◌, ◌≤◌, Bool, true, false, List, [], length, set, get_or, Some, None, slice_get, ◌⊎◌, inl, inr, refl, sym, ap, subst, ◌∙◌, arith}
+use Rattle.std.proofs.Common.{◌≡◌, ◌≢◌, ℕ, zero, suc, ◌+◌, ◌<◌, ◌≤◌, Bool, true, false, List, [], length, map, set, get_or, Some, None, slice_get, ◌⊎◌, inl, inr, refl, sym, ap, subst, ◌∙◌, arith}
 use Rattle.std.specs.Prelude.{slice_index_or}
 use Rattle.std.proofs.lemmas.Bool.{cases_lt}
 use Rattle.std.proofs.lemmas.List.{get_or-set_other, get_or-set_same}
 use Rattle.chw_clock.specs.Histories.{ticks}
 use Rattle.chw_clock.specs.declared.event.Event.{Event}
 use Rattle.netlist.specs.Feeds.{target}
-use Rattle.netlist.specs.Sound.{Sound}
+use Rattle.netlist.specs.NetValue.{HasCell}
+use Rattle.netlist.specs.Sound.{FitsCell, Sound}
 use Rattle.netlist.specs.declared.net.Cell.{Cell}
 use Rattle.netlist.specs.declared.net.Cell.TheVariants.{Const, Copy, Join, Cut, Un, Bin, Mux, Reg, Ram, Use}
 use Rattle.netlist.specs.declared.net.Flat.{Flat}
 use Rattle.net_sim.specs.Ticking.{Moves, MovesWords, Writes, WrittenBefore}
-use Rattle.net_sim.proofs.Cells.{driven_once, target_there}
+use Rattle.net_sim.proofs.Cells.{cell_fits, driven_once, target_there}
+use Rattle.net_sim.proofs.Wiring.{is_wire}
 
 -- before the first cell nothing is written
-pub nothing_written : (X : Type 0) (none : X) (Kind : Cell → Type 0) (made : Cell → X → X) (flat : Flat) (old : List X)
+pub nothing_written : (X : Type 0) (none : X) (Kind : Cell → Type 0) (made : ℕ → Cell → X → X) (flat : Flat) (old : List X)
     → WrittenBefore X none Kind made flat old old 0
 nothing_written X none Kind made flat old =
     record { items = λ j w cell lt at is t. absurd (omega arith); others = λ w free. refl }
 
-pub written_more : (X : Type 0) (none : X) (Kind : Cell → Type 0) (made : Cell → X → X) (flat : Flat) (old now new : List X) (i : ℕ) (cell : Cell)
+pub written_more : (X : Type 0) (none : X) (Kind : Cell → Type 0) (made : ℕ → Cell → X → X) (flat : Flat) (old now new : List X) (i : ℕ) (cell : Cell)
     → Sound flat → Kind cell ⊎ (Kind cell → ⊥) → (Kind cell → (w : ℕ) × (target cell ≡ Some w) × (w < length now))
     → slice_get flat.cells i ≡ Some cell → WrittenBefore X none Kind made flat old now i → Writes X none Kind made cell now new
     → WrittenBefore X none Kind made flat old new (i + 1)
@@ -35,12 +37,12 @@ written_more X none Kind made flat old now new i cell sound kind there at before
     from (inr other_kind) =
         let is = writes.stays other_kind in
         record {
-          items = λ j v other le at' is' t'. subst (λ l. slice_index_or l v none ≡ made other (slice_index_or old v none)) (sym is) (earlier (cases_lt j i) v other le at' is' t');
+          items = λ j v other le at' is' t'. subst (λ l. slice_index_or l v none ≡ made v other (slice_index_or old v none)) (sym is) (earlier (cases_lt j i) v other le at' is' t');
           others = λ w free. ap (λ l. slice_index_or l w none) is ∙ before.others w (λ j other less at' is' t'. free j other (omega arith) at' is' t');
         }
       where
         earlier : {j : ℕ} → (j < i) ⊎ (i ≤ j) → (v : ℕ) (other : Cell) → j < i + 1 → slice_get flat.cells j ≡ Some other → Kind other
-            → target other ≡ Some v → slice_index_or now v none ≡ made other (slice_index_or old v none)
+            → target other ≡ Some v → slice_index_or now v none ≡ made v other (slice_index_or old v none)
         earlier {j = j} (inl less) v other le at' is' t' = before.items j v other less at' is' t'
         earlier {j = j} (inr more) v other le at' is' t' =
             let place : j ≡ i = omega arith in
@@ -50,23 +52,23 @@ written_more X none Kind made flat old now new i cell sound kind there at before
     from (inl own) =
         let to = there own in
         let w = to.0 in
-        let item = made cell (slice_index_or now w none) in
+        let item = made w cell (slice_index_or now w none) in
         let is = writes.item own w to.1 in
         let untouched : slice_index_or now w none ≡ slice_index_or old w none =
             before.others w (λ j other less at' is' t'. apart j w w other less at' t' to.1 refl) in
         record {
           items = λ j v other le at' is' t'.
-              subst (λ l. slice_index_or l v none ≡ made other (slice_index_or old v none)) (sym is)
-              (here w item to.1 to.2 (ap (made cell) untouched) (cases_lt j i) v other le at' is' t');
+              subst (λ l. slice_index_or l v none ≡ made v other (slice_index_or old v none)) (sym is)
+              (here w item to.1 to.2 (ap (made w cell) untouched) (cases_lt j i) v other le at' is' t');
           others = λ v free.
               ap (λ l. slice_index_or l v none) is
               ∙ get_or-set_other now w v item none (λ e. free i cell (omega arith) at own (to.1 ∙ ap Some (sym e)))
               ∙ before.others v (λ j other less at' is' t'. free j other (omega arith) at' is' t');
         }
       where
-        here : {j : ℕ} (w : ℕ) (item : X) → target cell ≡ Some w → w < length now → item ≡ made cell (slice_index_or old w none)
+        here : {j : ℕ} (w : ℕ) (item : X) → target cell ≡ Some w → w < length now → item ≡ made w cell (slice_index_or old w none)
             → (j < i) ⊎ (i ≤ j) → (v : ℕ) (other : Cell) → j < i + 1 → slice_get flat.cells j ≡ Some other → Kind other
-            → target other ≡ Some v → slice_index_or (set now w item) v none ≡ made other (slice_index_or old v none)
+            → target other ≡ Some v → slice_index_or (set now w item) v none ≡ made v other (slice_index_or old v none)
         here {j = j} w item t lt is (inl less) v other le at' is' t' =
             get_or-set_other now w v item none (apart j v w other less at' t' t) ∙ before.items j v other less at' is' t'
         here {j = j} w item t lt is (inr more) v other le at' is' t' =
@@ -76,7 +78,7 @@ written_more X none Kind made flat old now new i cell sound kind there at before
             let t'' : target cell ≡ Some v = ap target cell_is ∙ t' in
             let w_is : w ≡ v = cc in
             ap (λ n. slice_index_or (set now w item) n none) (sym w_is) ∙ get_or-set_same now w item none lt ∙ is
-            ∙ ap (λ c. made c (slice_index_or old w none)) cell_is ∙ ap (λ n. made other (slice_index_or old n none)) w_is
+            ∙ ap (λ c. made w c (slice_index_or old w none)) cell_is ∙ ap (λ n. made n other (slice_index_or old n none)) w_is
 
 bool_cases : (b : Bool) → (b ≡ true) ⊎ (b ≡ true → ⊥)
 bool_cases true = inl refl
@@ -90,3 +92,24 @@ moves_cases event _ = inr (λ moves. moves)
 pub moves_words_cases : (event : Event) (cell : Cell) → MovesWords event cell ⊎ (MovesWords event cell → ⊥)
 moves_words_cases event (Ram w domain words inputs) = bool_cases (ticks event domain)
 moves_words_cases event _ = inr (λ moves. moves)
+
+-- a cell that moves drives a wire that is there
+pub moves_there : (event : Event) (domains size : ℕ) (widths : List ℕ) (cell : Cell) → FitsCell domains widths cell → length widths ≡ size
+    → Moves event cell → (w : ℕ) × (target cell ≡ Some w) × (w < size)
+moves_there event domains size widths (Reg w domain initial a) fits count moves =
+    let is = is_wire widths w _ fits.1 in (w.number, refl, omega (arith, is))
+moves_there event domains size widths (Ram w domain words inputs) fits count moves =
+    let is = is_wire widths w _ fits.1.5.1 in (w.number, refl, omega (arith, is))
+moves_there event domains size widths _ fits count moves = absurd moves
+
+pub moves_words_there : (event : Event) (domains size : ℕ) (widths : List ℕ) (cell : Cell) → FitsCell domains widths cell → length widths ≡ size
+    → MovesWords event cell → (w : ℕ) × (target cell ≡ Some w) × (w < size)
+moves_words_there event domains size widths (Ram w domain words inputs) fits count moves =
+    let is = is_wire widths w _ fits.1.5.1 in (w.number, refl, omega (arith, is))
+moves_words_there event domains size widths _ fits count moves = absurd moves
+
+-- the cells of a net are as the wires of its table need
+pub fits_table : (flat : Flat) (table : List (List Bool)) (cell : Cell) → Sound flat → map length table ≡ flat.widths → HasCell flat cell
+    → (domains : ℕ) × FitsCell domains (map length table) cell
+fits_table flat table cell sound widths has =
+    (length flat.ports.domains, subst (λ ws. FitsCell (length flat.ports.domains) ws cell) (sym widths) (cell_fits flat cell sound has))

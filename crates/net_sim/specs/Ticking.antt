@@ -1,12 +1,13 @@
 -- What an event changes: what registers and RAMs show after it, and the words of RAMs.
 use Rattle.std.specs.Prelude.{◌≡◌, ℕ, ◌<◌, ◌==◌, ◌&&◌, Bool, true, List, [], length, Some, slice_get}
 use Rattle.std.specs.Prelude.{if◌then◌else◌, nat_lt, slice_index_or, slice_set}
+use Rattle.chw_base.specs.declared.index.WireId.{WireId}
 use Rattle.chw_bits.specs.Bits.{number_of}
 use Rattle.chw_clock.specs.Histories.{resets, ticks}
 use Rattle.chw_clock.specs.declared.event.Event.{Event}
 use Rattle.net_sim.specs.Tables.{value_in}
 use Rattle.netlist.specs.Feeds.{target}
-use Rattle.netlist.specs.NetValue.{zeros}
+use Rattle.netlist.specs.NetValue.{HasRam, Memory, zeros}
 use Rattle.netlist.specs.declared.net.Cell.{Cell}
 use Rattle.netlist.specs.declared.net.Cell.TheVariants.{Reg, Ram}
 use Rattle.netlist.specs.declared.net.Flat.{Flat}
@@ -53,18 +54,32 @@ moved_words table _ memory = memory
 -- Cells of one kind write what is theirs into a list, by the wires that they drive.
 
 -- the cell has written its item, if it is of the kind, and no other is changed
-pub record Writes (X : Type 0) (none : X) (Kind : Cell → Type 0) (made : Cell → X → X)
+pub record Writes (X : Type 0) (none : X) (Kind : Cell → Type 0) (made : ℕ → Cell → X → X)
     (cell : Cell) (old new : List X) : Type 0 where
   pub item : Kind cell → (w : ℕ) → target cell ≡ Some w
-      → new ≡ slice_set old w (made cell (slice_index_or old w none))
+      → new ≡ slice_set old w (made w cell (slice_index_or old w none))
   pub stays : (Kind cell → ⊥) → new ≡ old
 
 -- the cells before a place have written theirs, and no other is changed
-pub record WrittenBefore (X : Type 0) (none : X) (Kind : Cell → Type 0) (made : Cell → X → X)
+pub record WrittenBefore (X : Type 0) (none : X) (Kind : Cell → Type 0) (made : ℕ → Cell → X → X)
     (flat : Flat) (old new : List X) (i : ℕ) : Type 0 where
   pub items : (j w : ℕ) (cell : Cell) → j < i → slice_get flat.cells j ≡ Some cell → Kind cell
-      → target cell ≡ Some w → slice_index_or new w none ≡ made cell (slice_index_or old w none)
+      → target cell ≡ Some w
+      → slice_index_or new w none ≡ made w cell (slice_index_or old w none)
   pub others : (w : ℕ)
       → ((j : ℕ) (cell : Cell) → j < i → slice_get flat.cells j ≡ Some cell → Kind cell
         → target cell ≡ Some w → ⊥)
       → slice_index_or new w none ≡ slice_index_or old w none
+
+-- There is a memory for each wire of the table, and its words have the wire's width.
+pub record MemoriesFit (table : List (List Bool)) (memories : List (List (List Bool))) : Type 0
+    where
+  pub count : length memories ≡ length table
+  pub widths : (w address : ℕ) → address < length (slice_index_or memories w [])
+      → length (value_in (slice_index_or memories w []) address) ≡ length (value_in table w)
+
+-- The memory of each RAM of the net has as many words as the RAM.
+abbrev pub HaveSizes : Flat → List (List (List Bool)) → Type 0
+HaveSizes flat memories =
+    (w : WireId) (ram : Memory) → HasRam flat w ram
+    → length (slice_index_or memories w.number []) ≡ length ram.words

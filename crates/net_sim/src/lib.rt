@@ -8,6 +8,7 @@ mod narrow_step;
 mod reading;
 mod room;
 mod settle;
+mod tick;
 mod wide;
 mod wide_step;
 pub mod word;

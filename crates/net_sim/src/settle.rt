@@ -54,12 +54,12 @@ pub(crate) fn settle(words: &mut [Word], cell: &Cell, room: &mut [bool])
     }
 }
 
-// The cell at a place.
-fn cell_at(flat: &Flat, place: u32) -> &Cell
+/// The cell at a place.
+pub(crate) fn cell_at(flat: &Flat, place: usize) -> &Cell
     requires { place < length flat.now.cells }
     ensures { slice_get flat.now.cells place ≡ Some result.now }
 {
-    &flat.cells.as_slice()[place as usize]
+    &flat.cells.as_slice()[place]
 }
 
 // Settles the wire of a cell, if it keeps nothing.
@@ -84,6 +84,6 @@ pub(crate) fn settle_all(words: &mut [Word], flat: &Flat, order: &Order, room: &
     ensures { SettledBefore flat.now order.now.cells words.old words.new (length order.now.cells) }
 {
     for place in order.cells.as_slice() {
-        renew(words, cell_at(flat, *place), room);
+        renew(words, cell_at(flat, *place as usize), room);
     }
 }

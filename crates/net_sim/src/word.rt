@@ -96,6 +96,17 @@ impl Word {
         self.number = n;
     }
 
+    /// Sets no bit.
+    pub(crate) fn clear(&mut self)
+        ensures { self.new ≡ bits_of (length self.old) 0 }
+    {
+        if self.width > NARROW {
+            self.list.fill(false);
+        } else {
+            self.number = 0;
+        }
+    }
+
     /// Puts these bits in place of its own.
     pub(crate) fn put_bits(&mut self, bits: &[bool])
         requires { length bits.now ≡ length self.old }

@@ -1,9 +1,10 @@
 //! Words by the wires that they are of.
-ghost use Rattle.std.specs.Prelude.{◌≡◌, ◌==◌, ◌<◌, ◌≤◌, ◌^◌, length, map, slice_set, if◌then◌else◌};
+ghost use Rattle.std.specs.Prelude.{◌≡◌, ◌==◌, ◌<◌, ◌≤◌, ◌^◌, length, map, [], slice_index_or, slice_set, if◌then◌else◌};
 ghost use Rattle.chw_bits.specs.Bits.{bits_of, number_of};
 ghost use Rattle.net_sim.specs.Tables.{value_in};
 ghost use Rattle.netlist.specs.Sound.{HasWidth, IsWire};
 
+use crate::memory::Memory;
 use crate::word::Word;
 use chw_base::WireId;
 
@@ -32,13 +33,22 @@ pub(crate) fn chosen(words: &[Word], on: WireId, first: WireId, second: WireId) 
     }
 }
 
+/// The memory of a wire.
+pub(crate) fn memory_at(memories: &[Memory], w: WireId) -> &Memory
+    requires { w.number < length memories.now }
+    ensures { result.now ≡ slice_index_or memories.now w.number [] }
+{
+    &memories[w.number as usize]
+}
+
 /// Makes the narrow word of a wire the one of a number.
 pub(crate) fn put_number_at(words: &mut [Word], w: WireId, n: u128)
     requires wire { IsWire (map length words.old) w }
     requires narrow { length (value_in words.old w.number) ≤ 128 }
     requires below { n < 2 ^ length (value_in words.old w.number) }
-    ensures { words.new
+    ensures word { words.new
         ≡ slice_set words.old w.number (bits_of (length (value_in words.old w.number)) n) }
+    ensures widths { map length words.new ≡ map length words.old }
 {
     words[w.number as usize].put_number(n);
 }
@@ -47,7 +57,8 @@ pub(crate) fn put_number_at(words: &mut [Word], w: WireId, n: u128)
 pub(crate) fn put_bits_at(words: &mut [Word], w: WireId, bits: &[bool])
     requires wire { IsWire (map length words.old) w }
     requires width { length bits.now ≡ length (value_in words.old w.number) }
-    ensures { words.new ≡ slice_set words.old w.number bits.now }
+    ensures word { words.new ≡ slice_set words.old w.number bits.now }
+    ensures widths { map length words.new ≡ map length words.old }
 {
     words[w.number as usize].put_bits(bits);
 }
@@ -56,7 +67,18 @@ pub(crate) fn put_bits_at(words: &mut [Word], w: WireId, bits: &[bool])
 pub(crate) fn put_word_at(words: &mut [Word], w: WireId, word: &Word)
     requires wire { IsWire (map length words.old) w }
     requires width { length word.now ≡ length (value_in words.old w.number) }
-    ensures { words.new ≡ slice_set words.old w.number word.now }
+    ensures word { words.new ≡ slice_set words.old w.number word.now }
+    ensures widths { map length words.new ≡ map length words.old }
 {
     words[w.number as usize].copy_from(word);
+}
+
+/// Sets no bit of a wire.
+pub(crate) fn clear_at(words: &mut [Word], w: WireId)
+    requires { IsWire (map length words.old) w }
+    ensures word { words.new
+        ≡ slice_set words.old w.number (bits_of (length (value_in words.old w.number)) 0) }
+    ensures widths { map length words.new ≡ map length words.old }
+{
+    words[w.number as usize].clear();
 }

@@ -49,21 +49,5 @@ returns-in-Some-clause-wire c = λ w t.
     let made : bits_of (length (value_in words to.number)) c.in-Some.n ≡ given =
     ap (λ k. bits_of k c.in-Some.n) (wire_width words to _ width) ∙ ap (bits_of (length given)) c.in-Some.ensures.number.number
     ∙ bits_of-number_of given in
-    c.put_number_at.ensures ∙ ap (set words to.number) made ∙ ap (λ n. set words n given) is
+    c.put_number_at.ensures.word ∙ ap (set words to.number) made ∙ ap (λ n. set words n given) is
 
-pub returns-in-Some-clause-widths : goal.returns-in-Some-clause-widths
-returns-in-Some-clause-widths c =
-    let words = c.args.words.now in
-    let to = c.target_of-w.result in
-    ap (map length) c.put_number_at.ensures
-    ∙ widths_kept words to.number (bits_of (length (value_in words to.number)) c.in-Some.n) (length-bits_of (length (value_in words to.number)) c.in-Some.n)
-
-pub returns-in-None-clause-widths : goal.returns-in-None-clause-widths
-returns-in-None-clause-widths c =
-    let width = given_width c.args.words.now c.requires.fits.0 c.target_of-w.result.number c.args.cell.now c.requires.fits.1 c.requires.kind c.target_of-w.ensures in
-    let part = c.made_bits-part.result in
-    let count : part.from + part.count - part.from ≡ part.count = omega arith in
-    ap (map length) c.put_bits_at.ensures
-    ∙ widths_kept c.args.words.now c.target_of-w.result.number _
-    (ap (λ n. length (take n (drop part.from c.made_bits-part.new.room))) count ∙ ap length c.made_bits-part.ensures.same
-    ∙ sym (wire_width c.args.words.now c.target_of-w.result _ width))
