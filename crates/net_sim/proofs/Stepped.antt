@@ -1,8 +1,8 @@
 -- After an event in which it is settled, a table stands for the past with that event.
 use Rattle.std.proofs.Common.{◌≡◌, ◌≢◌, ℕ, ◌+◌, ◌<◌, ◌≤◌, ◌==◌, ◌&&◌, Bool, true, false, List, [], ◌∷◌, length, map, set, get_or, Some, None, slice_get, ◌⊎◌, inl, inr, refl, sym, ap, subst, ◌∙◌, arith, if◌then◌else◌}
 use Rattle.std.specs.Prelude.{nat_lt, slice_index, slice_index_or}
-use Rattle.std.proofs.lemmas.Bool.{cases_eq, cases_lt}
-use Rattle.std.proofs.lemmas.Bool.Decides.{nat_tests}
+use Rattle.std.proofs.lemmas.Bool.{and_parts, cases_eq, cases_lt}
+use Rattle.std.proofs.lemmas.Bool.Decides.{Decides-eqb, nat_tests}
 use Rattle.std.proofs.lemmas.List.{get_or-set_other, get_or-set_same, length-map, length-set}
 use Rattle.std.proofs.lemmas.Option.{slice_get_within}
 use Rattle.chw_base.specs.declared.index.DomId.{DomId}
@@ -136,3 +136,114 @@ ram_after flat table table' memories memories' present event past w ram sound wi
         subst (NetValue flat (present ∷ event ∷ past) w.number) (sym is)
         (ram_elsewhere flat (event ∷ past) (present ∷ event ∷ past) w ram w.number (value_in table w.number) sound has
         (before_other present event past ram.domain still) refl (stands.rams event w ram has))
+
+-- the word that was written
+written_at : (enable place value : List Bool) (memory : List (List Bool)) (address : ℕ) → address < length memory
+    → writes enable place address ≡ true → value_in (written_words enable place value memory) address ≡ value
+written_at enable place value memory address lt on =
+    let parts = and_parts (number_of enable == 1) (number_of place == address) on in
+    let is : number_of place ≡ address = (Decides-eqb (number_of place) address).0 parts.1 in
+    let within : number_of place < length memory = omega arith in
+    let test : (number_of enable == 1 && nat_lt (number_of place) (length memory)) ≡ true =
+        ap (λ o. o && nat_lt (number_of place) (length memory)) parts.0 ∙ lt_test (number_of place) (length memory) within in
+    ap (λ t. value_in (if t then set memory (number_of place) value else memory) address) test
+    ∙ ap (λ n. value_in (set memory n value) address) is ∙ get_or-set_same memory address value [] lt
+
+-- the other words
+written_beside : (enable place value : List Bool) (memory : List (List Bool)) (address : ℕ) → writes enable place address ≡ false
+    → value_in (written_words enable place value memory) address ≡ value_in memory address
+written_beside enable place value memory address off = by (bool_cases (number_of enable == 1 && nat_lt (number_of place) (length memory)))
+  where
+    by : ((number_of enable == 1 && nat_lt (number_of place) (length memory)) ≡ true)
+        ⊎ ((number_of enable == 1 && nat_lt (number_of place) (length memory)) ≡ false)
+        → value_in (written_words enable place value memory) address ≡ value_in memory address
+    by (inr f) = ap (λ t. value_in (if t then set memory (number_of place) value else memory) address) f
+    by (inl t) =
+        let parts = and_parts (number_of enable == 1) (nat_lt (number_of place) (length memory)) t in
+        let differs : (number_of place == address) ≡ false = ap (λ o. o && (number_of place == address)) (sym parts.0) ∙ off in
+        let apart : address ≢ number_of place = λ e. not_true differs ((Decides-eqb (number_of place) address).1 (sym e)) in
+        ap (λ u. value_in (if u then set memory (number_of place) value else memory) address) t
+        ∙ get_or-set_other memory (number_of place) address value [] apart
+
+length_written_by : (test : Bool) (place : ℕ) (value : List Bool) (memory : List (List Bool))
+    → length (if test then set memory place value else memory) ≡ length memory
+length_written_by true place value memory = length-set memory place value
+length_written_by false place value memory = refl
+
+length-written_words : (enable place value : List Bool) (memory : List (List Bool)) → length (written_words enable place value memory) ≡ length memory
+length-written_words enable place value memory =
+    length_written_by (number_of enable == 1 && nat_lt (number_of place) (length memory)) (number_of place) value memory
+
+word_after : (flat : Flat) (table table' : List (List Bool)) (memories memories' : List (List (List Bool))) (present event : Event) (past : List Event)
+    (w : WireId) (ram : Memory) (address : ℕ) → Sound flat → HaveSizes flat memories → ShowsValues flat table (event ∷ past)
+    → StandsFor flat table memories past → Stepped flat event table memories table' memories' → HasRam flat w ram → address < length ram.words
+    → WordAt flat ram (present ∷ event ∷ past) address (word_in memories' w.number address)
+word_after flat table table' memories memories' present event past w ram address sound sizes shows stands step has lt =
+    by (bool_cases (ticks event ram.domain))
+  where
+    moved : ticks event ram.domain ≡ true
+        → (writes (value_in table ram.inputs.enable.number) (value_in table ram.inputs.place.number) address ≡ true)
+        ⊎ (writes (value_in table ram.inputs.enable.number) (value_in table ram.inputs.place.number) address ≡ false)
+        → WordAt flat ram (present ∷ event ∷ past) address (word_in memories' w.number address)
+    moved moves (inl on) =
+        let fits = cell_fits flat (Ram w ram.domain ram.words ram.inputs) sound has in
+        let all = slice_index_or memories w.number [] in
+        let within : address < length all = omega (arith, sizes w ram has) in
+        let value = value_in table ram.inputs.value.number in
+        let is : word_in memories' w.number address ≡ value =
+            ap (λ m. value_in m address) (step.words (Ram w ram.domain ram.words ram.inputs) w.number has moves refl)
+            ∙ written_at (value_in table ram.inputs.enable.number) (value_in table ram.inputs.place.number) value all address within on in
+        subst (WordAt flat ram (present ∷ event ∷ past) address) (sym is)
+        (written ram (present ∷ event ∷ past) (event ∷ past) address (value_in table ram.inputs.enable.number) (value_in table ram.inputs.place.number) value
+        (before_tick present event past ram.domain moves) (shows ram.inputs.enable.number (is_wire flat.widths ram.inputs.enable _ fits.1.3))
+        (shows ram.inputs.place.number (is_wire flat.widths ram.inputs.place _ fits.1.4)) on
+        (shows ram.inputs.value.number (is_wire flat.widths ram.inputs.value _ fits.1.5.2)))
+    moved moves (inr off) =
+        let fits = cell_fits flat (Ram w ram.domain ram.words ram.inputs) sound has in
+        let all = slice_index_or memories w.number [] in
+        let is : word_in memories' w.number address ≡ word_in memories w.number address =
+            ap (λ m. value_in m address) (step.words (Ram w ram.domain ram.words ram.inputs) w.number has moves refl)
+            ∙ written_beside (value_in table ram.inputs.enable.number) (value_in table ram.inputs.place.number)
+            (value_in table ram.inputs.value.number) all address off in
+        subst (WordAt flat ram (present ∷ event ∷ past) address) (sym is)
+        (kept ram (present ∷ event ∷ past) (event ∷ past) address (value_in table ram.inputs.enable.number) (value_in table ram.inputs.place.number)
+        (word_in memories w.number address)
+        (before_tick present event past ram.domain moves) (shows ram.inputs.enable.number (is_wire flat.widths ram.inputs.enable _ fits.1.3))
+        (shows ram.inputs.place.number (is_wire flat.widths ram.inputs.place _ fits.1.4)) off (stands.words event w ram address has lt))
+
+    by : (ticks event ram.domain ≡ true) ⊎ (ticks event ram.domain ≡ false)
+        → WordAt flat ram (present ∷ event ∷ past) address (word_in memories' w.number address)
+    by (inl moves) = moved moves (bool_cases (writes (value_in table ram.inputs.enable.number) (value_in table ram.inputs.place.number) address))
+    by (inr still) =
+        let is = step.words_stay (Ram w ram.domain ram.words ram.inputs) w.number has (not_true still) refl in
+        subst (WordAt flat ram (present ∷ event ∷ past) address) (sym (ap (λ m. value_in m address) is))
+        (word_elsewhere flat (event ∷ past) (present ∷ event ∷ past) ram address (word_in memories w.number address)
+        (before_other present event past ram.domain still) (stands.words event w ram address has lt))
+
+-- the table stands for the past with the event
+pub stands_after : (flat : Flat) (table table' : List (List Bool)) (memories memories' : List (List (List Bool))) (event : Event) (past : List Event)
+    → Sound flat → map length table ≡ flat.widths → HaveSizes flat memories → ShowsValues flat table (event ∷ past)
+    → StandsFor flat table memories past → Stepped flat event table memories table' memories' → StandsFor flat table' memories' (event ∷ past)
+stands_after flat table table' memories memories' event past sound widths sizes shows stands step = record {
+  registers = λ present w a domain initial has.
+      register_after flat table table' memories memories' present event past w a domain initial sound shows stands step has;
+  rams = λ present w ram has.
+      ram_after flat table table' memories memories' present event past w ram sound widths sizes shows stands step has;
+  words = λ present w ram address has lt.
+      word_after flat table table' memories memories' present event past w ram address sound sizes shows stands step has lt;
+}
+
+-- memories keep their sizes
+pub sizes_after : (flat : Flat) (event : Event) (table table' : List (List Bool)) (memories memories' : List (List (List Bool)))
+    → HaveSizes flat memories → Stepped flat event table memories table' memories' → HaveSizes flat memories'
+sizes_after flat event table table' memories memories' sizes step = λ w ram has. by w ram has (bool_cases (ticks event ram.domain))
+  where
+    by : (w : WireId) (ram : Memory) → HasRam flat w ram → (ticks event ram.domain ≡ true) ⊎ (ticks event ram.domain ≡ false)
+        → length (slice_index_or memories' w.number []) ≡ length ram.words
+    by w ram has (inl moves) =
+        ap length (step.words (Ram w ram.domain ram.words ram.inputs) w.number has moves refl)
+        ∙ length-written_words (value_in table ram.inputs.enable.number) (value_in table ram.inputs.place.number)
+        (value_in table ram.inputs.value.number) (slice_index_or memories w.number [])
+        ∙ sizes w ram has
+    by w ram has (inr still) =
+        ap length (step.words_stay (Ram w ram.domain ram.words ram.inputs) w.number has (not_true still) refl) ∙ sizes w ram has
