@@ -2,7 +2,7 @@
 use Rattle.std.proofs.Common.{◌≡◌, ◌≢◌, ℕ, ◌+◌, ◌<◌, ◌≤◌, ◌==◌, ◌&&◌, Bool, true, false, List, [], length, map, set, get_or, Some, ◌⊎◌, inl, inr, refl, sym, ap, subst, ◌∙◌, arith, if◌then◌else◌}
 use Rattle.std.specs.Prelude.{nat_lt, slice_index, slice_index_or}
 use Rattle.std.proofs.lemmas.Bool.{cases_eq}
-use Rattle.std.proofs.lemmas.List.{get_or-set_other, get_or-set_same, length-set}
+use Rattle.std.proofs.lemmas.List.{get_or-set_other, get_or-set_same, length-map, length-set}
 use Rattle.chw_bits.specs.Bits.{number_of}
 use Rattle.net_sim.specs.Tables.{value_in}
 use Rattle.net_sim.specs.Ticking.{MemoriesFit, written_words}
@@ -56,3 +56,11 @@ memories_written table memories w memory lt fit has =
     from v address (inr e) within =
         let is : slice_index_or (set memories w memory) v [] ≡ slice_index_or memories v [] = get_or-set_other memories w v memory [] e in
         ap (λ l. length (value_in l address)) is ∙ fit.widths v address (subst (λ l. address < length l) is within)
+
+-- memories fit each table of the same widths
+pub fit_along : (table table' : List (List Bool)) (memories : List (List (List Bool))) → map length table ≡ map length table'
+    → MemoriesFit table memories → MemoriesFit table' memories
+fit_along table table' memories widths fit = record {
+  count = fit.count ∙ sym (length-map table length) ∙ ap length widths ∙ length-map table' length;
+  widths = λ w address lt. fit.widths w address lt ∙ same_width table table' w widths;
+}

@@ -20,22 +20,12 @@ use Rattle.netlist.specs.declared.net.Cell.TheVariants.{Reg, Ram}
 use Rattle.netlist.specs.declared.net.Flat.{Flat}
 use Rattle.net_sim.specs.Stepping.{ShowsValues, StandsFor, word_in}
 use Rattle.net_sim.specs.Tables.{value_in}
-use Rattle.net_sim.specs.Ticking.{HaveSizes, Moves, MovesWords, WrittenBefore, moved_bits, moved_words, shown_word, written_words}
+use Rattle.net_sim.specs.Ticking.{HaveSizes, Stepped, Moves, MovesWords, WrittenBefore, moved_bits, moved_words, shown_word, written_words}
 use Rattle.net_sim.proofs.Cells.{cell_fits, same_cell}
 use Rattle.net_sim.proofs.Histories.{before_other, before_tick, ram_elsewhere, register_elsewhere, taken_reset, taken_tick, word_elsewhere}
 use Rattle.net_sim.proofs.Wiring.{is_wire, width_at, wire_width}
 
--- what an event did to a table: registers and RAMs that move show what they took, and the others stay
-pub record Stepped (flat : Flat) (event : Event) (table : List (List Bool)) (memories : List (List (List Bool)))
-    (table' : List (List Bool)) (memories' : List (List (List Bool))) : Type 0 where
-  pub moved : (cell : Cell) (w : ℕ) → HasCell flat cell → Moves event cell → target cell ≡ Some w
-      → value_in table' w ≡ moved_bits event table memories cell
-  pub stays : (cell : Cell) (w : ℕ) → HasCell flat cell → (Moves event cell → ⊥) → target cell ≡ Some w → value_in table' w ≡ value_in table w
-  pub words : (cell : Cell) (w : ℕ) → HasCell flat cell → MovesWords event cell → target cell ≡ Some w
-      → slice_index_or memories' w [] ≡ moved_words table cell (slice_index_or memories w [])
-  pub words_stay : (cell : Cell) (w : ℕ) → HasCell flat cell → (MovesWords event cell → ⊥) → target cell ≡ Some w
-      → slice_index_or memories' w [] ≡ slice_index_or memories w []
-
+-- the three rounds of an event make a step
 pub stepped : (flat : Flat) (event : Event) (table next next' table' : List (List Bool)) (memories memories' : List (List (List Bool))) → Sound flat
     → WrittenBefore (List Bool) [] (Moves event) (λ w cell old. moved_bits event table memories cell) flat next next' (length flat.cells)
     → WrittenBefore (List (List Bool)) [] (MovesWords event) (λ w cell old. moved_words table cell old) flat memories memories' (length flat.cells)

@@ -5,3 +5,4 @@ pub mod Parts
 pub mod Stepping
 pub mod Settling
 pub mod Ticking
+pub mod Sims

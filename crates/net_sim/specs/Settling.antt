@@ -14,11 +14,16 @@ pub record Renews (cell : Cell) (old new : List (List Bool)) : Type 0 where
   pub stays : (KeepsNothing cell → ⊥) → new ≡ old
   pub widths : map length new ≡ map length old
 
+-- the wires of registers and RAMs are as they were
+abbrev pub KeepsKeepers : Flat → (old new : List (List Bool)) → Type 0
+KeepsKeepers flat old new =
+    (cell : Cell) (w : ℕ) → HasCell flat cell → (KeepsNothing cell → ⊥) → target cell ≡ Some w
+    → value_in new w ≡ value_in old w
+
 -- the inputs, and the wires of registers and RAMs, are as they were
 pub record KeepsOthers (flat : Flat) (old new : List (List Bool)) : Type 0 where
   pub inputs : (w : ℕ) → w < length flat.ports.inputs → value_in new w ≡ value_in old w
-  pub keepers : (cell : Cell) (w : ℕ) → HasCell flat cell → (KeepsNothing cell → ⊥)
-      → target cell ≡ Some w → value_in new w ≡ value_in old w
+  pub keepers : KeepsKeepers flat old new
 
 -- the cell at this place has made its wire's bits of what it reads, if it keeps nothing
 abbrev pub IsSettledAt : Flat → List (List Bool) → ℕ → Type 0

@@ -7,7 +7,7 @@ use Rattle.chw_clock.specs.Histories.{resets, ticks}
 use Rattle.chw_clock.specs.declared.event.Event.{Event}
 use Rattle.net_sim.specs.Tables.{value_in}
 use Rattle.netlist.specs.Feeds.{target}
-use Rattle.netlist.specs.NetValue.{HasRam, Memory, zeros}
+use Rattle.netlist.specs.NetValue.{HasCell, HasRam, Memory, zeros}
 use Rattle.netlist.specs.declared.net.Cell.{Cell}
 use Rattle.netlist.specs.declared.net.Cell.TheVariants.{Reg, Ram}
 use Rattle.netlist.specs.declared.net.Flat.{Flat}
@@ -83,3 +83,18 @@ abbrev pub HaveSizes : Flat → List (List (List Bool)) → Type 0
 HaveSizes flat memories =
     (w : WireId) (ram : Memory) → HasRam flat w ram
     → length (slice_index_or memories w.number []) ≡ length ram.words
+
+-- what an event did to a table and its memories:
+-- registers and RAMs that move show what they took, and the others stay
+pub record Stepped (flat : Flat) (event : Event) (table : List (List Bool))
+    (memories : List (List (List Bool))) (table' : List (List Bool))
+    (memories' : List (List (List Bool))) : Type 0 where
+  pub moved : (cell : Cell) (w : ℕ) → HasCell flat cell → Moves event cell
+      → target cell ≡ Some w → value_in table' w ≡ moved_bits event table memories cell
+  pub stays : (cell : Cell) (w : ℕ) → HasCell flat cell → (Moves event cell → ⊥)
+      → target cell ≡ Some w → value_in table' w ≡ value_in table w
+  pub words : (cell : Cell) (w : ℕ) → HasCell flat cell → MovesWords event cell
+      → target cell ≡ Some w
+      → slice_index_or memories' w [] ≡ moved_words table cell (slice_index_or memories w [])
+  pub words_stay : (cell : Cell) (w : ℕ) → HasCell flat cell → (MovesWords event cell → ⊥)
+      → target cell ≡ Some w → slice_index_or memories' w [] ≡ slice_index_or memories w []

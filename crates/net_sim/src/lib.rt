@@ -2,16 +2,18 @@
 #![tactic(auto)]
 
 mod inputs;
-mod memory;
+pub mod memory;
 mod narrow;
 mod narrow_step;
 mod reading;
 mod room;
 mod settle;
+pub mod sim;
 mod tick;
 mod wide;
 mod wide_step;
 pub mod word;
 mod words;
 
+pub use sim::Sim;
 pub use word::Word;

@@ -4,7 +4,7 @@ ghost use Rattle.chw_bits.specs.Bits.{number_of};
 ghost use Rattle.chw_clock.specs.Histories.{resets, ticks};
 ghost use Rattle.net_sim.specs.Tables.{value_in};
 ghost use Rattle.net_sim.specs.Ticking.{MemoriesFit, Moves, MovesWords, Writes, WrittenBefore, moved_bits, moved_words};
-ghost use Rattle.net_sim.specs.Ticking.{shown_word, written_words};
+ghost use Rattle.net_sim.specs.Ticking.{Stepped, shown_word, written_words};
 ghost use Rattle.netlist.specs.Sound.{FitsCell, IsWire, Sound};
 
 use crate::memory::Memory;
@@ -158,8 +158,8 @@ fn put(cell: &Cell, event: &Event, next: &[Word], words: &mut [Word])
     }
 }
 
-/// Takes what all registers and RAMs show after an event in which they move.
-pub(crate) fn take_all(
+// Takes what all registers and RAMs show after an event in which they move.
+fn take_all(
     flat: &Flat,
     event: &Event,
     words: &[Word],
@@ -180,8 +180,8 @@ pub(crate) fn take_all(
     }
 }
 
-/// Writes the words of all RAMs that move in an event.
-pub(crate) fn write_all(flat: &Flat, event: &Event, words: &[Word], memories: &mut [Memory])
+// Writes the words of all RAMs that move in an event.
+fn write_all(flat: &Flat, event: &Event, words: &[Word], memories: &mut [Memory])
     requires sound { Sound flat.now }
     requires table { map length words.now ≡ flat.now.widths }
     requires memories { MemoriesFit words.now memories.old }
@@ -195,8 +195,8 @@ pub(crate) fn write_all(flat: &Flat, event: &Event, words: &[Word], memories: &m
     }
 }
 
-/// Puts what all registers and RAMs show after an event in which they move.
-pub(crate) fn put_all(flat: &Flat, event: &Event, next: &[Word], words: &mut [Word])
+// Puts what all registers and RAMs show after an event in which they move.
+fn put_all(flat: &Flat, event: &Event, next: &[Word], words: &mut [Word])
     requires sound { Sound flat.now }
     requires table { map length words.old ≡ flat.now.widths }
     requires widths { map length next.now ≡ map length words.old }
@@ -207,4 +207,26 @@ pub(crate) fn put_all(flat: &Flat, event: &Event, next: &[Word], words: &mut [Wo
     for place in 0..flat.cells.len() {
         put(cell_at(flat, place), event, next, words);
     }
+}
+
+/// Moves all registers and RAMs that move in an event: each takes what it takes before any moves.
+pub(crate) fn advance(
+    flat: &Flat,
+    event: &Event,
+    words: &mut [Word],
+    next: &mut [Word],
+    memories: &mut [Memory],
+)
+    requires sound { Sound flat.now }
+    requires table { map length words.old ≡ flat.now.widths }
+    requires widths { map length next.old ≡ map length words.old }
+    requires memories { MemoriesFit words.old memories.old }
+    ensures stepped { Stepped flat.now event.now words.old memories.old words.new memories.new }
+    ensures widths { map length words.new ≡ map length words.old }
+    ensures next { map length next.new ≡ map length words.old }
+    ensures memories { MemoriesFit words.new memories.new }
+{
+    take_all(flat, event, words, memories, next);
+    write_all(flat, event, words, memories);
+    put_all(flat, event, next, words);
 }
