@@ -1,19 +1,15 @@
 -- Events put before a history, and what registers and RAMs show there.
-use Rattle.std.proofs.Common.{◌≡◌, ℕ, ◌<◌, ◌≤◌, ◌==◌, ◌&&◌, Bool, true, false, List, [], ◌∷◌, length, map, Option, Some, None, slice_get, ◌⊎◌, inl, inr, refl, sym, ap, subst, ◌∙◌, arith, if◌then◌else◌}
-use Rattle.std.specs.Prelude.{option_and_then, slice_index_or, nat_lt}
+use Rattle.std.proofs.Common.{◌≡◌, ℕ, Bool, true, false, List, ◌∷◌, Option, Some, None, refl, sym, ap, subst, ◌∙◌, if◌then◌else◌}
 use Rattle.chw_base.specs.declared.index.DomId.{DomId}
 use Rattle.chw_base.specs.declared.index.WireId.{WireId}
-use Rattle.chw_bits.specs.Bits.{number_of}
-use Rattle.chw_clock.specs.Histories.{before, is_reset, resets, taken, ticks, unless_reset, up_to_tick}
+use Rattle.chw_clock.specs.Histories.{before, resets, taken, ticks, unless_reset, up_to_tick}
 use Rattle.chw_clock.specs.declared.event.Event.{Event}
-use Rattle.netlist.specs.Feeds.{target}
-use Rattle.netlist.specs.NetValue.{HasCell, HasRam, Memory, NetValue, WordAt, writes, zeros}
+use Rattle.netlist.specs.NetValue.{HasCell, HasRam, Memory, NetValue, WordAt}
 use Rattle.netlist.specs.NetValue.NetValue.{input, operated, first, later, unread, outside, shown}
 use Rattle.netlist.specs.NetValue.WordAt.{unwritten, written, kept}
-use Rattle.netlist.specs.Operators.{KeepsNothing, operator}
+use Rattle.netlist.specs.Operators.{KeepsNothing}
 use Rattle.netlist.specs.Sound.{Sound}
-use Rattle.netlist.specs.declared.net.Cell.{Cell}
-use Rattle.netlist.specs.declared.net.Cell.TheVariants.{Reg, Ram, Use}
+use Rattle.netlist.specs.declared.net.Cell.TheVariants.{Reg, Ram}
 use Rattle.netlist.specs.declared.net.Flat.{Flat}
 use Rattle.net_sim.proofs.Cells.{drives_no_input, same_cell}
 
@@ -51,12 +47,12 @@ register_elsewhere flat _ g w a domain initial _ _ sound has same n_is (operated
     absurd (subst KeepsNothing (same_cell flat n cell (Reg w domain initial a) sound has' t has (ap Some (sym n_is))) keeps)
 register_elsewhere flat _ g w a domain initial _ _ sound has same n_is (first v b domain' initial' h has' e) =
     let is : Reg v domain' initial' b ≡ Reg w domain initial a =
-        same_cell flat v.number (Reg v domain' initial' b) (Reg w domain initial a) sound has' refl has (ap Some (sym n_is)) in
+    same_cell flat v.number (Reg v domain' initial' b) (Reg w domain initial a) sound has' refl has (ap Some (sym n_is)) in
     let domains : domain' ≡ domain = cc in
     first v b domain' initial' g has' (ap (taken g) domains ∙ sym same ∙ ap (taken h) (sym domains) ∙ e)
 register_elsewhere flat _ g w a domain initial _ _ sound has same n_is (later v b domain' initial' bits h past has' e u) =
     let is : Reg v domain' initial' b ≡ Reg w domain initial a =
-        same_cell flat v.number (Reg v domain' initial' b) (Reg w domain initial a) sound has' refl has (ap Some (sym n_is)) in
+    same_cell flat v.number (Reg v domain' initial' b) (Reg w domain initial a) sound has' refl has (ap Some (sym n_is)) in
     let domains : domain' ≡ domain = cc in
     later v b domain' initial' bits g past has' (ap (taken g) domains ∙ sym same ∙ ap (taken h) (sym domains) ∙ e) u
 register_elsewhere flat _ g w a domain initial _ _ sound has same n_is (unread v ram width h has' wide e) =
@@ -85,17 +81,17 @@ ram_elsewhere flat _ g w ram _ _ sound has same n_is (later v b domain' initial'
     absurd (cc)
 ram_elsewhere flat _ g w ram _ _ sound has same n_is (unread v other width h has' wide e) =
     let is : Ram v other.domain other.words other.inputs ≡ Ram w ram.domain ram.words ram.inputs =
-        same_cell flat v.number _ _ sound has' refl has (ap Some (sym n_is)) in
+    same_cell flat v.number _ _ sound has' refl has (ap Some (sym n_is)) in
     let domains : other.domain ≡ ram.domain = cc in
     unread v other width g has' wide (ap (before g) domains ∙ sym same ∙ ap (before h) (sym domains) ∙ e)
 ram_elsewhere flat _ g w ram _ _ sound has same n_is (outside v other width h past address has' wide e u le) =
     let is : Ram v other.domain other.words other.inputs ≡ Ram w ram.domain ram.words ram.inputs =
-        same_cell flat v.number _ _ sound has' refl has (ap Some (sym n_is)) in
+    same_cell flat v.number _ _ sound has' refl has (ap Some (sym n_is)) in
     let domains : other.domain ≡ ram.domain = cc in
     outside v other width g past address has' wide (ap (before g) domains ∙ sym same ∙ ap (before h) (sym domains) ∙ e) u le
 ram_elsewhere flat _ g w ram _ _ sound has same n_is (shown v other h past address bits has' e u lt word) =
     let is : Ram v other.domain other.words other.inputs ≡ Ram w ram.domain ram.words ram.inputs =
-        same_cell flat v.number _ _ sound has' refl has (ap Some (sym n_is)) in
+    same_cell flat v.number _ _ sound has' refl has (ap Some (sym n_is)) in
     let domains : other.domain ≡ ram.domain = cc in
     shown v other g past address bits has' (ap (before g) domains ∙ sym same ∙ ap (before h) (sym domains) ∙ e) u lt word
 

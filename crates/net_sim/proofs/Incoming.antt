@@ -44,7 +44,7 @@ next_width inputs old words k d lt le widths is =
     let front = take k inputs in
     let count : length front ≡ k = length-take-le k inputs (omega arith) in
     let there : get_or words k d ≡ value_in old k =
-        ap (λ l. get_or l k d) (split_here inputs old words k lt le is) ∙ get_or_at front (value_in old k) (drop (k + 1) old) d k count in
+    ap (λ l. get_or l k d) (split_here inputs old words k lt le is) ∙ get_or_at front (value_in old k) (drop (k + 1) old) d k count in
     sym (width_at inputs k) ∙ ap (λ l. get_or l k 0) widths ∙ get_or-take (length inputs) (map length old) k 0 lt ∙ width_at old k
     ∙ ap length (sym there)
 
@@ -74,8 +74,13 @@ pub incoming_few : (flat : Flat) (table : List (List Bool)) (event : Event) → 
 incoming_few flat table event sound widths have =
     let count = inputs_count flat event have in
     let front = ap length sound.inputs in
-    omega (arith, length-map flat.ports.inputs (λ (port : Port). port.width), length-take (length flat.ports.inputs) flat.widths,
-    ap length widths, length-map table length)
+    omega (
+      arith,
+      length-map flat.ports.inputs (λ (port : Port). port.width),
+      length-take (length flat.ports.inputs) flat.widths,
+      ap length widths,
+      length-map table length,
+    )
 
 pub incoming_fit : (flat : Flat) (table : List (List Bool)) (event : Event) → Sound flat → map length table ≡ flat.widths
     → HaveWidths flat.ports.inputs event.inputs → map length event.inputs ≡ take (length event.inputs) (map length table)
@@ -91,8 +96,8 @@ settled_inputs flat places event old put new sound order widths have is before =
   inputs = λ w lt.
       let within : w < length event.inputs = omega (arith, inputs_count flat event have) in
       let same : value_in new w ≡ value_in event.inputs w =
-          before.others.inputs w lt ∙ ap (λ l. value_in l w) is
-          ∙ get_or_append_left event.inputs (drop (length event.inputs) old) [] w within in
+      before.others.inputs w lt ∙ ap (λ l. value_in l w) is
+      ∙ get_or_append_left event.inputs (drop (length event.inputs) old) [] w within in
       slice_get-get_or event.inputs w [] within ∙ ap Some (sym same);
   cells = λ cell w has keeps t.
       let found = order.all has.0 (slice_get_within flat.cells has.0 cell has.1) in

@@ -12,3 +12,5 @@ pub mod Writing
 pub mod Moving
 pub mod Histories
 pub mod Stepped
+pub mod Kept
+pub mod First

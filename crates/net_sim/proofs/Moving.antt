@@ -1,5 +1,5 @@
 -- What registers, RAMs and their memories have after an event.
-use Rattle.std.proofs.Common.{◌≡◌, ◌≢◌, ℕ, ◌+◌, ◌<◌, ◌≤◌, ◌==◌, ◌&&◌, Bool, true, false, List, [], length, map, set, get_or, Some, ◌⊎◌, inl, inr, refl, sym, ap, subst, ◌∙◌, arith, if◌then◌else◌}
+use Rattle.std.proofs.Common.{◌≡◌, ◌≢◌, ℕ, ◌<◌, ◌==◌, ◌&&◌, Bool, true, false, List, [], length, map, set, ◌⊎◌, inl, inr, sym, ap, subst, ◌∙◌, arith, if◌then◌else◌}
 use Rattle.std.specs.Prelude.{nat_lt, slice_index, slice_index_or}
 use Rattle.std.proofs.lemmas.Bool.{cases_eq}
 use Rattle.std.proofs.lemmas.List.{get_or-set_other, get_or-set_same, length-map, length-set}
@@ -50,7 +50,7 @@ memories_written table memories w memory lt fit has =
         → length (value_in (slice_index_or (set memories w memory) v []) address) ≡ length (value_in table v)
     from v address (inl e) within =
         let is : slice_index_or (set memories w memory) v [] ≡ memory =
-            ap (λ n. slice_index_or (set memories w memory) n []) e ∙ get_or-set_same memories w memory [] lt in
+        ap (λ n. slice_index_or (set memories w memory) n []) e ∙ get_or-set_same memories w memory [] lt in
         ap (λ l. length (value_in l address)) is ∙ has address (subst (λ l. address < length l) is within)
         ∙ ap (λ n. length (value_in table n)) (sym e)
     from v address (inr e) within =

@@ -1,12 +1,11 @@
 -- Cells that settle their wires along an order.
-use Rattle.std.proofs.Common.{◌≡◌, ◌≢◌, ℕ, zero, suc, ◌+◌, ◌<◌, ◌≤◌, Bool, List, [], ◌∷◌, length, map, set, get_or, Some, None, slice_get, ◌⊎◌, inl, inr, refl, sym, ap, subst, ◌∙◌, arith}
-use Rattle.std.specs.Prelude.{option_and_then, option_map, slice_index}
-use Rattle.std.specs.List.{AllByRecursion}
+use Rattle.std.proofs.Common.{◌≡◌, ◌≢◌, ℕ, suc, ◌+◌, ◌<◌, ◌≤◌, Bool, List, [], ◌∷◌, length, map, set, Some, slice_get, ◌⊎◌, inl, inr, refl, sym, ap, subst, ◌∙◌, arith}
+use Rattle.std.specs.Prelude.{slice_index}
 use Rattle.std.proofs.lemmas.Bool.{cases_lt}
 use Rattle.std.proofs.lemmas.List.{get_or-set_other, get_or-set_same, length-map}
 use Rattle.std.proofs.lemmas.Option.{slice_get_within}
 use Rattle.chw_base.specs.declared.index.WireId.{WireId}
-use Rattle.netlist.specs.Feeds.{awaited_at, target, target_at}
+use Rattle.netlist.specs.Feeds.{target, target_at}
 use Rattle.netlist.specs.NetValue.{HasCell}
 use Rattle.netlist.specs.Operators.{KeepsNothing, operator}
 use Rattle.netlist.specs.Orders.{IsOrder}
@@ -68,8 +67,8 @@ settled_up_to flat places table i w cell sound order lt at keeps t there before 
     let new = set table w (given_in table cell) in
     let drives = target_there flat (slice_index places i) w cell at t in
     let same : given_in new other ≡ given_in table other =
-        ap (operator other) (values_beside table w (given_in table cell) (read_by other)
-        (λ k u reads. reads_no_later flat places i j k w other u order lt (omega arith) at' keeps' reads drives)) in
+    ap (operator other) (values_beside table w (given_in table cell) (read_by other)
+    (λ k u reads. reads_no_later flat places i j k w other u order lt (omega arith) at' keeps' reads drives)) in
     from (cases_lt j i) other v at' keeps' t' same
   where
     from : (j < i) ⊎ (i ≤ j) → (other : Cell) (v : ℕ) → slice_get flat.cells (slice_index places j) ≡ Some other → KeepsNothing other
@@ -77,11 +76,11 @@ settled_up_to flat places table i w cell sound order lt at keeps t there before 
         → value_in (set table w (given_in table cell)) v ≡ given_in (set table w (given_in table cell)) other
     from (inl less) other v at' keeps' t' same =
         let apart : v ≢ w = λ e.
-            let drives = target_there flat (slice_index places i) w cell at t in
-            let drives' = target_there flat (slice_index places j) v other at' t' in
-            let is = (driven_once flat sound).once (slice_index places j) (slice_index places i) w (drives' ∙ ap Some e) drives in
-            let i_is = order.once j i (omega arith) lt is in
-            omega arith in
+        let drives = target_there flat (slice_index places i) w cell at t in
+        let drives' = target_there flat (slice_index places j) v other at' t' in
+        let is = (driven_once flat sound).once (slice_index places j) (slice_index places i) w (drives' ∙ ap Some e) drives in
+        let i_is = order.once j i (omega arith) lt is in
+        omega arith in
         get_or-set_other table w v (given_in table cell) [] apart ∙ before j less other v at' keeps' t' ∙ sym same
     from (inr more) other v at' keeps' t' same =
         let is : j ≡ i = omega arith in

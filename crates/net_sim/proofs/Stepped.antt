@@ -1,29 +1,27 @@
 -- After an event in which it is settled, a table stands for the past with that event.
-use Rattle.std.proofs.Common.{◌≡◌, ◌≢◌, ℕ, ◌+◌, ◌<◌, ◌≤◌, ◌==◌, ◌&&◌, Bool, true, false, List, [], ◌∷◌, length, map, set, get_or, Some, None, slice_get, ◌⊎◌, inl, inr, refl, sym, ap, subst, ◌∙◌, arith, if◌then◌else◌}
-use Rattle.std.specs.Prelude.{nat_lt, slice_index, slice_index_or}
-use Rattle.std.proofs.lemmas.Bool.{and_parts, cases_eq, cases_lt}
+use Rattle.std.proofs.Common.{◌≡◌, ◌≢◌, ℕ, ◌<◌, ◌≤◌, ◌==◌, ◌&&◌, Bool, true, false, List, [], ◌∷◌, length, map, set, ◌⊎◌, inl, inr, refl, sym, ap, subst, ◌∙◌, arith, if◌then◌else◌}
+use Rattle.std.specs.Prelude.{nat_lt, slice_index_or}
+use Rattle.std.proofs.lemmas.Bool.{and_parts, cases_lt}
 use Rattle.std.proofs.lemmas.Bool.Decides.{Decides-eqb, nat_tests}
-use Rattle.std.proofs.lemmas.List.{get_or-set_other, get_or-set_same, length-map, length-set}
+use Rattle.std.proofs.lemmas.List.{get_or-set_other, get_or-set_same, length-set}
 use Rattle.std.proofs.lemmas.Option.{slice_get_within}
 use Rattle.chw_base.specs.declared.index.DomId.{DomId}
 use Rattle.chw_base.specs.declared.index.WireId.{WireId}
 use Rattle.chw_bits.specs.Bits.{number_of}
-use Rattle.chw_clock.specs.Histories.{before, resets, ticks, unless_reset}
+use Rattle.chw_clock.specs.Histories.{resets, ticks, unless_reset}
 use Rattle.chw_clock.specs.declared.event.Event.{Event}
-use Rattle.netlist.specs.Feeds.{target}
 use Rattle.netlist.specs.NetValue.{HasCell, HasRam, Memory, NetValue, WordAt, writes, zeros}
 use Rattle.netlist.specs.NetValue.NetValue.{first, later, outside, shown}
 use Rattle.netlist.specs.NetValue.WordAt.{kept, written}
 use Rattle.netlist.specs.Sound.{HasWidth, IsWire, Sound}
-use Rattle.netlist.specs.declared.net.Cell.{Cell}
 use Rattle.netlist.specs.declared.net.Cell.TheVariants.{Reg, Ram}
 use Rattle.netlist.specs.declared.net.Flat.{Flat}
 use Rattle.net_sim.specs.Stepping.{ShowsValues, StandsFor, word_in}
 use Rattle.net_sim.specs.Tables.{value_in}
-use Rattle.net_sim.specs.Ticking.{HaveSizes, Stepped, Moves, MovesWords, WrittenBefore, moved_bits, moved_words, shown_word, written_words}
+use Rattle.net_sim.specs.Ticking.{HaveSizes, Stepped, Moves, MovesWords, WrittenBefore, moved_bits, moved_words, written_words}
 use Rattle.net_sim.proofs.Cells.{cell_fits, same_cell}
 use Rattle.net_sim.proofs.Histories.{before_other, before_tick, ram_elsewhere, register_elsewhere, taken_reset, taken_tick, word_elsewhere}
-use Rattle.net_sim.proofs.Wiring.{is_wire, width_at, wire_width}
+use Rattle.net_sim.proofs.Wiring.{is_wire, wire_width}
 
 -- the three rounds of an event make a step
 pub stepped : (flat : Flat) (event : Event) (table next next' table' : List (List Bool)) (memories memories' : List (List (List Bool))) → Sound flat
@@ -99,8 +97,8 @@ ram_after flat table table' memories memories' present event past w ram sound wi
         let all = slice_index_or memories w.number [] in
         let within : at < length all = omega (arith, sizes w ram has) in
         let is : value_in table' w.number ≡ word_in memories w.number at =
-            step.moved (Ram w ram.domain ram.words ram.inputs) w.number has moves refl
-            ∙ ap (λ t. if t then value_in all at else zeros (length (value_in table w.number))) (lt_test at (length all) within) in
+        step.moved (Ram w ram.domain ram.words ram.inputs) w.number has moves refl
+        ∙ ap (λ t. if t then value_in all at else zeros (length (value_in table w.number))) (lt_test at (length all) within) in
         subst (NetValue flat (present ∷ event ∷ past) w.number) (sym is)
         (shown w ram (present ∷ event ∷ past) (event ∷ past) (value_in table ram.inputs.read.number) (word_in memories w.number at) has
         (before_tick present event past ram.domain moves) read inside (stands.words event w ram at has inside))
@@ -111,10 +109,10 @@ ram_after flat table table' memories memories' present event past w ram sound wi
         let all = slice_index_or memories w.number [] in
         let outer : length all ≤ at = omega (arith, sizes w ram has) in
         let wide : length (value_in table w.number) ≡ fits.1.5.0 =
-            wire_width table w fits.1.5.0 (subst (λ ws. HasWidth ws w fits.1.5.0) (sym widths) fits.1.5.1) in
+        wire_width table w fits.1.5.0 (subst (λ ws. HasWidth ws w fits.1.5.0) (sym widths) fits.1.5.1) in
         let is : value_in table' w.number ≡ zeros fits.1.5.0 =
-            step.moved (Ram w ram.domain ram.words ram.inputs) w.number has moves refl
-            ∙ ap (λ t. if t then value_in all at else zeros (length (value_in table w.number))) (ge_test at (length all) outer) ∙ ap zeros wide in
+        step.moved (Ram w ram.domain ram.words ram.inputs) w.number has moves refl
+        ∙ ap (λ t. if t then value_in all at else zeros (length (value_in table w.number))) (ge_test at (length all) outer) ∙ ap zeros wide in
         subst (NetValue flat (present ∷ event ∷ past) w.number) (sym is)
         (outside w ram fits.1.5.0 (present ∷ event ∷ past) (event ∷ past) (value_in table ram.inputs.read.number) has fits.1.5.1
         (before_tick present event past ram.domain moves) read past_end)
@@ -135,7 +133,7 @@ written_at enable place value memory address lt on =
     let is : number_of place ≡ address = (Decides-eqb (number_of place) address).0 parts.1 in
     let within : number_of place < length memory = omega arith in
     let test : (number_of enable == 1 && nat_lt (number_of place) (length memory)) ≡ true =
-        ap (λ o. o && nat_lt (number_of place) (length memory)) parts.0 ∙ lt_test (number_of place) (length memory) within in
+    ap (λ o. o && nat_lt (number_of place) (length memory)) parts.0 ∙ lt_test (number_of place) (length memory) within in
     ap (λ t. value_in (if t then set memory (number_of place) value else memory) address) test
     ∙ ap (λ n. value_in (set memory n value) address) is ∙ get_or-set_same memory address value [] lt
 
@@ -181,8 +179,8 @@ word_after flat table table' memories memories' present event past w ram address
         let within : address < length all = omega (arith, sizes w ram has) in
         let value = value_in table ram.inputs.value.number in
         let is : word_in memories' w.number address ≡ value =
-            ap (λ m. value_in m address) (step.words (Ram w ram.domain ram.words ram.inputs) w.number has moves refl)
-            ∙ written_at (value_in table ram.inputs.enable.number) (value_in table ram.inputs.place.number) value all address within on in
+        ap (λ m. value_in m address) (step.words (Ram w ram.domain ram.words ram.inputs) w.number has moves refl)
+        ∙ written_at (value_in table ram.inputs.enable.number) (value_in table ram.inputs.place.number) value all address within on in
         subst (WordAt flat ram (present ∷ event ∷ past) address) (sym is)
         (written ram (present ∷ event ∷ past) (event ∷ past) address (value_in table ram.inputs.enable.number) (value_in table ram.inputs.place.number) value
         (before_tick present event past ram.domain moves) (shows ram.inputs.enable.number (is_wire flat.widths ram.inputs.enable _ fits.1.3))
@@ -192,9 +190,9 @@ word_after flat table table' memories memories' present event past w ram address
         let fits = cell_fits flat (Ram w ram.domain ram.words ram.inputs) sound has in
         let all = slice_index_or memories w.number [] in
         let is : word_in memories' w.number address ≡ word_in memories w.number address =
-            ap (λ m. value_in m address) (step.words (Ram w ram.domain ram.words ram.inputs) w.number has moves refl)
-            ∙ written_beside (value_in table ram.inputs.enable.number) (value_in table ram.inputs.place.number)
-            (value_in table ram.inputs.value.number) all address off in
+        ap (λ m. value_in m address) (step.words (Ram w ram.domain ram.words ram.inputs) w.number has moves refl)
+        ∙ written_beside (value_in table ram.inputs.enable.number) (value_in table ram.inputs.place.number)
+        (value_in table ram.inputs.value.number) all address off in
         subst (WordAt flat ram (present ∷ event ∷ past) address) (sym is)
         (kept ram (present ∷ event ∷ past) (event ∷ past) address (value_in table ram.inputs.enable.number) (value_in table ram.inputs.place.number)
         (word_in memories w.number address)

@@ -1,5 +1,5 @@
 -- Cells that write their items one after another.
-use Rattle.std.proofs.Common.{◌≡◌, ◌≢◌, ℕ, zero, suc, ◌+◌, ◌<◌, ◌≤◌, Bool, true, false, List, [], length, map, set, get_or, Some, None, slice_get, ◌⊎◌, inl, inr, refl, sym, ap, subst, ◌∙◌, arith}
+use Rattle.std.proofs.Common.{◌≡◌, ◌≢◌, ℕ, ◌+◌, ◌<◌, ◌≤◌, Bool, true, false, List, length, map, set, Some, slice_get, ◌⊎◌, inl, inr, refl, sym, ap, subst, ◌∙◌, arith}
 use Rattle.std.specs.Prelude.{slice_index_or}
 use Rattle.std.proofs.lemmas.Bool.{cases_lt}
 use Rattle.std.proofs.lemmas.List.{get_or-set_other, get_or-set_same}
@@ -9,7 +9,7 @@ use Rattle.netlist.specs.Feeds.{target}
 use Rattle.netlist.specs.NetValue.{HasCell}
 use Rattle.netlist.specs.Sound.{FitsCell, Sound}
 use Rattle.netlist.specs.declared.net.Cell.{Cell}
-use Rattle.netlist.specs.declared.net.Cell.TheVariants.{Const, Copy, Join, Cut, Un, Bin, Mux, Reg, Ram, Use}
+use Rattle.netlist.specs.declared.net.Cell.TheVariants.{Reg, Ram}
 use Rattle.netlist.specs.declared.net.Flat.{Flat}
 use Rattle.net_sim.specs.Ticking.{Moves, MovesWords, Writes, WrittenBefore}
 use Rattle.net_sim.proofs.Cells.{cell_fits, driven_once, target_there}
@@ -55,7 +55,7 @@ written_more X none Kind made flat old now new i cell sound kind there at before
         let item = made w cell (slice_index_or now w none) in
         let is = writes.item own w to.1 in
         let untouched : slice_index_or now w none ≡ slice_index_or old w none =
-            before.others w (λ j other less at' is' t'. apart j w w other less at' t' to.1 refl) in
+        before.others w (λ j other less at' is' t'. apart j w w other less at' t' to.1 refl) in
         record {
           items = λ j v other le at' is' t'.
               subst (λ l. slice_index_or l v none ≡ made v other (slice_index_or old v none)) (sym is)

@@ -6,3 +6,4 @@ pub mod Stepping
 pub mod Settling
 pub mod Ticking
 pub mod Sims
+pub mod Opening

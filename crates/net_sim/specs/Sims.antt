@@ -7,7 +7,6 @@ use Rattle.net_sim.specs.Ticking.{HaveSizes, MemoriesFit}
 use Rattle.net_sim.specs.declared.sim.Sim.{Sim}
 use Rattle.netlist.specs.Orders.{IsOrder}
 use Rattle.netlist.specs.Sound.{Sound}
-use Rattle.netlist.specs.declared.net.Flat.{Flat}
 
 -- the bits of the wire of this number
 abbrev pub value_of : Sim → ℕ → List Bool

@@ -11,7 +11,6 @@ use Rattle.netlist.specs.NetValue.{HasCell, HasRam, Memory, zeros}
 use Rattle.netlist.specs.declared.net.Cell.{Cell}
 use Rattle.netlist.specs.declared.net.Cell.TheVariants.{Reg, Ram}
 use Rattle.netlist.specs.declared.net.Flat.{Flat}
-use Rattle.netlist.specs.declared.net.RamIn.{RamIn}
 
 -- the cell is a register or a RAM whose domain ticks
 abbrev pub Moves : Event → Cell → Type 0
@@ -68,15 +67,15 @@ pub record WrittenBefore (X : Type 0) (none : X) (Kind : Cell → Type 0) (made 
       → slice_index_or new w none ≡ made w cell (slice_index_or old w none)
   pub others : (w : ℕ)
       → ((j : ℕ) (cell : Cell) → j < i → slice_get flat.cells j ≡ Some cell → Kind cell
-        → target cell ≡ Some w → ⊥)
+      → target cell ≡ Some w → ⊥)
       → slice_index_or new w none ≡ slice_index_or old w none
 
 -- There is a memory for each wire of the table, and its words have the wire's width.
 pub record MemoriesFit (table : List (List Bool)) (memories : List (List (List Bool))) : Type 0
-    where
-  pub count : length memories ≡ length table
-  pub widths : (w address : ℕ) → address < length (slice_index_or memories w [])
-      → length (value_in (slice_index_or memories w []) address) ≡ length (value_in table w)
+  where
+    pub count : length memories ≡ length table
+    pub widths : (w address : ℕ) → address < length (slice_index_or memories w [])
+        → length (value_in (slice_index_or memories w []) address) ≡ length (value_in table w)
 
 -- The memory of each RAM of the net has as many words as the RAM.
 abbrev pub HaveSizes : Flat → List (List (List Bool)) → Type 0

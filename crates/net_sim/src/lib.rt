@@ -5,6 +5,7 @@ mod inputs;
 pub mod memory;
 mod narrow;
 mod narrow_step;
+mod opening;
 mod reading;
 mod room;
 mod settle;

@@ -1,5 +1,5 @@
 //! `Memory`, the words of a RAM.
-ghost use Rattle.std.specs.Prelude.{◌≡◌, ◌<◌, ◌≤◌, length, map, IfOk, slice_set};
+ghost use Rattle.std.specs.Prelude.{◌≡◌, ◌<◌, ◌≤◌, [], length, map, IfOk, slice_set};
 ghost use Rattle.net_sim.specs.Tables.{value_in};
 
 use crate::word::Word;
@@ -34,7 +34,7 @@ fn word_of(alloc: Global, bits: &Bits) -> Result<Word, NoMemory>
 impl Memory {
     /// No words.
     pub(crate) fn none(alloc: Global) -> Memory
-        ensures { length result ≡ 0 }
+        ensures { result ≡ [] }
     {
         Memory {
             words: Vec::new(alloc),

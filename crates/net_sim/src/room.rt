@@ -4,6 +4,9 @@ ghost use Rattle.net_sim.specs.Parts.{HasBits};
 
 use crate::word::Word;
 
+/// How many bits there is room for: two of the widest words.
+pub(crate) const ROOM: usize = 8192;
+
 /// A part of the room.
 #[derive(Clone, Copy, Debug)]
 pub(crate) struct Part {

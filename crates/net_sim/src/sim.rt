@@ -1,17 +1,23 @@
 //! `Sim`, the table in which a flat net is stepped.
-ghost use Rattle.std.specs.Prelude.{◌≡◌, ℕ, ◌<◌, List, [], ◌∷◌, length, slice_get, Some};
+ghost use Rattle.std.specs.Prelude.{◌≡◌, ℕ, ◌<◌, List, [], ◌∷◌, length, slice_get, Some, IfOk};
 ghost use Rattle.chw_base.specs.declared.index.WireId.{WireId};
 ghost use Rattle.chw_clock.specs.Histories.{HaveWidths};
 ghost use Rattle.chw_clock.specs.declared.event.Event.{Event};
 ghost use Rattle.net_sim.specs.Sims.{IsSettledFor, IsTable, SimShows, SimStandsFor, value_of};
+ghost use Rattle.netlist.specs.Orders.{IsOrder};
+ghost use Rattle.netlist.specs.Sound.{Sound};
 
 use crate::inputs::enter;
 use crate::memory::Memory;
+use crate::opening::{first_memories, first_words, zero_words};
+use crate::room::ROOM;
 use crate::tick::advance;
 use crate::word::Word;
 use crate::words::word_at;
+use chw_base::NoMemory;
 use chw_clock::Event;
 use netlist::{Flat, Order};
+use std::alloc::Global;
 
 /// A flat net with the bits of its wires and the words of its RAMs.
 #[derive(Drop)]
@@ -29,6 +35,28 @@ pub struct Sim<'a> {
 }
 
 impl<'a> Sim<'a> {
+    /// A table of a sound flat net and an order of its cells, before any event.
+    pub fn open(alloc: Global, flat: &'a Flat, order: &'a Order) -> Result<Sim<'a>, NoMemory>
+        requires sound { Sound flat.now }
+        requires order { IsOrder flat.now order.now.cells }
+        ensures table { IfOk result IsTable }
+        ensures net { IfOk result (λ sim. sim.flat.now ≡ flat.now) }
+        ensures past { IfOk result (λ sim. SimStandsFor sim []) }
+    {
+        let words = first_words(alloc, flat)?;
+        let next = zero_words(alloc, flat.widths.as_slice())?;
+        let memories = first_memories(alloc, flat)?;
+        let room = vec![in alloc; false; ROOM]?;
+        Ok(Sim {
+            flat,
+            order,
+            words,
+            next,
+            memories,
+            room,
+        })
+    }
+
     /// Takes the inputs of an event, and settles every wire that keeps nothing.
     ///
     /// It takes no memory.
@@ -42,7 +70,13 @@ impl<'a> Sim<'a> {
         ensures values { (past : List Event) → SimStandsFor self.old past →
             SimShows self.new (event.now ∷ past) }
     {
-        enter(self.flat, self.order, event, &mut self.words, &mut self.room);
+        enter(
+            self.flat,
+            self.order,
+            event,
+            &mut self.words,
+            &mut self.room,
+        );
     }
 
     /// The bits of the wire of an output, by its place among the outputs.
@@ -66,6 +100,12 @@ impl<'a> Sim<'a> {
         ensures stands { (past : List Event) → SimStandsFor self.old past →
             SimStandsFor self.new (event.now ∷ past) }
     {
-        advance(self.flat, event, &mut self.words, &mut self.next, &mut self.memories);
+        advance(
+            self.flat,
+            event,
+            &mut self.words,
+            &mut self.next,
+            &mut self.memories,
+        );
     }
 }

@@ -39,13 +39,7 @@ fn resets(event: &Event, domain: DomId) -> bool
 }
 
 // Takes what a register shows after a tick.
-fn take_register(
-    w: WireId,
-    reset: bool,
-    initial: &Bits,
-    from: &Word,
-    next: &mut [Word],
-)
+fn take_register(w: WireId, reset: bool, initial: &Bits, from: &Word, next: &mut [Word])
     requires wire { IsWire (map length next.old) w }
     requires initial { length initial.now ≡ length (value_in next.old w.number) }
     requires from { length from.now ≡ length (value_in next.old w.number) }
@@ -104,7 +98,13 @@ fn take(cell: &Cell, event: &Event, words: &[Word], memories: &[Memory], next: &
     match cell {
         Cell::Reg(w, domain, initial, a) => {
             if ticks(event, *domain) {
-                take_register(*w, resets(event, *domain), initial, word_at(words, *a), next);
+                take_register(
+                    *w,
+                    resets(event, *domain),
+                    initial,
+                    word_at(words, *a),
+                    next,
+                );
             }
         }
         Cell::Ram(w, domain, _, inputs) => {
@@ -159,13 +159,7 @@ fn put(cell: &Cell, event: &Event, next: &[Word], words: &mut [Word])
 }
 
 // Takes what all registers and RAMs show after an event in which they move.
-fn take_all(
-    flat: &Flat,
-    event: &Event,
-    words: &[Word],
-    memories: &[Memory],
-    next: &mut [Word],
-)
+fn take_all(flat: &Flat, event: &Event, words: &[Word], memories: &[Memory], next: &mut [Word])
     requires sound { Sound flat.now }
     requires table { map length words.now ≡ flat.now.widths }
     requires widths { map length next.old ≡ map length words.now }

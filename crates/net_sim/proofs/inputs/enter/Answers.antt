@@ -1,4 +1,4 @@
-use Rattle.std.proofs.Common.{◌≡◌, ◌≤◌, ◌++◌, length, map, take, drop, sym, ap, subst, ◌∙◌, arith}
+use Rattle.std.proofs.Common.{length, map, ap, ◌∙◌, arith}
 use Rattle.net_sim.proofs.Incoming.{incoming_few, incoming_fit, incoming_widths, keepers_kept, settled_inputs}
 use Rattle.net_sim.proofs.inputs.enter.Goals as goal
 

@@ -1,6 +1,5 @@
-use Rattle.std.proofs.Common.{◌≡◌, [], length, sym, ap, ◌∙◌, arith}
+use Rattle.std.proofs.Common.{[], length, ap, ◌∙◌}
 use Rattle.std.proofs.lemmas.List.{get_or_default}
-use Rattle.net_sim.specs.Tables.{value_in}
 use Rattle.net_sim.proofs.Incoming.{next_width, put_more}
 use Rattle.net_sim.proofs.inputs.put_inputs.Goals as goal
 

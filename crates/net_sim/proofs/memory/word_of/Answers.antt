@@ -1,4 +1,4 @@
-use Rattle.std.proofs.Common.{◌≡◌, length, sym, ap, ◌∙◌}
+use Rattle.std.proofs.Common.{length, sym, ap, ◌∙◌}
 use Rattle.chw_bits.proofs.Numbers.{length-bits_of}
 use Rattle.net_sim.proofs.memory.word_of.Goals as goal
 

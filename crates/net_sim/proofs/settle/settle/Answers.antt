@@ -1,9 +1,9 @@
-use Rattle.std.proofs.Common.{◌≡◌, ◌+◌, ◌-◌, ◌<◌, ◌^◌, length, map, set, take, drop, Some, sym, ap, subst, ◌∙◌, arith}
+use Rattle.std.proofs.Common.{◌≡◌, ◌+◌, ◌-◌, ◌<◌, ◌^◌, length, set, take, drop, Some, sym, ap, subst, ◌∙◌, arith}
 use Rattle.chw_bits.specs.Bits.{bits_of}
-use Rattle.chw_bits.proofs.Numbers.{length-bits_of, number_of_lt}
+use Rattle.chw_bits.proofs.Numbers.{number_of_lt}
 use Rattle.chw_bits.proofs.RoundTrips.{bits_of-number_of}
 use Rattle.net_sim.specs.Tables.{given_in, value_in}
-use Rattle.net_sim.proofs.Cells.{given_width, widths_kept}
+use Rattle.net_sim.proofs.Cells.{given_width}
 use Rattle.net_sim.proofs.Wiring.{is_wire, wire_width}
 use Rattle.net_sim.proofs.settle.settle.Goals as goal
 
@@ -50,4 +50,3 @@ returns-in-Some-clause-wire c = λ w t.
     ap (λ k. bits_of k c.in-Some.n) (wire_width words to _ width) ∙ ap (bits_of (length given)) c.in-Some.ensures.number.number
     ∙ bits_of-number_of given in
     c.put_number_at.ensures.word ∙ ap (set words to.number) made ∙ ap (λ n. set words n given) is
-

@@ -1,4 +1,4 @@
-use Rattle.std.proofs.Common.{sym, ◌∙◌}
+use Rattle.std.proofs.Common.{sym}
 use Rattle.net_sim.proofs.Moving.{fit_along}
 use Rattle.net_sim.proofs.Stepped.{stepped}
 use Rattle.net_sim.proofs.tick.advance.Goals as goal

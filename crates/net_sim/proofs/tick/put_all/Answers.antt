@@ -1,8 +1,8 @@
-use Rattle.std.proofs.Common.{◌≡◌, ◌<◌, List, [], Bool, length, map, sym, ap, subst, ◌∙◌, arith}
+use Rattle.std.proofs.Common.{◌≡◌, List, [], Bool, length, map, ◌∙◌}
 use Rattle.std.proofs.lemmas.List.{length-map}
 use Rattle.net_sim.specs.Tables.{value_in}
-use Rattle.net_sim.specs.Ticking.{Moves, MovesWords, moved_bits, moved_words}
-use Rattle.net_sim.proofs.Writing.{fits_table, moves_cases, moves_there, moves_words_cases, moves_words_there, written_more}
+use Rattle.net_sim.specs.Ticking.{Moves}
+use Rattle.net_sim.proofs.Writing.{fits_table, moves_cases, moves_there, written_more}
 use Rattle.net_sim.proofs.tick.put_all.Goals as goal
 
 pub put-requires-clause-fits : goal.put-requires-clause-fits
@@ -19,8 +19,8 @@ loop-place-preserved c =
     let size : length (map length c.loop-place.words) ≡ length l.words = length-map l.words length in
     record {
       written =
-        written_more (List Bool) [] (Moves event) (λ w cell old. value_in c.args.next.now w) flat c.args.words.now l.words c.put.new.words l.place cell c.requires.sound
-        (moves_cases event cell) (moves_there event fits.0 (length l.words) (map length c.loop-place.words) cell fits.1 size) c.cell_at.ensures
-        l.invariant.written c.put.ensures.put;
+          written_more (List Bool) [] (Moves event) (λ w cell old. value_in c.args.next.now w) flat c.args.words.now l.words c.put.new.words l.place cell c.requires.sound
+          (moves_cases event cell) (moves_there event fits.0 (length l.words) (map length c.loop-place.words) cell fits.1 size) c.cell_at.ensures
+          l.invariant.written c.put.ensures.put;
       widths = c.put.ensures.widths ∙ l.invariant.widths;
     }

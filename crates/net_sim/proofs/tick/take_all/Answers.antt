@@ -1,8 +1,7 @@
-use Rattle.std.proofs.Common.{◌≡◌, ◌<◌, List, [], Bool, length, map, sym, ap, subst, ◌∙◌, arith}
+use Rattle.std.proofs.Common.{◌≡◌, List, [], Bool, length, map, sym, ap, ◌∙◌}
 use Rattle.std.proofs.lemmas.List.{length-map}
-use Rattle.net_sim.specs.Tables.{value_in}
-use Rattle.net_sim.specs.Ticking.{Moves, MovesWords, moved_bits, moved_words}
-use Rattle.net_sim.proofs.Writing.{fits_table, moves_cases, moves_there, moves_words_cases, moves_words_there, written_more}
+use Rattle.net_sim.specs.Ticking.{Moves, moved_bits}
+use Rattle.net_sim.proofs.Writing.{fits_table, moves_cases, moves_there, written_more}
 use Rattle.net_sim.proofs.tick.take_all.Goals as goal
 
 pub take-requires-clause-fits : goal.take-requires-clause-fits
@@ -19,8 +18,8 @@ loop-place-preserved c =
     let size : length (map length c.args.words.now) ≡ length l.next = ap length (sym l.invariant.widths) ∙ length-map l.next length in
     record {
       written =
-        written_more (List Bool) [] (Moves event) (λ w cell old. moved_bits event c.args.words.now c.args.memories.now cell) flat c.args.next.now l.next c.take.new.next l.place cell c.requires.sound
-        (moves_cases event cell) (moves_there event fits.0 (length l.next) (map length c.args.words.now) cell fits.1 size) c.cell_at.ensures
-        l.invariant.written c.take.ensures.taken;
+          written_more (List Bool) [] (Moves event) (λ w cell old. moved_bits event c.args.words.now c.args.memories.now cell) flat c.args.next.now l.next c.take.new.next l.place cell c.requires.sound
+          (moves_cases event cell) (moves_there event fits.0 (length l.next) (map length c.args.words.now) cell fits.1 size) c.cell_at.ensures
+          l.invariant.written c.take.ensures.taken;
       widths = c.take.ensures.widths ∙ l.invariant.widths;
     }

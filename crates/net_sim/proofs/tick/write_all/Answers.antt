@@ -1,8 +1,7 @@
-use Rattle.std.proofs.Common.{◌≡◌, ◌<◌, List, [], Bool, length, map, sym, ap, subst, ◌∙◌, arith}
+use Rattle.std.proofs.Common.{◌≡◌, List, [], Bool, length, map, sym, ◌∙◌}
 use Rattle.std.proofs.lemmas.List.{length-map}
-use Rattle.net_sim.specs.Tables.{value_in}
-use Rattle.net_sim.specs.Ticking.{Moves, MovesWords, moved_bits, moved_words}
-use Rattle.net_sim.proofs.Writing.{fits_table, moves_cases, moves_there, moves_words_cases, moves_words_there, written_more}
+use Rattle.net_sim.specs.Ticking.{MovesWords, moved_words}
+use Rattle.net_sim.proofs.Writing.{fits_table, moves_words_cases, moves_words_there, written_more}
 use Rattle.net_sim.proofs.tick.write_all.Goals as goal
 
 pub write-requires-clause-fits : goal.write-requires-clause-fits
@@ -19,8 +18,8 @@ loop-place-preserved c =
     let size : length (map length c.args.words.now) ≡ length l.memories = length-map c.args.words.now length ∙ sym l.invariant.memories.count in
     record {
       written =
-        written_more (List (List Bool)) [] (MovesWords event) (λ w cell old. moved_words c.args.words.now cell old) flat c.args.memories.now l.memories c.write.new.memories l.place cell c.requires.sound
-        (moves_words_cases event cell) (moves_words_there event fits.0 (length l.memories) (map length c.args.words.now) cell fits.1 size) c.cell_at.ensures
-        l.invariant.written c.write.ensures.written;
+          written_more (List (List Bool)) [] (MovesWords event) (λ w cell old. moved_words c.args.words.now cell old) flat c.args.memories.now l.memories c.write.new.memories l.place cell c.requires.sound
+          (moves_words_cases event cell) (moves_words_there event fits.0 (length l.memories) (map length c.args.words.now) cell fits.1 size) c.cell_at.ensures
+          l.invariant.written c.write.ensures.written;
       memories = c.write.ensures.memories;
     }

@@ -1,5 +1,5 @@
 -- the cells so far
-use Rattle.std.proofs.Common.{◌≡◌, List, [], Bool, length, map}
+use Rattle.std.proofs.Common.{List, [], Bool}
 use Rattle.net_sim.specs.Ticking.{MemoriesFit, MovesWords, WrittenBefore, moved_words}
 use Rattle.net_sim.proofs.tick.write_all.Given as goal
 

@@ -1,4 +1,4 @@
-use Rattle.std.proofs.Common.{◌≡◌, ◌<◌, ◌≤◌, ◌^◌, Bool, false, length, replicate, vec_len, sym, ap, ◌∙◌, arith}
+use Rattle.std.proofs.Common.{◌≡◌, false, length, replicate, vec_len, sym, ap, ◌∙◌, arith}
 use Rattle.chw_bits.specs.Bits.{bits_of}
 use Rattle.net_sim.proofs.Keeping.{bits_of_zero, narrow_bits, wide_bits, width_is}
 use Rattle.net_sim.proofs.word.Word.clear.Goals as goal
