@@ -1,6 +1,7 @@
 pub mod Before
 pub mod Chains
 pub mod Closing
+pub mod Driven
 pub mod ExamplesShown
 pub mod Exclusion
 pub mod Finite
@@ -11,9 +12,7 @@ pub mod OneValue
 pub mod Ordered
 pub mod Periods
 pub mod Places
-pub mod Placing
 pub mod Rounds
-pub mod Tables
 pub mod Values
 pub mod Waiting
 pub mod Widths

@@ -1,18 +1,10 @@
--- Elements of lists after a write or a push, and the places of cells.
-use Rattle.std.proofs.Common.{◌≡◌, ◌≢◌, ℕ, ◌<◌, ◌⊎◌, inl, inr, List, [], ◌∷◌, ◌++◌, length, get_or, set, sym, ◌∙◌, ap, arith, Some, None, option_and_then, get_or-set_same, get_or-set_other}
-use Rattle.std.proofs.lemmas.Bool.{cases_eq, cases_lt}
+-- Elements of lists after a push, and the places of cells.
+use Rattle.std.proofs.Common.{◌≡◌, ℕ, ◌<◌, ◌⊎◌, inl, inr, List, [], ◌∷◌, ◌++◌, length, get_or, sym, ap, arith, Some, None, option_and_then}
+use Rattle.std.proofs.lemmas.Bool.{cases_lt}
 use Rattle.std.proofs.lemmas.List.{get_or_append_left, get_or_push, length_push}
 use Rattle.std.proofs.lemmas.Option.{slice_get_past}
 use Rattle.netlist.specs.Feeds.{target, target_at}
 use Rattle.netlist.specs.declared.net.Cell.{Cell}
-
--- an element after a write: the one that was written, or another
-pub write_split : {X : Type 0} (xs : List X) (p : ℕ) (y : X) (q : ℕ) (d : X) → p < length xs
-    → ((q ≡ p) × (get_or (set xs p y) q d ≡ y)) ⊎ ((q ≢ p) × (get_or (set xs p y) q d ≡ get_or xs q d))
-write_split xs p y q d l = elim (cases_eq q p) [
-  | inl e ↦ inl (e, ap (λ k. get_or (set xs p y) k d) e ∙ get_or-set_same xs p y d l)
-  | inr n ↦ inr (n, get_or-set_other xs p q y d n)
-]
 
 -- an element after a push: one of those before, or the new one
 pub push_split : {X : Type 0} (xs : List X) (y : X) (k : ℕ) (d : X) → k < length (xs ++ y ∷ [])

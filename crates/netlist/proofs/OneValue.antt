@@ -17,6 +17,7 @@ use Rattle.netlist.specs.Wires.{read_by}
 use Rattle.netlist.specs.declared.net.Cell.{Cell}
 use Rattle.netlist.specs.declared.net.Cell.TheVariants.{Reg, Ram, Use}
 use Rattle.netlist.specs.declared.net.Flat.{Flat}
+use Rattle.netlist.proofs.Driven.{each_driven_once}
 
 -- the input has these bits in the present event
 abbrev InputOf : List Event → ℕ → List Bool → Type 0
@@ -86,13 +87,13 @@ comes flat _ _ _ (shown w ram h past address bits has e v lt word) =
 -- a cell of a sound net drives no input
 drives_no_input : (flat : Flat) (place w : ℕ) (cell : Cell) → Sound flat → slice_get flat.cells place ≡ Some cell → target cell ≡ Some w → w < length flat.ports.inputs → ⊥
 drives_no_input flat place w cell sound at t lt =
-    let free = sound.drivers.free place w (ap (λ c. option_and_then target c) at ∙ t) in omega arith
+    let free = (each_driven_once flat sound).free place w (ap (λ c. option_and_then target c) at ∙ t) in omega arith
 
 -- two cells of a sound net that drive one wire are one
 same_cell : (flat : Flat) (p q w : ℕ) (c d : Cell) → Sound flat → slice_get flat.cells p ≡ Some c → target c ≡ Some w → slice_get flat.cells q ≡ Some d
     → target d ≡ Some w → c ≡ d
 same_cell flat p q w c d sound at t at' t' =
-    let e : p ≡ q = sound.drivers.once p q w (ap (λ c. option_and_then target c) at ∙ t) (ap (λ c. option_and_then target c) at' ∙ t') in
+    let e : p ≡ q = (each_driven_once flat sound).once p q w (ap (λ c. option_and_then target c) at ∙ t) (ap (λ c. option_and_then target c) at' ∙ t') in
     let f : slice_get flat.cells p ≡ slice_get flat.cells q = ap (slice_get flat.cells) e in cc
 
 -- what another reading of the wire that this cell drives comes from

@@ -12,10 +12,10 @@ use Rattle.netlist.specs.Sound.{Sound}
 use Rattle.netlist.specs.declared.net.Cell.{Cell}
 use Rattle.netlist.specs.declared.net.Flat.{Flat}
 use Rattle.netlist.proofs.Closing.{a_loop}
+use Rattle.netlist.proofs.Driven.{target_here, target_is_wire}
 use Rattle.netlist.proofs.Finite.{some_below, some_below_if, some_below_says, some_or_none, twice}
 use Rattle.netlist.proofs.Lists.{push_split, target_within}
 use Rattle.netlist.proofs.Periods.{period}
-use Rattle.netlist.proofs.Tables.{fits_target_at, target_is_wire}
 
 -- a test that some item passes, and one that none does
 any_at : {X : Type 0} (test : X → Bool) (xs : List X) → list_any test xs ≡ true → (k : ℕ) × (x : X) × (slice_get xs k ≡ Some x) × (test x ≡ true)
@@ -211,7 +211,7 @@ module _ (flat : Flat) (sound : Sound flat) (no_loop : HasNoLoop flat) where
     none_open : (w : ℕ) → is_open placed w ≡ true → ⊥
     none_open w o =
         let p = period next (is_open placed) (length flat.widths)
-        (λ w o. (let p = open_says placed w o in target_is_wire (length flat.ports.domains) flat.widths flat.cells sound.cells p.0 w p.2))
+        (λ w o. (let p = open_says placed w o in target_is_wire flat sound p.0 w p.2))
         (λ w o. (next_open w o).0) w o in
         let l = a_loop flat next (is_open placed) (λ w o. (next_open w o).0) (λ w o. (next_open w o).1) p in
         no_loop l.0 l.1
@@ -222,7 +222,7 @@ module _ (flat : Flat) (sound : Sound flat) (no_loop : HasNoLoop flat) where
         from : (b : Bool) → is_placed placed p ≡ b → (i : ℕ) × (i < length placed) × (get_or placed i 0 ≡ p)
         from true e = placed_at placed p e
         from false e =
-            let t = fits_target_at (length flat.ports.domains) flat.widths flat.cells sound.cells p lt in
+            let t = target_here flat sound p lt in
             absurd (none_open t.0 (open_if placed t.0 p t.1 e))
 
   -- no more cells are placed than there are

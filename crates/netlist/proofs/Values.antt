@@ -27,6 +27,7 @@ use Rattle.netlist.specs.declared.net.Op1.TheVariants.{Not}
 use Rattle.netlist.specs.declared.net.Op2.{Op2}
 use Rattle.netlist.specs.declared.net.Op2.TheVariants.{Add, Sub, Mul, And, Or, Xor, Eq, LtU, LtS}
 use Rattle.netlist.proofs.Before.{before_fits, before_shorter, taken_fits, taken_shorter}
+use Rattle.netlist.proofs.Driven.{each_driven_once}
 use Rattle.netlist.proofs.Lengths.{fits_cell, value_width}
 use Rattle.netlist.proofs.Places.{cell_there}
 
@@ -198,7 +199,7 @@ module _ (flat : Flat) (places : List ℕ) (sound : Sound flat) (order : OrdersC
   -- a wire has a value, where the one of a cell that drives it has
   wire_value : (v : ℕ) → v < length flat.widths → ((place : ℕ) → target_at flat.cells place ≡ Some v → HasValue flat h v) → HasValue flat h v
   wire_value v lt driven = elim (leb_tells (length flat.ports.inputs) v) [
-    | inl le ↦ (let d = sound.drivers.driven v le.1 lt in driven d.0 d.1)
+    | inl le ↦ (let d = (each_driven_once flat sound).driven v le.1 lt in driven d.0 d.1)
     | inr less ↦ input_value v less.1
   ]
 

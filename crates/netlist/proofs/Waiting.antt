@@ -1,14 +1,18 @@
--- The references of the graph of wires, and which wires feed which.
-use Rattle.std.proofs.Common.{◌≡◌, ℕ, ◌-◌, ◌<◌, ◌≤◌, List, [], length, get_or, map, reverse, refl, sym, ◌∙◌, ap, arith, Option, Some, None, option_map, slice_get, inl, inr, ◌∷◌, zero, suc}
-use Rattle.std.specs.Prelude.{option_and_then}
-use Rattle.std.proofs.lemmas.Bool.{cases_lt}
-use Rattle.std.proofs.lemmas.List.{get_or-reverse, get_or_past, length-map, length-reverse}
-use Rattle.std.proofs.lemmas.Option.{get_or_from_slice_get, slice_get-get_or, slice_get-map, slice_get_within}
+-- The references of the graph of cells, and which wires feed which.
+use Rattle.std.proofs.Common.{◌≡◌, ℕ, ◌+◌, ◌-◌, ◌<◌, ◌≤◌, List, [], length, get_or, map, reverse, refl, sym, ◌∙◌, ap, arith, Option, Some, None, option_map, slice_get}
+use Rattle.std.specs.Prelude.{◌^◌, option_and_then}
+use Rattle.std.proofs.lemmas.List.{get_or-reverse, length-map, length-reverse}
+use Rattle.std.proofs.lemmas.Option.{get_or_from_slice_get, same_Some, slice_get-get_or, slice_get-map, slice_get_within}
 use Rattle.chw_base.specs.declared.index.WireId.{WireId}
-use Rattle.graph_order.specs.References.{Refers, reference_at}
-use Rattle.netlist.specs.Drivers.{IsTable, waits, waits_at, waits_of}
+use Rattle.graph_order.specs.Orders.{IsOrder as OrdersNodes}
+use Rattle.graph_order.specs.References.{Refers, reference_at, reference_count}
 use Rattle.netlist.specs.Feeds.{Feeds, awaited, awaited_at, awaited_wire, target_at}
+use Rattle.netlist.specs.Orders.{OrdersCells}
+use Rattle.netlist.specs.Sound.{DrivesFrom}
+use Rattle.netlist.specs.Waits.{driving_place, waits, waits_of}
 use Rattle.netlist.specs.declared.net.Cell.{Cell}
+use Rattle.netlist.proofs.Driven.{place_found, target_in_order, wire_of_place}
+use Rattle.netlist.proofs.Lists.{target_within}
 
 -- an element of a list that is turned round, and of the list
 from_last : (xs : List ℕ) (left : ℕ) → 0 < left → left ≤ length (reverse xs)
@@ -20,89 +24,99 @@ from_last xs left some fits =
     slice_get-get_or (reverse xs) k 0 (omega arith) ∙ ap Some (get_or-reverse xs k 0 (omega arith))
     ∙ ap (λ i. Some (get_or xs i 0)) at ∙ sym (slice_get-get_or xs (left - 1) 0 (omega arith))
 
--- a wire that a driver waits for, by how many are left
-pub wait_from_last : (cell : Cell) (left : ℕ) → 0 < left → left ≤ length (waits_of (Some cell)) → (wire : Option WireId)
-    → wire ≡ slice_get (awaited cell) (left - 1)
-    → option_map (λ w. w.number) wire ≡ slice_get (waits_of (Some cell)) (length (waits_of (Some cell)) - left)
-wait_from_last cell left some fits wire e =
-    let num : WireId → ℕ = λ w. w.number in
-    ap (option_map num) e ∙ sym (slice_get-map num (awaited cell) (left - 1)) ∙ sym (from_last (map num (awaited cell)) left some fits)
+module _ (inputs : ℕ) (cells : List Cell) where
+  abbrev driving : WireId → ℕ
+  driving w = driving_place inputs w.number
 
-pub waits_count : (cell : Cell) → length (waits_of (Some cell)) ≡ length (awaited cell)
-waits_count cell =
-    let num : WireId → ℕ = λ w. w.number in length-reverse (map num (awaited cell)) ∙ length-map (awaited cell) num
+  -- what the graph has at the place of a cell
+  listed : (p : ℕ) (cell : Cell) → slice_get cells p ≡ Some cell → slice_get (waits inputs cells) p ≡ Some (waits_of inputs cell)
+  listed p cell at = slice_get-map (waits_of inputs) cells p ∙ ap (option_map (waits_of inputs)) at
 
--- what the graph has at a wire, by the driver
-pub names_at : (cells : List Cell) (drivers : List (Option ℕ)) (w : ℕ) → get_or (waits cells drivers) w [] ≡ waits_at cells (get_or drivers w None)
-names_at cells [] w = refl
-names_at cells (d ∷ drivers) zero = refl
-names_at cells (d ∷ drivers) (suc w) = names_at cells drivers w
+  names_here : (p : ℕ) (cell : Cell) → slice_get cells p ≡ Some cell → get_or (waits inputs cells) p [] ≡ waits_of inputs cell
+  names_here p cell at = get_or_from_slice_get (waits inputs cells) p (waits_of inputs cell) [] (listed p cell at)
 
-pub reference_by : (cells : List Cell) (drivers : List (Option ℕ)) (w k : ℕ)
-    → reference_at (waits cells drivers) w k ≡ slice_get (waits_at cells (get_or drivers w None)) k
-reference_by cells [] w k = refl
-reference_by cells (d ∷ drivers) zero k = refl
-reference_by cells (d ∷ drivers) (suc w) k = reference_by cells drivers w k
+  -- what the graph has there where so many are left, the last that the cell waits for first
+  pub reference_here : (p : ℕ) (cell : Cell) (left : ℕ) (wire : WireId) → slice_get cells p ≡ Some cell → 0 < left
+      → left ≤ reference_count (waits inputs cells) p → Some wire ≡ slice_get (awaited cell) (left - 1)
+      → Some (driving wire) ≡ reference_at (waits inputs cells) p (reference_count (waits inputs cells) p - left)
+  reference_here p cell left wire at some fits e =
+      let xs : List ℕ = map driving (awaited cell) in
+      let k : ℕ = reference_count (waits inputs cells) p - left in
+      let here : reference_at (waits inputs cells) p k ≡ slice_get (reverse xs) k =
+      ap (λ (o : Option (List ℕ)). option_and_then (λ names. slice_get names k) o) (listed p cell at) in
+      let count : reference_count (waits inputs cells) p ≡ length (reverse xs) = ap length (names_here p cell at) in
+      ap (option_map driving) e ∙ sym (slice_get-map driving (awaited cell) (left - 1)) ∙ sym (from_last xs left some (omega (arith, count)))
+      ∙ ap (λ n. slice_get (reverse xs) (n - left)) (sym count) ∙ sym here
 
--- what a driver has at a place
-drives_at : (cells : List Cell) (drivers : List (Option ℕ)) (w : ℕ) (names : List ℕ) → slice_get (waits cells drivers) w ≡ Some names
-    → waits_at cells (get_or drivers w None) ≡ names
-drives_at cells drivers w names e = sym (names_at cells drivers w) ∙ get_or_from_slice_get (waits cells drivers) w names [] e
+  module _ (d : DrivesFrom inputs cells) where
+    -- a cell's wire is fed by that of a cell that it refers to
+    pub feeds_by : length cells < 2 ^ 32 → (p q : ℕ) → Refers (waits inputs cells) p q → Feeds cells (inputs + q) (inputs + p)
+    feeds_by few p q r = by_cell (slice_get cells p) refl where
+      by_wire : (cell : Cell) (at : slice_get cells p ≡ Some cell) (j : ℕ) (wire : Option WireId) → slice_get (awaited cell) j ≡ wire
+          → option_map driving wire ≡ Some q → Feeds cells (inputs + q) (inputs + p)
+      by_wire cell at j None is e = absurd (cc)
+      by_wire cell at j (Some w) is e =
+          let node : q < length (waits inputs cells) = r.is_node in
+          let n : length (waits inputs cells) ≡ length cells = length-map cells (waits_of inputs) in
+          let number : w.number ≡ inputs + q = wire_of_place inputs w.number q (same_Some _ _ e) (omega arith) in
+          let here : awaited_wire cell j ≡ Some (inputs + q) = ap (option_map (λ w. w.number)) is ∙ ap Some number in (
+            p,
+            j,
+            target_in_order inputs cells d p (slice_get_within cells p cell at),
+            ap (λ o. option_and_then (λ c. awaited_wire c j) o) at ∙ here,
+          )
 
-module _ (n : ℕ) (cells : List Cell) (drivers : List (Option ℕ)) (t : IsTable n cells drivers) where
-  -- a wire that another refers to feeds it
-  pub feeds_by : (w v : ℕ) → Refers (waits cells drivers) w v → Feeds cells v w
-  feeds_by w v r =
-      let k : ℕ = r.is_named.0 in
-      by_driver (get_or drivers w None) refl (drives_at cells drivers w r.names r.are_names) k r.is_named.1 r.is_named.2
-    where
-      by_cell : (place : ℕ) → get_or drivers w None ≡ Some place → (cell : Option Cell) → slice_get cells place ≡ cell
-          → waits_of cell ≡ r.names → (k : ℕ) → k < length r.names → get_or r.names k v ≡ v → Feeds cells v w
-      by_cell place d None s e k l h = absurd (omega (arith, l, ap length e))
-      by_cell place d (Some cell) s e k l h =
-          let num : WireId → ℕ = λ w. w.number in
-          let xs : List ℕ = map num (awaited cell) in
+      by_cell : (cell : Option Cell) → slice_get cells p ≡ cell → Feeds cells (inputs + q) (inputs + p)
+      by_cell None at =
+          let none : slice_get (waits inputs cells) p ≡ None = slice_get-map (waits_of inputs) cells p ∙ ap (option_map (waits_of inputs)) at in
+          let some = r.are_names in
+          absurd (cc)
+      by_cell (Some cell) at =
+          let xs : List ℕ = map driving (awaited cell) in
+          let e : reverse xs ≡ r.names = same_Some _ _ (sym (listed p cell at) ∙ r.are_names) in
           let size : length r.names ≡ length xs = ap length (sym e) ∙ length-reverse xs in
+          let k : ℕ = r.is_named.0 in
+          let l : k < length r.names = r.is_named.1 in
           let j : ℕ = length xs - 1 - k in
-          let is : get_or xs j v ≡ v = sym (get_or-reverse xs k v (omega arith)) ∙ ap (λ ns. get_or ns k v) e ∙ h in
-          let here : awaited_wire cell j ≡ Some v = sym (slice_get-map num (awaited cell) j) ∙ slice_get-get_or xs j v (omega arith) ∙ ap Some is in
-          (place, j, t.drives place w d, ap (λ o. option_and_then (λ c. awaited_wire c j) o) s ∙ here)
+          let is : get_or xs j q ≡ q = sym (get_or-reverse xs k q (omega arith)) ∙ ap (λ ns. get_or ns k q) e ∙ r.is_named.2 in
+          by_wire cell at j (slice_get (awaited cell) j) refl
+          (sym (slice_get-map driving (awaited cell) j) ∙ slice_get-get_or xs j q (omega arith) ∙ ap Some is)
 
-      by_driver : (driver : Option ℕ) → get_or drivers w None ≡ driver → waits_at cells driver ≡ r.names → (k : ℕ)
-          → k < length r.names → get_or r.names k v ≡ v → Feeds cells v w
-      by_driver None d e k l h = absurd (omega (arith, l, ap length e))
-      by_driver (Some place) d e k l h = by_cell place d (slice_get cells place) refl e k l h
+    -- a cell refers to those that drive what it waits for
+    pub refers_to : (p k w q : ℕ) → awaited_at cells p k ≡ Some w → target_at cells q ≡ Some w → Refers (waits inputs cells) p q
+    refers_to p k w q a t = by_cell (slice_get cells p) refl a where
+      by_wire : (cell : Cell) (at : slice_get cells p ≡ Some cell) (wire : Option WireId) → slice_get (awaited cell) k ≡ wire
+          → option_map (λ (w : WireId). w.number) wire ≡ Some w → Refers (waits inputs cells) p q
+      by_wire cell at None is e = absurd (cc)
+      by_wire cell at (Some v) is e =
+          let xs : List ℕ = map driving (awaited cell) in
+          let found : driving v ≡ q = place_found inputs cells d v.number q (t ∙ sym e) in
+          let here : slice_get xs k ≡ Some q = slice_get-map driving (awaited cell) k ∙ ap (option_map driving) is ∙ ap Some found in
+          let l : k < length xs = slice_get_within xs k q here in
+          let size : length (reverse xs) ≡ length xs = length-reverse xs in
+          let j : ℕ = length xs - 1 - k in
+          let back : length xs - 1 - j ≡ k = omega arith in
+          let named : get_or (reverse xs) j q ≡ q =
+          get_or-reverse xs j q (omega arith) ∙ ap (λ i. get_or xs i q) back ∙ get_or_from_slice_get xs k q q here in
+          record {
+            names = reverse xs;
+            are_names = listed p cell at;
+            is_named = (j, omega arith, named);
+            is_node = omega (arith, target_within cells q w t, length-map cells (waits_of inputs));
+          }
 
-  -- a wire that is driven is one of the table
-  pub driven_within : (place w : ℕ) → target_at cells place ≡ Some w → w < length drivers
-  driven_within place w e = elim (cases_lt w (length drivers)) [
-    | inl l ↦ l
-    | inr l ↦ let none : get_or drivers w None ≡ None = get_or_past drivers w None l in let some = t.finds place w e in absurd (cc)
-  ]
+      by_cell : (cell : Option Cell) → slice_get cells p ≡ cell → option_and_then (λ c. awaited_wire c k) cell ≡ Some w
+          → Refers (waits inputs cells) p q
+      by_cell None at e = absurd (cc)
+      by_cell (Some cell) at e = by_wire cell at (slice_get (awaited cell) k) refl e
 
-  -- a driver's wire refers to what the driver waits for
-  pub refers_to : (place k w v other : ℕ) → get_or drivers w None ≡ Some place → awaited_at cells place k ≡ Some v
-      → target_at cells other ≡ Some v → Refers (waits cells drivers) w v
-  refers_to place k w v other d a o = by_cell (slice_get cells place) refl a where
-    by_cell : (cell : Option Cell) → slice_get cells place ≡ cell → option_and_then (λ c. awaited_wire c k) cell ≡ Some v
-        → Refers (waits cells drivers) w v
-    by_cell None s e = absurd (cc)
-    by_cell (Some cell) s e =
-        let num : WireId → ℕ = λ w. w.number in
-        let xs : List ℕ = map num (awaited cell) in
-        let here : slice_get xs k ≡ Some v = slice_get-map num (awaited cell) k ∙ e in
-        let l : k < length xs = slice_get_within xs k v here in
-        let size : length (reverse xs) ≡ length xs = length-reverse xs in
-        let j : ℕ = length xs - 1 - k in
-        let at : length xs - 1 - j ≡ k = omega arith in
-        let is : get_or (reverse xs) j v ≡ v =
-        get_or-reverse xs j v (omega arith) ∙ ap (λ i. get_or xs i v) at ∙ get_or_from_slice_get xs k v v here in
-        let within : w < length drivers = driven_within place w (t.drives place w d) in
-        let rows : length (waits cells drivers) ≡ length drivers = length-map drivers (waits_at cells) in
-        let names : waits_at cells (get_or drivers w None) ≡ reverse xs = ap (waits_at cells) d ∙ ap waits_of s in
+    -- an order of the graph is one of the cells
+    pub cells_ordered : (places : List ℕ) → OrdersNodes (waits inputs cells) places → OrdersCells cells places
+    cells_ordered places o =
+        let n : length (waits inputs cells) ≡ length cells = length-map cells (waits_of inputs) in
         record {
-          names = reverse xs;
-          are_names = slice_get-get_or (waits cells drivers) w [] (omega arith) ∙ ap Some (names_at cells drivers w ∙ names);
-          is_named = (j, omega arith, is);
-          is_node = let m = driven_within other v o in omega arith;
+          within = λ i l. omega (arith, o.within i l);
+          once = o.once;
+          all = λ p l. o.all p (omega arith);
+          after = λ j k w p l a t. o.after j p l (refers_to (get_or places j 0) k w p a t);
         }

@@ -1,9 +1,9 @@
--- What a flat net meets as a module: widths that agree, and one driver for each wire that is no input.
+-- What a flat net meets as a module: widths that agree, and one cell for each wire that is no input.
 use Rattle.std.specs.Prelude.{◌≡◌, ℕ, ◌+◌, ◌-◌, ◌<◌, ◌≤◌, Bool, List, [], ◌∷◌, length, map, take, sum_by, Option, Some, slice_get, slice_index}
 use Rattle.std.specs.List.{AllByRecursion}
 use Rattle.chw_base.specs.declared.limits.TheConstants.{ADDRESS_BITS, ARITHMETIC_BITS, FLAT_WIRES, RAM_WORDS, WIRE_BITS}
 use Rattle.chw_base.specs.declared.index.WireId.{WireId}
-use Rattle.netlist.specs.Feeds.{target, target_at}
+use Rattle.netlist.specs.Feeds.{target}
 use Rattle.netlist.specs.declared.net.Cell.{Cell}
 use Rattle.netlist.specs.declared.net.Cell.TheVariants.{Const, Copy, Join, Cut, Un, Bin, Mux, Reg, Ram, Use}
 use Rattle.netlist.specs.declared.net.Flat.{Flat}
@@ -95,10 +95,6 @@ pub record EachOnce (inputs wires : ℕ) (driven_at : ℕ → Option ℕ) : Type
   -- no wire is driven at two places
   pub once : (p q w : ℕ) → driven_at p ≡ Some w → driven_at q ≡ Some w → p ≡ q
 
--- each wire that is no input is driven by exactly one of the cells
-abbrev pub DrivenOnce : (inputs wires : ℕ) → List Cell → Type 0
-DrivenOnce inputs wires cells = EachOnce inputs wires (target_at cells)
-
 -- the cells drive the wires in order, from this one on
 abbrev pub DrivesFrom : ℕ → List Cell → Type 0
 DrivesFrom w [] = Unit {0}
@@ -116,5 +112,6 @@ pub record Sound (flat : Flat) : Type 0 where
   pub outputs : map (λ w. slice_get flat.widths w.number) flat.outputs ≡ map (λ port. Some port.width) flat.ports.outputs
   -- what each cell names exists, and its widths agree
   pub cells : AllByRecursion (FitsCell (length flat.ports.domains) flat.widths) flat.cells
-  -- each wire that is no input is driven by one cell
-  pub drivers : DrivenOnce (length flat.ports.inputs) (length flat.widths) flat.cells
+  -- the cells drive the wires that are no inputs, in order, each one
+  pub in_order : DrivesFrom (length flat.ports.inputs) flat.cells
+  pub all : length flat.ports.inputs + length flat.cells ≡ length flat.widths

@@ -1,6 +1,7 @@
 //! What a cell drives, and what it waits for within one event.
-ghost use Rattle.std.specs.Prelude.{◌≡◌, length, slice_get, option_map, IfOk};
-ghost use Rattle.netlist.specs.Feeds.{awaited, target};
+ghost use Rattle.std.specs.Prelude.{◌≡◌, length, slice_get};
+ghost use Rattle.netlist.specs.Feeds.{awaited};
+ghost use Rattle.netlist.specs.Wires.{driven};
 
 use crate::net::Cell;
 use chw_base::WireId;
@@ -13,9 +14,19 @@ fn wire_at(wires: &[WireId], k: usize) -> Option<WireId>
 }
 
 impl Cell {
-    /// The wire that the cell drives. A use of a module drives its own list of them.
-    pub fn target(&self) -> Option<WireId>
-        ensures { option_map (λ w. w.number) result ≡ target self.now }
+    /// How many wires the cell drives.
+    pub fn driven_len(&self) -> usize
+        ensures { result ≡ length (driven self.now) }
+    {
+        match self {
+            Cell::Use(_, _, drives) => drives.len(),
+            _ => 1,
+        }
+    }
+
+    /// One of the wires that the cell drives.
+    pub fn driven(&self, k: usize) -> Option<WireId>
+        ensures { result ≡ slice_get (driven self.now) k }
     {
         match self {
             Cell::Const(w, _)
@@ -26,8 +37,8 @@ impl Cell {
             | Cell::Bin(w, _, _, _)
             | Cell::Mux(w, _, _, _)
             | Cell::Reg(w, _, _, _)
-            | Cell::Ram(w, _, _, _) => Some(*w),
-            Cell::Use(_, _, _) => None,
+            | Cell::Ram(w, _, _, _) => wire_at(&[*w], k),
+            Cell::Use(_, _, drives) => wire_at(drives.as_slice(), k),
         }
     }
 

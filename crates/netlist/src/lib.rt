@@ -2,7 +2,6 @@
 #![tactic(auto)]
 
 pub mod cell;
-mod drivers;
 pub mod examples;
 pub mod laws;
 pub mod net;

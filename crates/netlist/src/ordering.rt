@@ -1,61 +1,41 @@
 //! An order of the cells of a flat net, or a loop.
-ghost use Rattle.std.specs.Prelude.{◌≡◌, ◌<◌, ◌++◌, length, drop, take, reverse, IfOk};
+ghost use Rattle.std.specs.Prelude.{◌≡◌, ◌+◌, ◌<◌, ◌^◌, ◌++◌, All, length, drop, map, take, reverse, IfOk};
 ghost use Rattle.chw_base.specs.Outcome.{IfFault};
-ghost use Rattle.graph_order.specs.Orders.{IsOrder as OrdersNodes};
-ghost use Rattle.netlist.specs.Drivers.{IsTable, waits};
 ghost use Rattle.netlist.specs.Orders.{IsLoop, IsOrder, wire_numbers};
 ghost use Rattle.netlist.specs.Sound.{Sound};
 
-use crate::drivers::{driver_of, drivers};
 use crate::net::{Flat, Loop, Order};
 use crate::waits::Waits;
 use chw_base::{NoMemory, Or, Seq, WireId};
 use graph_order::{Ordering, order_of};
 use std::alloc::Global;
 
-// The cells that drive these wires, in the order of the wires. An order of all wires gives one of all cells.
-fn cells_along(
-    alloc: Global,
-    flat: &Flat,
-    drivers: &[Option<u32>],
-    wires: &[u32],
-) -> Result<Order, NoMemory>
-    requires sound { Sound flat.now }
-    requires table { IsTable (length flat.now.widths) flat.now.cells drivers.now }
-    requires order { OrdersNodes (waits flat.now.cells drivers.now) wires.now }
-    ensures { IfOk result (λ o. IsOrder flat.now o.cells) }
-{
-    let mut places = Vec::new(alloc);
-    for wire in wires {
-        if let Some(place) = driver_of(drivers, WireId { number: *wire }) {
-            places.push(place)?;
-        }
-    }
-    Ok(Order {
-        cells: Seq::from(places),
-    })
-}
-
-// The wires of these numbers.
-fn wires_of(alloc: Global, numbers: &[u32]) -> Result<Vec<WireId>, NoMemory>
-    ensures { IfOk result (λ wires. wire_numbers wires.items ≡ numbers.now) }
+// The wires that the cells at these places drive, where so many wires are inputs.
+fn wires_of(alloc: Global, inputs: u32, places: &[u32]) -> Result<Vec<WireId>, NoMemory>
+    requires { All (λ place. inputs + place < 2 ^ 32) places.now }
+    ensures { IfOk result (λ wires. wire_numbers wires.items ≡ map (λ place. inputs + place) places.now) }
 {
     let mut wires = Vec::new(alloc);
-    for number in numbers {
-        wires.push(WireId { number: *number })?;
+    for place in places {
+        wires.push(WireId {
+            number: inputs + *place,
+        })?;
     }
     Ok(wires)
 }
 
-// A cycle of wires in which each waits for the next, turned round, so that each feeds the next. The first stays the first.
-fn turned_round(alloc: Global, wires: Vec<u32>) -> Result<Seq<WireId>, NoMemory>
-    requires { 0 < length wires.items }
-    ensures { IfOk result (λ cycle. wire_numbers cycle ≡ reverse (drop 1 wires.items ++ take 1 wires.items)) }
+// The wires of a cycle of cells in which each waits for the next, turned round, so that each wire feeds the next. The first stays the
+// first.
+fn turned_round(alloc: Global, inputs: u32, places: Vec<u32>) -> Result<Seq<WireId>, NoMemory>
+    requires some { 0 < length places.items }
+    requires fits { All (λ place. inputs + place < 2 ^ 32) places.items }
+    ensures { IfOk result (λ cycle. wire_numbers cycle
+        ≡ map (λ place. inputs + place) (reverse (drop 1 places.items ++ take 1 places.items))) }
 {
-    let mut wires = wires;
-    wires.rotate_left(1);
-    wires.reverse();
-    let cycle = wires_of(alloc, &wires)?;
+    let mut places = places;
+    places.rotate_left(1);
+    places.reverse();
+    let cycle = wires_of(alloc, inputs, &places)?;
     Ok(Seq::from(cycle))
 }
 
@@ -65,15 +45,17 @@ pub fn order(alloc: Global, flat: &Flat) -> Result<Order, Or<Loop>>
     ensures order { IfOk result (λ o. IsOrder flat.now o.cells) }
     ensures loop_ { IfFault result (λ l. IsLoop flat.now l.cycle) }
 {
-    let drivers = drivers(alloc, flat)?;
+    let inputs = flat.ports.inputs.len() as u32;
     let graph = Waits {
+        inputs,
         cells: flat.cells.as_slice(),
-        drivers: &drivers,
     };
     match order_of(alloc, &graph)? {
-        Ordering::Order(wires) => Ok(cells_along(alloc, flat, &drivers, &wires)?),
-        Ordering::Cycle(wires) => Err(Or::Fault(Loop {
-            cycle: turned_round(alloc, wires)?,
+        Ordering::Order(places) => Ok(Order {
+            cells: Seq::from(places),
+        }),
+        Ordering::Cycle(places) => Err(Or::Fault(Loop {
+            cycle: turned_round(alloc, inputs, places)?,
         })),
     }
 }

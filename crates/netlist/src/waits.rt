@@ -1,60 +1,45 @@
-//! The wires of a flat net as a graph: each refers to those that the cell that drives it waits for.
-ghost use Rattle.std.specs.Prelude.{◌≡◌, ◌-◌, ◌<◌, ◌≤◌, length, slice_get};
-ghost use Rattle.netlist.specs.Drivers.{waits, waits_at};
+//! The cells of a flat net as a graph: each refers to those that drive the wires that it waits for.
+ghost use Rattle.std.specs.Prelude.{◌≡◌};
+ghost use Rattle.netlist.specs.Waits.{driving_place, waits};
 
-use crate::drivers::driver_of;
 use crate::net::Cell;
-use chw_base::WireId;
 use graph_order::Graph;
 
-// How many wires the driver at a place waits for.
-fn waits_len(cells: &[Cell], driver: Option<u32>) -> usize
-    ensures { result ≡ length (waits_at cells.now driver) }
+// The place of the cell that drives a wire, where so many wires are inputs. For an input it is past all cells.
+fn place_of(inputs: u32, wire: u32) -> u32
+    ensures { result ≡ driving_place inputs wire }
 {
-    let Some(place) = driver else {
-        return 0;
-    };
-    match cells.get(place as usize) {
-        Some(cell) => cell.awaited_len(),
-        None => 0,
+    if wire < inputs {
+        u32::MAX
+    } else {
+        wire - inputs
     }
 }
 
-// The wire that the driver at a place waits for where this many are left, itself among them. The last that it reads comes first.
-fn wait_at(cells: &[Cell], driver: Option<u32>, left: usize) -> Option<u32>
-    requires some { 0 < left }
-    requires fits { left ≤ length (waits_at cells.now driver) }
-    ensures { result ≡ slice_get (waits_at cells.now driver) (length (waits_at cells.now driver) - left) }
-{
-    let place = driver?;
-    let cell = cells.get(place as usize)?;
-    let wire = cell.awaited(left - 1)?;
-    Some(wire.number)
-}
-
-/// The cells of a flat net, and by the number of a wire the place of the one that drives it.
+/// The cells of a flat net, which drive the wires after the inputs in order.
 #[derive(Drop)]
 pub(crate) struct Waits<'a> {
+    pub inputs: u32,
     pub cells: &'a [Cell],
-    pub drivers: &'a [Option<u32>],
 }
 
 impl<'a> Graph for Waits<'a> {
-    ghost lists = { λ it. waits it.cells.now it.drivers.now };
+    ghost lists = { λ it. waits it.inputs it.cells.now };
 
     fn node_count(&self) -> usize {
-        self.drivers.len()
+        self.cells.len()
     }
 
     fn degree(&self, node: u32) -> usize {
-        waits_len(self.cells, driver_of(self.drivers, WireId { number: node }))
+        match self.cells.get(node as usize) {
+            Some(cell) => cell.awaited_len(),
+            None => 0,
+        }
     }
 
     fn reference(&self, node: u32, left: usize) -> Option<u32> {
-        wait_at(
-            self.cells,
-            driver_of(self.drivers, WireId { number: node }),
-            left,
-        )
+        let cell = self.cells.get(node as usize)?;
+        let wire = cell.awaited(left - 1)?;
+        Some(place_of(self.inputs, wire.number))
     }
 }

@@ -1,14 +1,14 @@
-use Rattle.std.proofs.Common.{◌-◌, ◌∙◌, [], length, ap, get_or, sym, None, slice_get}
-use Rattle.netlist.specs.Drivers.{waits, waits_at}
-use Rattle.netlist.proofs.Waiting.{names_at, reference_by}
+use Rattle.std.proofs.Common.{◌≡◌, ◌∙◌, length, ap, refl, sym, Some, slice_get}
+use Rattle.std.proofs.lemmas.Bool.{ltb-true}
+use Rattle.std.proofs.lemmas.Option.{slice_get_read}
+use Rattle.netlist.proofs.Waiting.{reference_here}
 use Rattle.netlist.proofs.waits.WaitsGraph.reference.Goals as goal
 
 pub returns : goal.returns
 returns c =
     let cells = c.args.self.now.cells.now in
-    let drivers = c.args.self.now.drivers.now in
-    let node = c.args.node in
-    let left = c.args.left in
-    c.wait_at.ensures ∙ ap (λ o. slice_get (waits_at cells o) (length (waits_at cells o) - left)) c.driver_of.ensures
-    ∙ ap (λ ns. slice_get (waits_at cells (get_or drivers node None)) (length ns - left)) (sym (names_at cells drivers node))
-    ∙ sym (reference_by cells drivers node (length (get_or (waits cells drivers) node []) - left))
+    let cell = c.in_ok-cell.cell.now in
+    let read : slice_get cells c.args.node ≡ Some cell =
+    slice_get_read cells (length cells) c.args.node cell refl (ltb-true _ _ (sym c.in_ok-cell.ensures.lookup.0)) c.in_ok-cell.ensures.lookup.1 in
+    ap Some c.place_of.ensures
+    ∙ reference_here c.args.self.now.inputs cells c.args.node cell c.args.left c.in_ok-wire.wire read c.requires.some c.requires.fits c.in_ok-wire.ensures

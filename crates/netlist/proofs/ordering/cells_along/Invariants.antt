@@ -1,6 +1,0 @@
--- the cells of the wires so far
-use Rattle.netlist.proofs.Placing.{Placed}
-use Rattle.netlist.proofs.ordering.cells_along.Given as goal
-
-abbrev pub invariant-loop-wire : goal.invariant-loop-wire
-invariant-loop-wire l = Placed l.flat.cells l.drivers l.wires l.wire-index l.places.items
