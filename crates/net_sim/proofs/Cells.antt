@@ -5,12 +5,13 @@ use Rattle.std.specs.List.{AllByRecursion}
 use Rattle.std.proofs.lemmas.Option.{slice_get-get_or}
 use Rattle.std.proofs.lemmas.List.{get_or_default, map-set, set-get_or}
 use Rattle.chw_base.specs.declared.index.WireId.{WireId}
+use Rattle.netlist.proofs.Driven.{each_driven_once}
 use Rattle.netlist.proofs.Places.{all_at}
 use Rattle.netlist.proofs.Widths.{Lengths, operator_width}
 use Rattle.netlist.specs.Feeds.{awaited, target, target_at}
 use Rattle.netlist.specs.NetValue.{HasCell}
 use Rattle.netlist.specs.Operators.{KeepsNothing}
-use Rattle.netlist.specs.Sound.{DrivenOnce, FitsCell, HasWidth, IsWire, Sound}
+use Rattle.netlist.specs.Sound.{EachOnce, FitsCell, HasWidth, IsWire, Sound}
 use Rattle.netlist.specs.Wires.{read_by}
 use Rattle.netlist.specs.declared.net.Cell.{Cell}
 use Rattle.netlist.specs.declared.net.Cell.TheVariants.{Const, Copy, Join, Cut, Un, Bin, Mux, Reg, Ram, Use}
@@ -19,8 +20,8 @@ use Rattle.net_sim.specs.Tables.{given_in, value_in, values_in}
 use Rattle.net_sim.proofs.Wiring.{is_wire, one_fits, two_fit, width_at, wire_within, wire_width}
 
 -- each wire that is no input is driven by one cell
-pub driven_once : (flat : Flat) → Sound flat → DrivenOnce (length flat.ports.inputs) (length flat.widths) flat.cells
-driven_once flat sound = sound.drivers
+pub driven_once : (flat : Flat) → Sound flat → EachOnce (length flat.ports.inputs) (length flat.widths) (target_at flat.cells)
+driven_once flat sound = each_driven_once flat sound
 
 -- the cells of a net are as its wires need
 pub cell_fits : (flat : Flat) (cell : Cell) → Sound flat → HasCell flat cell → FitsCell (length flat.ports.domains) flat.widths cell
