@@ -4,6 +4,7 @@ ghost use Rattle.chw_bits.specs.Bits.{bits_of, number_of};
 
 use crate::reading::{bit_at, number_of_list};
 use chw_base::NoMemory;
+use chw_bits::Bits;
 use std::alloc::Global;
 use std::marker::Model;
 
@@ -59,14 +60,14 @@ impl Word {
     }
 
     /// How many bits there are.
-    pub(crate) fn len(&self) -> u32
+    pub fn len(&self) -> u32
         ensures { result ≡ length self.now }
     {
         self.width
     }
 
     /// The number of a narrow word.
-    pub(crate) fn number(&self) -> u128
+    pub fn number(&self) -> u128
         requires { length self.now ≤ 128 }
         ensures bits { self.now ≡ bits_of (length self.now) result }
         ensures below { result < 2 ^ length self.now }
@@ -76,7 +77,7 @@ impl Word {
     }
 
     /// The bit at this place of the list, the most significant at 0.
-    pub(crate) fn bit(&self, i: u32) -> bool
+    pub fn bit(&self, i: u32) -> bool
         requires { i < length self.now }
         ensures { result ≡ slice_index_or self.now i false }
     {
@@ -85,6 +86,17 @@ impl Word {
         } else {
             bit_at(self.width, self.number, i)
         }
+    }
+
+    /// The bits of the word once more.
+    pub fn copy(&self, alloc: Global) -> Result<Bits, NoMemory>
+        ensures { IfOk result (λ bits. bits ≡ self.now) }
+    {
+        let mut bits = Vec::new(alloc);
+        for i in 0..self.len() {
+            bits.push(self.bit(i))?;
+        }
+        Ok(Bits::of_list(bits))
     }
 
     /// Makes a narrow word the one of a number.
