@@ -1,5 +1,6 @@
 -- How cells renew the wires of a table, one after another.
-use Rattle.std.specs.Prelude.{◌≡◌, ℕ, ◌<◌, Bool, List, length, map, Some, slice_get, slice_index, slice_set}
+use Rattle.std.specs.Prelude.{◌≡◌, ℕ, ◌<◌, Bool, List, length, map, Some}
+use Rattle.std.specs.Prelude.{slice_get, slice_index, slice_set}
 use Rattle.net_sim.specs.Tables.{given_in, value_in}
 use Rattle.netlist.specs.Feeds.{target}
 use Rattle.netlist.specs.NetValue.{HasCell}
