@@ -14,3 +14,4 @@ pub mod Histories
 pub mod Stepped
 pub mod Kept
 pub mod First
+pub mod Listing

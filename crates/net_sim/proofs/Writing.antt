@@ -1,6 +1,6 @@
 -- Cells that write their items one after another.
-use Rattle.std.proofs.Common.{◌≡◌, ◌≢◌, ℕ, ◌+◌, ◌<◌, ◌≤◌, Bool, true, false, List, length, map, set, Some, slice_get, ◌⊎◌, inl, inr, refl, sym, ap, subst, ◌∙◌, arith}
-use Rattle.std.specs.Prelude.{slice_index_or}
+use Rattle.std.proofs.Common.{◌≡◌, ◌≢◌, ℕ, suc, zero, ◌+◌, ◌<◌, ◌≤◌, Bool, true, false, List, length, map, set, Some, slice_get, ◌⊎◌, inl, inr, refl, sym, ap, subst, ◌∙◌, arith, add-one}
+use Rattle.std.specs.Prelude.{slice_index, slice_index_or}
 use Rattle.std.proofs.lemmas.Bool.{cases_lt}
 use Rattle.std.proofs.lemmas.List.{get_or-set_other, get_or-set_same}
 use Rattle.chw_clock.specs.Histories.{ticks}
@@ -11,7 +11,7 @@ use Rattle.netlist.specs.Sound.{FitsCell, Sound}
 use Rattle.netlist.specs.declared.net.Cell.{Cell}
 use Rattle.netlist.specs.declared.net.Cell.TheVariants.{Reg, Ram}
 use Rattle.netlist.specs.declared.net.Flat.{Flat}
-use Rattle.net_sim.specs.Ticking.{Moves, MovesWords, Writes, WrittenBefore}
+use Rattle.net_sim.specs.Ticking.{IsKeeper, ListsKeepers, Moves, MovesWords, behind, Writes, WrittenBefore}
 use Rattle.net_sim.proofs.Cells.{cell_fits, driven_once, target_there}
 use Rattle.net_sim.proofs.Wiring.{is_wire}
 
@@ -113,3 +113,54 @@ pub fits_table : (flat : Flat) (table : List (List Bool)) (cell : Cell) → Soun
     → (domains : ℕ) × FitsCell domains (map length table) cell
 fits_table flat table cell sound widths has =
     (length flat.ports.domains, subst (λ ws. FitsCell (length flat.ports.domains) ws cell) (sym widths) (cell_fits flat cell sound has))
+
+-- places at which no cell is of the kind may be passed over
+pub written_skip : (X : Type 0) (none : X) (Kind : Cell → Type 0) (made : ℕ → Cell → X → X) (flat : Flat) (old now : List X) (i j : ℕ) → i ≤ j
+    → ((p : ℕ) (cell : Cell) → i ≤ p → p < j → slice_get flat.cells p ≡ Some cell → Kind cell → ⊥)
+    → WrittenBefore X none Kind made flat old now i → WrittenBefore X none Kind made flat old now j
+written_skip X none Kind made flat old now i j le empty before = record {
+  items = λ p w cell lt at is t. from p w cell lt at is t (cases_lt p i);
+  others = λ w free. before.others w (λ p cell lt at is t. free p cell (omega arith) at is t);
+}
+  where
+    from : (p w : ℕ) (cell : Cell) → p < j → slice_get flat.cells p ≡ Some cell → Kind cell → target cell ≡ Some w → (p < i) ⊎ (i ≤ p)
+        → slice_index_or now w none ≡ made w cell (slice_index_or old w none)
+    from p w cell lt at is t (inl less) = before.items p w cell less at is t
+    from p w cell lt at is t (inr more) = absurd (empty p cell more lt at is)
+
+pub moves_keeper : (event : Event) (cell : Cell) → Moves event cell → IsKeeper cell
+moves_keeper event (Reg w domain initial a) moves = tt
+moves_keeper event (Ram w domain words inputs) moves = tt
+moves_keeper event _ moves = absurd moves
+
+pub moves_words_keeper : (event : Event) (cell : Cell) → MovesWords event cell → IsKeeper cell
+moves_words_keeper event (Ram w domain words inputs) moves = tt
+moves_words_keeper event _ moves = absurd moves
+
+-- one place of the list further
+pub listed_more : (X : Type 0) (none : X) (Kind : Cell → Type 0) (made : ℕ → Cell → X → X) (flat : Flat) (places : List ℕ) (old now new : List X) (k : ℕ)
+    (cell : Cell) → Sound flat → ListsKeepers flat places (length flat.cells) → ((cell : Cell) → Kind cell → IsKeeper cell) → k < length places
+    → Kind cell ⊎ (Kind cell → ⊥) → (Kind cell → (w : ℕ) × (target cell ≡ Some w) × (w < length now))
+    → slice_get flat.cells (slice_index places k) ≡ Some cell → WrittenBefore X none Kind made flat old now (behind places k)
+    → Writes X none Kind made cell now new → WrittenBefore X none Kind made flat old new (behind places (k + 1))
+listed_more X none Kind made flat places old now new k cell sound lists keeps lt kind there at before writes =
+    subst (λ n. WrittenBefore X none Kind made flat old new (behind places n)) (sym (add-one k))
+    (written_more X none Kind made flat old now new (slice_index places k) cell sound kind there at
+    (written_skip X none Kind made flat old now (behind places k) (slice_index places k) (lists.rising k lt)
+    (λ p other le less at' is.
+    let whole = lists.within k lt in
+    lists.others k p other (omega arith) le (λ _. less) (omega arith) at' (keeps other is)) before) writes)
+
+-- behind the last place of the list
+pub listed_all : (X : Type 0) (none : X) (Kind : Cell → Type 0) (made : ℕ → Cell → X → X) (flat : Flat) (places : List ℕ) (old now : List X) (k : ℕ)
+    → ListsKeepers flat places (length flat.cells) → ((cell : Cell) → Kind cell → IsKeeper cell) → k ≡ length places
+    → behind places k ≤ length flat.cells
+    → WrittenBefore X none Kind made flat old now (behind places k) → WrittenBefore X none Kind made flat old now (length flat.cells)
+listed_all X none Kind made flat places old now k lists keeps all le before =
+    written_skip X none Kind made flat old now (behind places k) (length flat.cells) le
+    (λ p other more less at is. lists.others k p other (omega arith) more (λ lt. absurd (omega (arith, lt))) less at (keeps other is)) before
+
+-- the place behind some of the list is within the limit
+pub behind_within : (flat : Flat) (places : List ℕ) (limit k : ℕ) → ListsKeepers flat places limit → k ≤ length places → behind places k ≤ limit
+behind_within flat places limit zero lists le = omega arith
+behind_within flat places limit (suc k) lists le = omega (arith, lists.within k (omega arith))

@@ -3,7 +3,7 @@ use Rattle.std.specs.Prelude.{◌≡◌, ℕ, Bool, List, length, map}
 use Rattle.chw_clock.specs.declared.event.Event.{Event}
 use Rattle.net_sim.specs.Stepping.{Settled, ShowsValues, StandsFor, word_in}
 use Rattle.net_sim.specs.Tables.{value_in}
-use Rattle.net_sim.specs.Ticking.{HaveSizes, MemoriesFit}
+use Rattle.net_sim.specs.Ticking.{HaveSizes, ListsKeepers, MemoriesFit}
 use Rattle.net_sim.specs.declared.sim.Sim.{Sim}
 use Rattle.netlist.specs.Orders.{IsOrder}
 use Rattle.netlist.specs.Sound.{Sound}
@@ -33,6 +33,7 @@ SimShows sim h = ShowsValues sim.flat.now sim.words.items h
 pub record IsTable (sim : Sim) : Type 0 where
   pub sound : Sound sim.flat.now
   pub order : IsOrder sim.flat.now sim.order.now.cells
+  pub keepers : ListsKeepers sim.flat.now sim.keepers.items (length sim.flat.now.cells)
   pub widths : map length sim.words.items ≡ sim.flat.now.widths
   pub next : map length sim.next.items ≡ map length sim.words.items
   pub memories : MemoriesFit sim.words.items sim.memories.items

@@ -1,6 +1,6 @@
 -- What an event changes: what registers and RAMs show after it, and the words of RAMs.
 use Rattle.std.specs.Prelude.{◌≡◌, ℕ, ◌<◌, ◌==◌, ◌&&◌, Bool, true, List, [], length, Some}
-use Rattle.std.specs.Prelude.{slice_get}
+use Rattle.std.specs.Prelude.{◌+◌, ◌≤◌, zero, suc, slice_get, slice_index}
 use Rattle.std.specs.Prelude.{if◌then◌else◌, nat_lt, slice_index_or, slice_set}
 use Rattle.chw_base.specs.declared.index.WireId.{WireId}
 use Rattle.chw_bits.specs.Bits.{number_of}
@@ -98,3 +98,23 @@ pub record Stepped (flat : Flat) (event : Event) (table : List (List Bool))
       → slice_index_or memories' w [] ≡ moved_words table cell (slice_index_or memories w [])
   pub words_stay : (cell : Cell) (w : ℕ) → HasCell flat cell → (MovesWords event cell → ⊥)
       → target cell ≡ Some w → slice_index_or memories' w [] ≡ slice_index_or memories w []
+
+-- the cell is a register or a RAM
+abbrev pub IsKeeper : Cell → Type 0
+IsKeeper (Reg w domain initial a) = Unit {0}
+IsKeeper (Ram w domain words inputs) = Unit {0}
+IsKeeper _ = ⊥
+
+-- the first place behind those that are before one of a list
+abbrev pub behind : List ℕ → ℕ → ℕ
+behind places zero = 0
+behind places (suc k) = slice_index places k + 1
+
+-- The places below a limit of all registers and RAMs, in order: between two of the list, and
+-- behind the last, stands none.
+pub record ListsKeepers (flat : Flat) (places : List ℕ) (limit : ℕ) : Type 0 where
+  pub rising : (k : ℕ) → k < length places → behind places k ≤ slice_index places k
+  pub within : (k : ℕ) → k < length places → slice_index places k < limit
+  pub others : (k place : ℕ) (cell : Cell) → k ≤ length places → behind places k ≤ place
+      → (k < length places → place < slice_index places k) → place < limit
+      → slice_get flat.cells place ≡ Some cell → IsKeeper cell → ⊥

@@ -1,8 +1,9 @@
 //! A table before any event.
-ghost use Rattle.std.specs.Prelude.{◌≡◌, ℕ, Bool, List, [], length, map, replicate, IfOk, OnOk};
+ghost use Rattle.std.specs.Bool.{Decides};
+ghost use Rattle.std.specs.Prelude.{◌≡◌, ℕ, ◌+◌, ◌<◌, Bool, List, [], length, map, replicate, IfOk, OnOk};
 ghost use Rattle.chw_bits.specs.Bits.{bits_of};
 ghost use Rattle.net_sim.specs.Opening.{IsRam, IsRegister, initial_bits, initial_words};
-ghost use Rattle.net_sim.specs.Ticking.{Writes, WrittenBefore};
+ghost use Rattle.net_sim.specs.Ticking.{IsKeeper, ListsKeepers, Writes, WrittenBefore};
 ghost use Rattle.netlist.specs.Sound.{FitsCell, Sound};
 
 use crate::memory::Memory;
@@ -110,4 +111,35 @@ pub(crate) fn first_memories(alloc: Global, flat: &Flat) -> Result<Vec<Memory>, 
     let mut memories = no_memories(alloc, flat.widths.len())?;
     load_all(alloc, flat, &mut memories)?;
     Ok(memories)
+}
+
+// Whether a cell is a register or a RAM.
+fn is_keeper(cell: &Cell) -> bool
+    ensures { Decides result (IsKeeper cell.now) }
+{
+    matches!(cell, Cell::Reg(_, _, _, _) | Cell::Ram(_, _, _, _))
+}
+
+// Adds a place, if the cell there is a register or a RAM.
+fn add_keeper(flat: &Flat, place: u32, places: &mut Vec<u32>) -> Result<(), NoMemory>
+    requires within { place < length flat.now.cells }
+    requires lists { ListsKeepers flat.now places.old.items place }
+    ensures { OnOk result (ListsKeepers flat.now places.new.items (place + 1)) }
+{
+    if is_keeper(cell_at(flat, place as usize)) {
+        return Ok(places.push(place)?);
+    }
+    Ok(())
+}
+
+/// The places of all registers and RAMs.
+pub(crate) fn list_keepers(alloc: Global, flat: &Flat) -> Result<Vec<u32>, NoMemory>
+    requires { Sound flat.now }
+    ensures { IfOk result (λ v. ListsKeepers flat.now v.items (length flat.now.cells)) }
+{
+    let mut places = Vec::new(alloc);
+    for place in 0..flat.cells.len() as u32 {
+        add_keeper(flat, place, &mut places)?;
+    }
+    Ok(places)
 }

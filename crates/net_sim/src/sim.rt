@@ -9,7 +9,7 @@ ghost use Rattle.netlist.specs.Sound.{Sound};
 
 use crate::inputs::enter;
 use crate::memory::Memory;
-use crate::opening::{first_memories, first_words, zero_words};
+use crate::opening::{first_memories, first_words, list_keepers, zero_words};
 use crate::room::ROOM;
 use crate::tick::advance;
 use crate::word::Word;
@@ -24,6 +24,8 @@ use std::alloc::Global;
 pub struct Sim<'a> {
     pub(crate) flat: &'a Flat,
     pub(crate) order: &'a Order,
+    /// The places of all registers and RAMs.
+    pub(crate) keepers: Vec<u32>,
     /// The words of the wires, by their numbers.
     pub(crate) words: Vec<Word>,
     /// What registers and RAMs are to show after the event, by the wires that they drive.
@@ -43,6 +45,7 @@ impl<'a> Sim<'a> {
         ensures net { IfOk result (λ sim. sim.flat.now ≡ flat.now) }
         ensures past { IfOk result (λ sim. SimStandsFor sim []) }
     {
+        let keepers = list_keepers(alloc, flat)?;
         let words = first_words(alloc, flat)?;
         let next = zero_words(alloc, flat.widths.as_slice())?;
         let memories = first_memories(alloc, flat)?;
@@ -50,6 +53,7 @@ impl<'a> Sim<'a> {
         Ok(Sim {
             flat,
             order,
+            keepers,
             words,
             next,
             memories,
@@ -102,6 +106,7 @@ impl<'a> Sim<'a> {
     {
         advance(
             self.flat,
+            &self.keepers,
             event,
             &mut self.words,
             &mut self.next,

@@ -3,7 +3,7 @@ ghost use Rattle.std.specs.Prelude.{◌≡◌, ℕ, ◌<◌, ◌≤◌, Bool, Li
 ghost use Rattle.chw_bits.specs.Bits.{number_of};
 ghost use Rattle.chw_clock.specs.Histories.{resets, ticks};
 ghost use Rattle.net_sim.specs.Tables.{value_in};
-ghost use Rattle.net_sim.specs.Ticking.{MemoriesFit, Moves, MovesWords, Writes, WrittenBefore, moved_bits, moved_words};
+ghost use Rattle.net_sim.specs.Ticking.{ListsKeepers, MemoriesFit, Moves, MovesWords, Writes, WrittenBefore, moved_bits, moved_words};
 ghost use Rattle.net_sim.specs.Ticking.{Stepped, shown_word, written_words};
 ghost use Rattle.netlist.specs.Sound.{FitsCell, IsWire, Sound};
 
@@ -159,8 +159,16 @@ fn put(cell: &Cell, event: &Event, next: &[Word], words: &mut [Word])
 }
 
 // Takes what all registers and RAMs show after an event in which they move.
-fn take_all(flat: &Flat, event: &Event, words: &[Word], memories: &[Memory], next: &mut [Word])
+fn take_all(
+    flat: &Flat,
+    keepers: &[u32],
+    event: &Event,
+    words: &[Word],
+    memories: &[Memory],
+    next: &mut [Word],
+)
     requires sound { Sound flat.now }
+    requires keepers { ListsKeepers flat.now keepers.now (length flat.now.cells) }
     requires table { map length words.now ≡ flat.now.widths }
     requires widths { map length next.old ≡ map length words.now }
     requires memories { MemoriesFit words.now memories.now }
@@ -169,14 +177,15 @@ fn take_all(flat: &Flat, event: &Event, words: &[Word], memories: &[Memory], nex
         (length flat.now.cells) }
     ensures widths { map length next.new ≡ map length words.now }
 {
-    for place in 0..flat.cells.len() {
-        take(cell_at(flat, place), event, words, memories, next);
+    for place in keepers {
+        take(cell_at(flat, *place as usize), event, words, memories, next);
     }
 }
 
 // Writes the words of all RAMs that move in an event.
-fn write_all(flat: &Flat, event: &Event, words: &[Word], memories: &mut [Memory])
+fn write_all(flat: &Flat, keepers: &[u32], event: &Event, words: &[Word], memories: &mut [Memory])
     requires sound { Sound flat.now }
+    requires keepers { ListsKeepers flat.now keepers.now (length flat.now.cells) }
     requires table { map length words.now ≡ flat.now.widths }
     requires memories { MemoriesFit words.now memories.old }
     ensures written { WrittenBefore (List (List Bool)) [] (MovesWords event.now)
@@ -184,34 +193,37 @@ fn write_all(flat: &Flat, event: &Event, words: &[Word], memories: &mut [Memory]
         (length flat.now.cells) }
     ensures memories { MemoriesFit words.now memories.new }
 {
-    for place in 0..flat.cells.len() {
-        write(cell_at(flat, place), event, words, memories);
+    for place in keepers {
+        write(cell_at(flat, *place as usize), event, words, memories);
     }
 }
 
 // Puts what all registers and RAMs show after an event in which they move.
-fn put_all(flat: &Flat, event: &Event, next: &[Word], words: &mut [Word])
+fn put_all(flat: &Flat, keepers: &[u32], event: &Event, next: &[Word], words: &mut [Word])
     requires sound { Sound flat.now }
+    requires keepers { ListsKeepers flat.now keepers.now (length flat.now.cells) }
     requires table { map length words.old ≡ flat.now.widths }
     requires widths { map length next.now ≡ map length words.old }
     ensures put { WrittenBefore (List Bool) [] (Moves event.now) (λ w cell old. value_in next.now w)
         flat.now words.old words.new (length flat.now.cells) }
     ensures widths { map length words.new ≡ map length words.old }
 {
-    for place in 0..flat.cells.len() {
-        put(cell_at(flat, place), event, next, words);
+    for place in keepers {
+        put(cell_at(flat, *place as usize), event, next, words);
     }
 }
 
 /// Moves all registers and RAMs that move in an event: each takes what it takes before any moves.
 pub(crate) fn advance(
     flat: &Flat,
+    keepers: &[u32],
     event: &Event,
     words: &mut [Word],
     next: &mut [Word],
     memories: &mut [Memory],
 )
     requires sound { Sound flat.now }
+    requires keepers { ListsKeepers flat.now keepers.now (length flat.now.cells) }
     requires table { map length words.old ≡ flat.now.widths }
     requires widths { map length next.old ≡ map length words.old }
     requires memories { MemoriesFit words.old memories.old }
@@ -220,7 +232,7 @@ pub(crate) fn advance(
     ensures next { map length next.new ≡ map length words.old }
     ensures memories { MemoriesFit words.new memories.new }
 {
-    take_all(flat, event, words, memories, next);
-    write_all(flat, event, words, memories);
-    put_all(flat, event, next, words);
+    take_all(flat, keepers, event, words, memories, next);
+    write_all(flat, keepers, event, words, memories);
+    put_all(flat, keepers, event, next, words);
 }

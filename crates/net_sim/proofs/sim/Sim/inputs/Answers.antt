@@ -19,6 +19,7 @@ returns-clause-table c =
     record {
       sound = table.sound;
       order = table.order;
+      keepers = table.keepers;
       widths = ap (map length) is ∙ widths ∙ table.widths;
       next = table.next ∙ sym widths ∙ sym (ap (map length) is);
       memories = subst (λ l. MemoriesFit l old.memories.items) (sym is) (fit_along old.words.items c.enter.new.words old.memories.items (sym widths) table.memories);

@@ -10,6 +10,7 @@ returns-clause-table c =
     record {
       sound = sound;
       order = c.requires.order;
+      keepers = c.in_ok-keepers.ensures;
       widths = c.in_ok-words.ensures.widths;
       next =
           ap (map length) (c.in_ok-next.ensures ∙ ap (map (λ n. bits_of n 0)) c.as_slice.ensures) ∙ zero_widths flat.widths

@@ -18,6 +18,7 @@ returns-clause-table c =
     record {
       sound = table.sound;
       order = table.order;
+      keepers = table.keepers;
       widths = ap (map length) is ∙ c.advance.ensures.widths ∙ ap (map length) c.deref_mut.ensures.value ∙ table.widths;
       next = ap (map length) next ∙ c.advance.ensures.next ∙ sym c.advance.ensures.widths ∙ sym (ap (map length) is);
       memories =
