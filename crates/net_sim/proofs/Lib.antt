@@ -1,0 +1,17 @@
+pub mod Keeping
+pub mod Made
+pub mod Wiring
+pub mod BitLists
+pub mod PartBits
+pub mod Shifting
+pub mod Cells
+pub mod Values
+pub mod Renewing
+pub mod Incoming
+pub mod Writing
+pub mod Moving
+pub mod Histories
+pub mod Stepped
+pub mod Kept
+pub mod First
+pub mod Listing

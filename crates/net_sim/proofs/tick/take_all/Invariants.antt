@@ -1,0 +1,10 @@
+-- the cells so far
+use Rattle.std.proofs.Common.{◌≡◌, List, [], Bool, length, map}
+use Rattle.net_sim.specs.Ticking.{behind, Moves, WrittenBefore, moved_bits}
+use Rattle.net_sim.proofs.tick.take_all.Given as goal
+
+abbrev pub invariant-loop-place : goal.invariant-loop-place
+invariant-loop-place l = record {
+  written : WrittenBefore (List Bool) [] (Moves l.event) (λ w cell old. moved_bits l.event l.words l.memories cell) l.flat l.fn.next l.next (behind l.keepers l.place-index);
+  widths : map length l.next ≡ map length l.words;
+}

@@ -1,0 +1,41 @@
+-- A table of a flat net, in which the net is stepped event by event.
+use Rattle.std.specs.Prelude.{◌≡◌, ℕ, Bool, List, length, map}
+use Rattle.chw_clock.specs.declared.event.Event.{Event}
+use Rattle.net_sim.specs.Stepping.{Settled, ShowsValues, StandsFor, word_in}
+use Rattle.net_sim.specs.Tables.{value_in}
+use Rattle.net_sim.specs.Ticking.{HaveSizes, ListsKeepers, MemoriesFit}
+use Rattle.net_sim.specs.declared.sim.Sim.{Sim}
+use Rattle.netlist.specs.Orders.{IsOrder}
+use Rattle.netlist.specs.Sound.{Sound}
+
+-- the bits of the wire of this number
+abbrev pub value_of : Sim → ℕ → List Bool
+value_of sim w = value_in sim.words.items w
+
+-- the word at an address of the RAM that drives the wire of this number
+abbrev pub word_of : Sim → (w address : ℕ) → List Bool
+word_of sim w address = word_in sim.memories.items w address
+
+-- the table stands for these past events
+abbrev pub SimStandsFor : Sim → List Event → Type 0
+SimStandsFor sim past = StandsFor sim.flat.now sim.words.items sim.memories.items past
+
+-- the table is settled for the event
+abbrev pub IsSettledFor : Sim → Event → Type 0
+IsSettledFor sim event = Settled sim.flat.now sim.words.items event
+
+-- each wire has the bits of the table at this history
+abbrev pub SimShows : Sim → List Event → Type 0
+SimShows sim h = ShowsValues sim.flat.now sim.words.items h
+
+-- The net is sound, the order is one of its cells, and the table has words of the wires' widths
+-- and a memory for each RAM.
+pub record IsTable (sim : Sim) : Type 0 where
+  pub sound : Sound sim.flat.now
+  pub order : IsOrder sim.flat.now sim.order.now.cells
+  pub keepers : ListsKeepers sim.flat.now sim.keepers.items (length sim.flat.now.cells)
+  pub widths : map length sim.words.items ≡ sim.flat.now.widths
+  pub next : map length sim.next.items ≡ map length sim.words.items
+  pub memories : MemoriesFit sim.words.items sim.memories.items
+  pub sizes : HaveSizes sim.flat.now sim.memories.items
+  pub room : length sim.room.items ≡ 8192

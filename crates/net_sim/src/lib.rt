@@ -1,0 +1,20 @@
+//! The table that steps a flat net: the bits of its wires, event by event.
+#![tactic(auto)]
+
+mod inputs;
+pub mod memory;
+mod narrow;
+mod narrow_step;
+mod opening;
+mod reading;
+mod room;
+mod settle;
+pub mod sim;
+mod tick;
+mod wide;
+mod wide_step;
+pub mod word;
+mod words;
+
+pub use sim::Sim;
+pub use word::Word;
