@@ -25,6 +25,7 @@ use verilog_print::print;
 const STOREYS: u32 = 1_000;
 
 /// How far to go with a net.
+#[derive(Clone, Copy)]
 enum Stage {
     Made,
     Judged,
@@ -34,6 +35,7 @@ enum Stage {
 }
 
 /// Why nothing was made.
+#[derive(Clone, Copy)]
 enum Trouble {
     Words,
     Memory,
