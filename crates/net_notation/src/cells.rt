@@ -50,7 +50,7 @@ fn bits(alloc: Global, groups: &[Vec<u32>], group: usize) -> Result<Bits, Or<Unr
     let Some(begins) = width.checked_sub(32 * behind) else {
         return Err(Or::Fault(Unread));
     };
-    let mut bits = numbered(alloc, begins.min(1_000), first)?;
+    let mut bits = numbered(alloc, begins, first)?;
     for number in numbers.iter().skip(2) {
         bits = longer(alloc, &bits, *number)?;
     }

@@ -1,5 +1,7 @@
 //! Large nets: a chain of wires in one module, and modules in one another.
 
+ghost use Rattle.std.specs.Prelude.{◌<◌};
+
 use chw_base::{ModId, NoMemory, Seq, WireId};
 use netlist::samples::one_input;
 use netlist::{Cell, Module, Net};
