@@ -95,6 +95,14 @@ impl Bits {
         }
     }
 
+    /// Puts these bits in place of its own, which are as many. It takes no memory.
+    pub fn put_list(&mut self, bits: &[bool])
+        requires { length bits.now ≡ length self.old }
+        ensures { self.new ≡ bits.now }
+    {
+        self.bits.copy_from_slice(bits);
+    }
+
     /// The number that these bits mean, where there are at most 128.
     pub fn number(&self) -> Option<u128>
         ensures { SomeIff result (length self.now ≤ 128) (number_of self.now) }

@@ -52,7 +52,7 @@ fn write_drivers(net: &Net, next: u32, place: usize, cell: &Cell, table: &mut [D
 {
     if let Cell::Use(k, _, drives) = cell {
         write_outputs(table, next, drives.as_slice(), outputs_of(net, *k));
-    } else if let Some(w) = cell.driven(0) {
+    } else if let Some(w) = cell.driven().first().copied() {
         table[w.number as usize] = Driver::Place(place);
     }
 }

@@ -20,18 +20,7 @@ fn target_of(cell: &Cell) -> WireId
     requires { KeepsNothing cell.now }
     ensures { target cell.now ≡ Some result.number }
 {
-    match cell {
-        Cell::Const(w, _)
-        | Cell::Copy(w, _)
-        | Cell::Join(w, _)
-        | Cell::Cut(w, _, _, _)
-        | Cell::Un(w, _, _)
-        | Cell::Bin(w, _, _, _)
-        | Cell::Mux(w, _, _, _)
-        | Cell::Reg(w, _, _, _)
-        | Cell::Ram(w, _, _, _) => *w,
-        Cell::Use(_, _, _) => WireId { number: 0 },
-    }
+    cell.driven()[0]
 }
 
 /// Settles the wire of a cell that keeps nothing.

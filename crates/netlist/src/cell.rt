@@ -5,6 +5,7 @@ ghost use Rattle.netlist.specs.Wires.{driven};
 
 use crate::net::Cell;
 use chw_base::WireId;
+use std::slice;
 
 // The wire at this place of a list.
 fn wire_at(wires: &[WireId], k: usize) -> Option<WireId>
@@ -14,31 +15,21 @@ fn wire_at(wires: &[WireId], k: usize) -> Option<WireId>
 }
 
 impl Cell {
-    /// How many wires the cell drives.
-    pub fn driven_len(&self) -> usize
-        ensures { result ≡ length (driven self.now) }
+    /// The wires that the cell drives: one, and for a use one for each output of the used module.
+    pub fn driven(&self) -> &[WireId]
+        ensures { result.now ≡ driven self.now }
     {
         match self {
-            Cell::Use(_, _, drives) => drives.len(),
-            _ => 1,
-        }
-    }
-
-    /// One of the wires that the cell drives.
-    pub fn driven(&self, k: usize) -> Option<WireId>
-        ensures { result ≡ slice_get (driven self.now) k }
-    {
-        match self {
-            Cell::Const(w, _)
-            | Cell::Copy(w, _)
-            | Cell::Join(w, _)
-            | Cell::Cut(w, _, _, _)
-            | Cell::Un(w, _, _)
-            | Cell::Bin(w, _, _, _)
-            | Cell::Mux(w, _, _, _)
-            | Cell::Reg(w, _, _, _)
-            | Cell::Ram(w, _, _, _) => wire_at(&[*w], k),
-            Cell::Use(_, _, drives) => wire_at(drives.as_slice(), k),
+            Cell::Const(w, ..)
+            | Cell::Copy(w, ..)
+            | Cell::Join(w, ..)
+            | Cell::Cut(w, ..)
+            | Cell::Un(w, ..)
+            | Cell::Bin(w, ..)
+            | Cell::Mux(w, ..)
+            | Cell::Reg(w, ..)
+            | Cell::Ram(w, ..) => slice::from_ref(w),
+            Cell::Use(_, _, drives) => drives.as_slice(),
         }
     }
 

@@ -1,4 +1,4 @@
-//! Nets: modules of wires and cells, the text that they have in Verilog, and the bits of their wires at each event.
+//! Nets: modules of wires and cells, the order of a flat net's cells, and the bits of its wires at each event.
 #![tactic(auto)]
 
 pub mod cell;

@@ -87,7 +87,7 @@ fn put_parts(out: &mut Vec<u8>, flat: &Flat) -> Result<(), NoMemory> {
 // Writes the kind of a cell, the wire that it drives, and those that it reads.
 fn put_cell(out: &mut Vec<u8>, cell: &Cell) -> Result<(), NoMemory> {
     put(out, kind_of(cell))?;
-    if let Some(wire) = cell.driven(0) {
+    if let Some(wire) = cell.driven().first() {
         put_number(out, " ", wire.number)?;
     }
     match cell {

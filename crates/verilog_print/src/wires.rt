@@ -13,25 +13,6 @@ use chw_base::{NoMemory, WireId};
 use chw_clock::Bits;
 use netlist::{Cell, Module};
 use std::alloc::Global;
-use std::slice;
-
-/// The wires that a cell drives.
-fn driven(cell: &Cell) -> &[WireId]
-    ensures { result.now ≡ driven cell.now }
-{
-    match cell {
-        Cell::Const(wire, ..)
-        | Cell::Copy(wire, ..)
-        | Cell::Join(wire, ..)
-        | Cell::Cut(wire, ..)
-        | Cell::Un(wire, ..)
-        | Cell::Bin(wire, ..)
-        | Cell::Mux(wire, ..)
-        | Cell::Reg(wire, ..)
-        | Cell::Ram(wire, ..) => slice::from_ref(wire),
-        Cell::Use(_, _, drives) => drives.as_slice(),
-    }
-}
 
 /// Notes the place of a cell at each of the wires that it drives.
 fn note(table: &mut Vec<Option<usize>>, wires: &[WireId], place: usize)
@@ -55,7 +36,7 @@ fn drivers(alloc: Global, cells: &[Cell], count: usize) -> Result<Vec<Option<usi
 {
     let mut table = vec![in alloc; None; count]?;
     for place in (0..cells.len()).rev() {
-        note(&mut table, driven(&cells[place]), place);
+        note(&mut table, cells[place].driven(), place);
     }
     Ok(table)
 }

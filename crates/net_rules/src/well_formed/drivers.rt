@@ -11,31 +11,13 @@ use chw_base::{NoMemory, WireId};
 use netlist::{Cell, Module, Net};
 use std::alloc::Global;
 
-// Adds the wires that a cell drives.
-fn add_driven(cell: &Cell, into: &mut Vec<WireId>) -> Result<(), NoMemory>
-    ensures { OnOk result (into.new.items ≡ into.old.items ++ driven cell.now) }
-{
-    match cell {
-        Cell::Const(w, _)
-        | Cell::Copy(w, _)
-        | Cell::Join(w, _)
-        | Cell::Cut(w, _, _, _)
-        | Cell::Un(w, _, _)
-        | Cell::Bin(w, _, _, _)
-        | Cell::Mux(w, _, _, _)
-        | Cell::Reg(w, _, _, _)
-        | Cell::Ram(w, _, _, _) => Ok(into.push(*w)?),
-        Cell::Use(_, _, drives) => Ok(into.extend_from_slice(drives.as_slice())?),
-    }
-}
-
 // The wires that cells drive, in order.
 fn driven_by(alloc: Global, cells: &[Cell]) -> Result<Vec<WireId>, NoMemory>
     ensures { IfOk result (λ v. v.items ≡ flat_map driven cells.now) }
 {
     let mut wires = Vec::new(alloc);
     for cell in cells {
-        add_driven(cell, &mut wires)?;
+        wires.extend_from_slice(cell.driven())?;
     }
     Ok(wires)
 }

@@ -24,18 +24,7 @@ fn are_wires(widths: &[u32], wires: &[WireId]) -> bool
 fn drives_wires(widths: &[u32], cell: &Cell) -> bool
     ensures { Decides result (AllByRecursion (IsWire widths.now) (driven cell.now)) }
 {
-    match cell {
-        Cell::Const(w, _)
-        | Cell::Copy(w, _)
-        | Cell::Join(w, _)
-        | Cell::Cut(w, _, _, _)
-        | Cell::Un(w, _, _)
-        | Cell::Bin(w, _, _, _)
-        | Cell::Mux(w, _, _, _)
-        | Cell::Reg(w, _, _, _)
-        | Cell::Ram(w, _, _, _) => is_wire(widths, *w),
-        Cell::Use(_, _, drives) => are_wires(widths, drives.as_slice()),
-    }
+    are_wires(widths, cell.driven())
 }
 
 // Whether the wires that a cell reads exist.
