@@ -7,9 +7,10 @@ use Rattle.chw_base.specs.declared.index.DomId.{DomId}
 use Rattle.chw_clock.specs.declared.event.Port.{Port as NetPort}
 use Rattle.chw_clock.specs.declared.event.Ports.{Ports}
 use Rattle.name_tables.specs.Names.{place_of}
-use Rattle.verilog_rules.specs.Texts.{before_line, begins_with, behind_line, text, width}
+use Rattle.verilog_rules.specs.Texts.{before_line, begins_with, behind_line, width}
 use Rattle.verilog_rules.specs.declared.resolved.Kind.TheVariants as kind
 use Rattle.verilog_rules.specs.declared.resolved.Wire.{Wire}
+use Rattle.verilog_tree.specs.Sources.{bytes_of}
 use Rattle.verilog_tree.specs.declared.item.Item.{Item}
 use Rattle.verilog_tree.specs.declared.item.Item.TheVariants as item
 use Rattle.verilog_tree.specs.declared.module.Module.{Module}
@@ -53,7 +54,7 @@ outputs_of (_ ∷ ports) = outputs_of ports
 
 -- the name of a line
 abbrev pub line_name : Line → List ℕ
-line_name l = text l.name
+line_name l = bytes_of l.name
 
 -- the name of a wire
 abbrev pub wire_name : Wire → List ℕ
@@ -66,7 +67,8 @@ input_wire l = record { line = l; kind = kind.Input }
 -- the wires that an item declares: one, or none
 abbrev pub wires_by : Item → List Wire
 wires_by (item.Wire l) = record { line = l; kind = kind.Plain } ∷ []
-wires_by (item.Register l literal memory) = record { line = l; kind = kind.Register literal memory } ∷ []
+wires_by (item.Register l literal memory) =
+    record { line = l; kind = kind.Register literal memory } ∷ []
 wires_by _ = []
 
 -- the inputs of a module, which are its first wires
@@ -101,14 +103,14 @@ signal_domain name = drop 4 name
 abbrev pub domains_of : List Word → List (List ℕ)
 domains_of [] = []
 domains_of (s ∷ signals) =
-    (if is_clock (text s) then signal_domain (text s) ∷ [] else []) ++ domains_of signals
+    (if is_clock (bytes_of s) then signal_domain (bytes_of s) ∷ [] else []) ++ domains_of signals
 
 -- the domains of the resets among signals, so many clocks standing before: each reset is that of
 -- the clock before it
 abbrev pub resets_of : ℕ → List Word → List DomId
 resets_of clocks [] = []
 resets_of clocks (s ∷ signals) =
-    if is_clock (text s)
+    if is_clock (bytes_of s)
     then resets_of (clocks + 1) signals
     else record { number = clocks - 1 } ∷ resets_of clocks signals
 

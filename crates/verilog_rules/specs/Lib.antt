@@ -1,6 +1,7 @@
 pub mod Checks
 pub mod Declarations
 pub mod DriverRules
+pub mod Faults
 pub mod Limits
 pub mod NameRules
 pub mod NetOf

@@ -14,11 +14,12 @@ use Rattle.verilog_rules.specs.Declarations.{declared_words, domain_part, input_
 use Rattle.verilog_rules.specs.Declarations.{is_clock, line_name, name_part, outputs_of, port_word}
 use Rattle.verilog_rules.specs.Declarations.{ports_in, ports_of, signal_domain, signals_of}
 use Rattle.verilog_rules.specs.Declarations.{wire_name, wires_by}
-use Rattle.verilog_rules.specs.Texts.{begins_with, is_lower_word, is_upper, text}
+use Rattle.verilog_rules.specs.Texts.{begins_with, is_lower_word, is_upper}
 use Rattle.verilog_rules.specs.declared.resolved.Kind.{Kind}
 use Rattle.verilog_rules.specs.declared.resolved.Kind.TheVariants as kind
 use Rattle.verilog_rules.specs.declared.resolved.Wire.{Wire}
 use Rattle.verilog_text.specs.Names.{clock_name, domain_name, reset_name, top_name}
+use Rattle.verilog_tree.specs.Sources.{bytes_of}
 use Rattle.verilog_tree.specs.declared.item.Access.{Access}
 use Rattle.verilog_tree.specs.declared.item.Connection.{Connection}
 use Rattle.verilog_tree.specs.declared.item.Edge.{Edge}
@@ -67,13 +68,13 @@ is_signal_behind (Some before) name =
 abbrev pub signal_checks : Option (List ℕ) → List Word → List Check
 signal_checks before [] = []
 signal_checks before (s ∷ signals) =
-    check s.at (is_signal_behind before (text s)) ∷ signal_checks (Some (text s)) signals
+    check s.at (is_signal_behind before (bytes_of s)) ∷ signal_checks (Some (bytes_of s)) signals
 
 -- each name is none of those before it
 abbrev pub once_checks : List (List ℕ) → List Word → List Check
 once_checks before [] = []
 once_checks before (w ∷ words) =
-    check w.at (not (is_among before (text w))) ∷ once_checks (before ++ text w ∷ []) words
+    check w.at (not (is_among before (bytes_of w))) ∷ once_checks (before ++ bytes_of w ∷ []) words
 
 -- the name of a port of the last module: `i_D_name` or `o_D_name` with one of these domains
 abbrev pub is_port_name : List (List ℕ) → (front : List ℕ) → List ℕ → Bool
@@ -108,7 +109,7 @@ is_plain_register _ = false
 
 -- a register that shows the memory of this name
 abbrev pub shows : List ℕ → Option Kind → Bool
-shows memory (Some (kind.Register literal (Some m))) = bytes_eq memory (text m.name)
+shows memory (Some (kind.Register literal (Some m))) = bytes_eq memory (bytes_of m.name)
 shows memory _ = false
 
 -- the memory of this name is declared with one of the wires
@@ -117,11 +118,11 @@ is_memory wires memory = list_any (λ (w : Wire). shows memory (Some w.kind)) wi
 
 -- the name is that of a wire
 abbrev pub operand_check : List Wire → Word → Check
-operand_check wires a = check a.at (is_some (kind_of wires (text a)))
+operand_check wires a = check a.at (is_some (kind_of wires (bytes_of a)))
 
 -- the words are one name
 abbrev pub same_check : (first again : Word) → Check
-same_check first again = check again.at (bytes_eq (text again) (text first))
+same_check first again = check again.at (bytes_eq (bytes_of again) (bytes_of first))
 
 -- the names on the right side of an assignment
 abbrev pub operands_of : Right → List Word
@@ -145,12 +146,12 @@ is_target outputs wires name right =
 
 abbrev pub assign_checks : (outputs : List (List ℕ)) → List Wire → Word → Right → List Check
 assign_checks outputs wires name right =
-    check name.at (is_target outputs wires (text name) right)
+    check name.at (is_target outputs wires (bytes_of name) right)
     ∷ map (operand_check wires) (operands_of right)
 
 -- the place of a clock's domain among those of the ports
 abbrev pub domain_of : Ports → Word → Option ℕ
-domain_of ports clock = place_of (map clock_name ports.domains) (text clock)
+domain_of ports clock = place_of (map clock_name ports.domains) (bytes_of clock)
 
 abbrev pub clock_check : Ports → Word → Check
 clock_check ports clock = check clock.at (is_some (domain_of ports clock))
@@ -161,7 +162,7 @@ reset_check ports domain None a = check a.at (not (has_reset ports domain))
 reset_check ports domain (Some reset) a =
     check reset.name.at
     (has_reset ports domain
-    && bytes_eq (text reset.name) (reset_name (domain_name ports.domains domain)))
+    && bytes_eq (bytes_of reset.name) (reset_name (domain_name ports.domains domain)))
 
 -- of a clock that is none there is nothing more to say
 abbrev pub reset_checks : Ports → Option ℕ → Option Reset → (a : Word) → List Check
@@ -172,7 +173,7 @@ reset_checks ports (Some domain) reset a =
 abbrev pub edge_checks : Ports → List Wire → Edge → List Check
 edge_checks ports wires edge =
     clock_check ports edge.clock
-    ∷ check edge.register.at (is_plain_register (kind_of wires (text edge.register)))
+    ∷ check edge.register.at (is_plain_register (kind_of wires (bytes_of edge.register)))
     ∷ (reset_checks ports (domain_of ports edge.clock) edge.reset edge.a
     ++ operand_check wires edge.a ∷ [])
 
@@ -189,17 +190,17 @@ memory_checks memory words = map (λ (word : FirstWord). same_check memory word.
 abbrev pub ram_checks : Ports → List Wire → Ram → List Check
 ram_checks ports wires ram =
     let memory : Word = ram.first.memory in
-    check memory.at (is_memory wires (text memory))
+    check memory.at (is_memory wires (bytes_of memory))
     ∷ (memory_checks memory ram.others
     ++ (clock_check ports ram.clock ∷ operand_check wires ram.enable
     ∷ (access_checks wires memory ram.write
     ++ (operand_check wires ram.value
-    ∷ check ram.register.at (shows (text memory) (kind_of wires (text ram.register)))
+    ∷ check ram.register.at (shows (bytes_of memory) (kind_of wires (bytes_of ram.register)))
     ∷ access_checks wires memory ram.read))))
 
 -- a name may be joined to a port: a clock or a reset is joined to its own name
 abbrev pub joins : List Wire → Port → List ℕ → Bool
-joins wires (Signal s) name = bytes_eq name (text s)
+joins wires (Signal s) name = bytes_eq name (bytes_of s)
 joins wires (Input l) name = is_some (kind_of wires name)
 joins wires (Output l) name = may_be_driven (kind_of wires name)
 
@@ -209,15 +210,15 @@ connection_checks wires close [] [] = []
 connection_checks wires close (p ∷ ports) [] = check close false ∷ []
 connection_checks wires close [] (c ∷ connections) = check c.port.at false ∷ []
 connection_checks wires close (p ∷ ports) (c ∷ connections) =
-    check c.port.at (bytes_eq (text c.port) (text (port_word p)))
-    ∷ check c.wire.at (joins wires p (text c.wire))
+    check c.port.at (bytes_eq (bytes_of c.port) (bytes_of (port_word p)))
+    ∷ check c.wire.at (joins wires p (bytes_of c.wire))
     ∷ connection_checks wires close ports connections
 
 -- the module of a name
 abbrev pub module_named : List Module → List ℕ → Option Module
 module_named [] name = None
 module_named (m ∷ modules) name =
-    if bytes_eq name (text m.name) then Some m else module_named modules name
+    if bytes_eq name (bytes_of m.name) then Some m else module_named modules name
 
 -- of a module that is none there is nothing more to say
 abbrev pub used_checks : List Wire → Use → Option Module → List Check
@@ -227,7 +228,7 @@ used_checks wires u (Some used) =
 
 -- the used module is an earlier one
 abbrev pub use_checks : List Module → List Wire → Use → List Check
-use_checks earlier wires u = used_checks wires u (module_named earlier (text u.used))
+use_checks earlier wires u = used_checks wires u (module_named earlier (bytes_of u.used))
 
 -- an item, behind these wires
 abbrev pub item_checks : Place → (outputs : List (List ℕ)) → List Wire → Item → List Check
@@ -247,14 +248,18 @@ items_checks place outputs wires (item ∷ items) =
 
 -- MODULES
 
+-- the names of modules
+abbrev pub module_names : List Module → List (List ℕ)
+module_names modules = map (λ (m : Module). bytes_of m.name) modules
+
 -- the names of words
 abbrev pub texts : List Word → List (List ℕ)
-texts words = map text words
+texts words = map bytes_of words
 
 -- a module's name is none of those before it; its ports, its names and its items
 abbrev pub module_checks : Place → Module → List Check
 module_checks place m =
-    check m.name.at (not (is_among (map (λ (n : Module). text n.name) place.earlier) (text m.name)))
+    check m.name.at (not (is_among (module_names place.earlier) (bytes_of m.name)))
     ∷ (order_checks 0 (ports_in m)
     ++ (signal_checks None (signals_of (ports_in m))
     ++ (once_checks [] (declared_words m)
@@ -276,7 +281,7 @@ earlier_checks ports last earlier (m ∷ modules) =
 -- the last module is the top, and its ports have domains of its clocks
 abbrev pub last_checks : Ports → (earlier : List Module) → Module → List Check
 last_checks ports earlier last =
-    check last.name.at (bytes_eq (text last.name) top_name)
+    check last.name.at (bytes_eq (bytes_of last.name) top_name)
     ∷ (flat_map (port_form ports.domains) (ports_in last)
     ++ module_checks (record { ports = ports; earlier = earlier }) last)
 

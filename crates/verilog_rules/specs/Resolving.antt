@@ -9,7 +9,6 @@ use Rattle.verilog_rules.specs.Declarations.{inputs_of, input_wires, line_name, 
 use Rattle.verilog_rules.specs.Declarations.{outputs_of, ports_in, ports_of, wire_name, wires_by}
 use Rattle.verilog_rules.specs.Declarations.{wires_of}
 use Rattle.verilog_rules.specs.NameRules.{Place, domain_of, module_named}
-use Rattle.verilog_rules.specs.Texts.{text}
 use Rattle.verilog_rules.specs.declared.resolved.Address.{Address}
 use Rattle.verilog_rules.specs.declared.resolved.Driver.{Driver}
 use Rattle.verilog_rules.specs.declared.resolved.Driver.TheVariants as driver
@@ -20,6 +19,7 @@ use Rattle.verilog_rules.specs.declared.resolved.ResolvedModule.{ResolvedModule}
 use Rattle.verilog_rules.specs.declared.resolved.Value.{Value}
 use Rattle.verilog_rules.specs.declared.resolved.Value.TheVariants as value
 use Rattle.verilog_rules.specs.declared.resolved.Wire.{Wire}
+use Rattle.verilog_tree.specs.Sources.{bytes_of}
 use Rattle.verilog_tree.specs.declared.item.Access.{Access}
 use Rattle.verilog_tree.specs.declared.item.Connection.{Connection}
 use Rattle.verilog_tree.specs.declared.item.Edge.{Edge}
@@ -40,7 +40,7 @@ use Rattle.verilog_tree.specs.declared.word.Word.{Word}
 -- the wire of this name
 abbrev pub operand : List Wire → Word → Operand
 operand wires name = record {
-  wire = record { number = unwrap_or (place_of (map wire_name wires) (text name)) 0 };
+  wire = record { number = unwrap_or (place_of (map wire_name wires) (bytes_of name)) 0 };
   at = name.at;
 }
 
@@ -108,11 +108,11 @@ ports_named (Some m) = ports_in m
 
 abbrev pub use_driver : List Module → List Wire → Use → Driver
 use_driver earlier wires u =
-    let ports : List Port = ports_named (module_named earlier (text u.used)) in
+    let ports : List Port = ports_named (module_named earlier (bytes_of u.used)) in
     let connections : List Connection = u.first ∷ u.others in
     driver.Use
     (record {
-      number = unwrap_or (place_of (map (λ (m : Module). text m.name) earlier) (text u.used)) 0;
+      number = unwrap_or (place_of (map (λ (m : Module). bytes_of m.name) earlier) (bytes_of u.used)) 0;
     })
     (reads_of wires ports connections) (drives_of wires ports connections)
 
@@ -121,7 +121,7 @@ abbrev pub driver_of : Place → (outputs : List (List ℕ)) → List Wire → I
 driver_of place outputs wires (item.Wire l) = []
 driver_of place outputs wires (item.Register l literal memory) = []
 driver_of place outputs wires (item.Assign name right) =
-    assigned_at (place_of outputs (text name)) wires name right ∷ []
+    assigned_at (place_of outputs (bytes_of name)) wires name right ∷ []
 driver_of place outputs wires (item.Edge edge) = edge_driver place.ports wires edge ∷ []
 driver_of place outputs wires (item.Ram ram) = driver.Ram (ram_of place.ports wires ram) ∷ []
 driver_of place outputs wires (item.Use u) = use_driver place.earlier wires u ∷ []

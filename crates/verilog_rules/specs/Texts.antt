@@ -1,20 +1,17 @@
--- Words of a tree: its bytes, the numbers and literals that they write, and the forms of names.
+-- Words of a tree: the numbers and literals that they write, and the forms of names.
 use Rattle.std.specs.Prelude.{ℕ, ◌+◌, ◌^◌, Bool, false, nat_eq, nat_lt, ◌&&◌, ◌==◌}
 use Rattle.std.specs.Prelude.{List, [], ◌∷◌, drop}
 use Rattle.std.specs.List.{after_first, before_first, list_all, starts_with}
 use Rattle.std.specs.Str.Parse.{digits_value}
 use Rattle.chw_base.specs.Names.{is_capital, is_letter_or_digit, is_name_byte, is_small_letter}
 use Rattle.verilog_text.specs.Declared.{value}
+use Rattle.verilog_tree.specs.Sources.{bytes_of}
 use Rattle.verilog_tree.specs.declared.word.Range.{Range}
 use Rattle.verilog_tree.specs.declared.word.Word.{Word}
 
--- the bytes of a word
-abbrev pub text : Word → List ℕ
-text w = w.bytes.now
-
 -- the number that a word writes
 abbrev pub number : Word → ℕ
-number w = value (text w)
+number w = value (bytes_of w)
 
 -- how many bits the range [7:0] has
 abbrev pub width : Range → ℕ
@@ -22,11 +19,11 @@ width range = number range.from + 1
 
 -- the size of a literal: the number before its `'`
 abbrev pub size : Word → ℕ
-size literal = value (before_first (λ b. b == 39) (text literal))
+size literal = value (before_first (λ b. b == 39) (bytes_of literal))
 
 -- the number of a literal: its hexadecimal digits, behind `'h`
 abbrev pub amount : Word → ℕ
-amount literal = digits_value 16 (drop 1 (after_first (λ b. b == 39) (text literal)))
+amount literal = digits_value 16 (drop 1 (after_first (λ b. b == 39) (bytes_of literal)))
 
 -- the literal has this size, and its number fits
 abbrev pub is_word_of : ℕ → Word → Bool
