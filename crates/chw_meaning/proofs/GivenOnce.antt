@@ -13,8 +13,8 @@ use Rattle.chw_layout.specs.Datum.{Datum, word, built, elements, Datums, datum_a
 use Rattle.chw_terms.specs.Constructors.{Constructor, con_at}
 use Rattle.chw_layout.specs.Measured.{HasWidth}
 use Rattle.chw_meaning.specs.Zeros.{IsWide}
-use Rattle.chw_meaning.specs.Values.{History, bits, con_of, vec_of, Thunk, applied, Thunks}
-use Rattle.chw_meaning.specs.Gives.{Yields, y_empty, y_word, y_elements, y_built, YieldEach, yield_none, yield_each, YieldFields, yield_no_field, yield_field, Input, stream_in, PortGiven, given_stream, given_product, FieldsGiven, given_no_field, given_field, Given, given_value, given_port, OnInputs, on_all, on_next, LeafOf, PortLeaves, leaf_signal, leaves_product, FieldLeaves, no_field_leaves, field_leaves, HasLeaves, leaf_value, leaves_port, Gives}
+use Rattle.chw_meaning.specs.Values.{History, Value, bits, con_of, vec_of, Thunk, applied, Thunks}
+use Rattle.chw_meaning.specs.Gives.{Yields, y_empty, y_value, ValueYields, v_word, v_elements, v_built, YieldEach, yield_none, yield_each, YieldFields, yield_no_field, yield_field, Input, stream_in, PortGiven, given_stream, given_product, FieldsGiven, given_no_field, given_field, Given, given_value, given_port, OnInputs, on_all, on_next, LeafOf, PortLeaves, leaf_signal, leaves_product, FieldLeaves, no_field_leaves, field_leaves, HasLeaves, leaf_value, leaves_port, Gives}
 use Rattle.chw_meaning.proofs.Once.{same_some, zero_once, forces_once}
 use Rattle.chw_meaning.proofs.Widths.{width_once}
 
@@ -45,19 +45,17 @@ elements_same e = cc
 mutual
   pub yields_once : {p : Program} {m n : ℕ} {t : TypeTree} {th : Thunk} {h : History} {a b : Datum} → Yields p m t th h a → Yields p n t th h b → a ≡ b
   yields_once (y_empty w z) (y_empty v y) = zero_once z y
-  yields_once (y_empty w z) (y_word v f) = wide_and_empty w v
-  yields_once (y_empty w z) (y_elements v f all) = wide_and_empty w v
-  yields_once (y_empty w z) (y_built v f i j all) = wide_and_empty w v
-  yields_once (y_word w f) (y_empty v z) = wide_and_empty v w
-  yields_once (y_word w f) (y_word v g) = bits_word (forces_once f g).1
-  yields_once (y_elements w f all) (y_empty v z) = wide_and_empty v w
-  yields_once (y_elements w f all) (y_elements v g every) = ap elements (each_once all (each_along (elements_same (sym (forces_once f g).1)) every))
-  yields_once (y_built w f i j all) (y_empty v z) = wide_and_empty v w
-  yields_once {p} (y_built w f i j all) (y_built v g k l every) =
-      let same = (forces_once f g).1 in
-      let tag = tags_same same in
+  yields_once (y_empty w z) (y_value v f y) = wide_and_empty w v
+  yields_once (y_value w f y) (y_empty v z) = wide_and_empty v w
+  yields_once (y_value w f y) (y_value v g z) = value_yields_once y z (forces_once f g).1
+
+  value_yields_once : {p : Program} {m n : ℕ} {t : TypeTree} {v w : Value} {h : History} {a b : Datum} → ValueYields p m t v h a → ValueYields p n t w h b → v ≡ w → a ≡ b
+  value_yields_once v_word v_word e = bits_word e
+  value_yields_once (v_elements all) (v_elements every) e = ap elements (each_once all (each_along (elements_same (sym e)) every))
+  value_yields_once {p} (v_built i j all) (v_built k l every) e =
+      let tag = tags_same e in
       let its = same_some k (ap (λ c. con_at p.datas c) (sym tag) ∙ i) in
-      let parts = fields_once all (fields_along its (thunks_same (sym same)) every) in
+      let parts = fields_once all (fields_along its (thunks_same (sym e)) every) in
       λ i. built (tag i) (parts i)
 
   each_once : {p : Program} {m n : ℕ} {t : TypeTree} {ths : Thunks} {h : History} {a b : Datums} → YieldEach p m t ths h a → YieldEach p n t ths h b → a ≡ b

@@ -11,6 +11,7 @@ use Rattle.chw_clock.specs.Histories.{ticks, has_reset, HaveWidths, FitsEvent, F
 use Rattle.chw_types.specs.declared.declarations.ConDecl.{ConDecl}
 use Rattle.chw_types.specs.declared.declarations.Data.{Data}
 use Rattle.chw_types.specs.declared.ports.Leaf.{Leaf}
+use Rattle.chw_types.specs.declared.kind.Scalar.{Scalar}
 use Rattle.chw_types.specs.TypeTree.{TypeTree, ty_var, nat_lit, nat_sum, nat_product, domain, scalar, vector, data_of, fun, signal, for_all, TypeTrees, no_types}
 use Rattle.chw_types.specs.TypeMoves.{Substitution, sub}
 use Rattle.chw_types.specs.Arguments.{list_of, arguments}
@@ -23,24 +24,29 @@ use Rattle.chw_layout.specs.Encodes.{first_constructor, IsValueOf, Encodes}
 use Rattle.chw_layout.specs.EncodingPromises.{EncodedIsValue}
 use Rattle.chw_layout.specs.Measured.{HasWidth}
 use Rattle.chw_layout.specs.Refusals.{MeasuredIsRepresentable}
-use Rattle.chw_meaning.specs.Zeros.{IsWide}
 use Rattle.chw_meaning.specs.Values.{History, Value, bits, con_of, vec_of, closure, ty_closure, partial, Thunk, closed, applied, stream, known, Thunks, none, thunk_and, thunk_at}
-use Rattle.chw_meaning.specs.Eval.{dom, Forces}
-use Rattle.chw_meaning.specs.Gives.{Yields, y_empty, y_word, y_elements, y_built, YieldEach, yield_none, yield_each, YieldFields, yield_no_field, yield_field, Input, value_in, stream_in, at_types, PortGiven, given_stream, given_product, FieldsGiven, given_no_field, given_field, Given, given_value, given_port, OnInputs, on_all, on_next, LeafOf, leaf_of, PortLeaves, leaf_signal, leaves_product, FieldLeaves, no_field_leaves, field_leaves, HasLeaves, leaf_value, leaves_port, Gives}
+use Rattle.chw_meaning.specs.Eval.{dom}
+use Rattle.chw_meaning.specs.Gives.{Yields, y_empty, y_value, ValueYields, v_word, v_elements, v_built, YieldEach, yield_none, yield_each, YieldFields, yield_no_field, yield_field, Input, value_in, stream_in, at_types, PortGiven, given_stream, given_product, FieldsGiven, given_no_field, given_field, Given, given_value, given_port, OnInputs, on_all, on_next, LeafOf, leaf_of, PortLeaves, leaf_signal, leaves_product, FieldLeaves, no_field_leaves, field_leaves, HasLeaves, leaf_value, leaves_port, Gives}
 use Rattle.chw_meaning.specs.Means.{LeadsFrom, leads_to, leads_from, PortsOf, no_ports, port_and, no_port_and, IsPortAt, port_here, port_later, port_past, IsTop, HasPorts, Decoded, decoded_none, decoded_and, Streams, no_streams, stream_and, stream_of_one, Fit, Means}
 use Rattle.chw_meaning.specs.Run.{elements_in}
-use Rattle.chw_meaning.specs.Meant.{first_there, word_in, Made, made_in, of_data, yields_by, yields_at, yields_each_by, yields_fields_by, domain_in, fields_of_one, all_encoded_by, Supplied, supplied, port_given_by, product_given_by, fields_given_by, given_by, Arrow, arrow_in, on_inputs_by, port_leaves_by, product_leaves_by, field_leaves_by, leaves_by, gives_by, type_leaves_by, fields_types_by, all_leaves_by, Sides, sides, leads_by, TopFound, top_by, port_before, ports_of_by, top_ports_by, ports_by, all_decoded_by, stream_by, next_input, streams_by, bits_fit, event_fits, history_fits, fits_by, after_leaf, here_or, leaf_at_by, means_by}
-use Rattle.chw_meaning.proofs.Holding.{Holds, nothing, one, turned, then, at_it, seen_as, at_found, as_found, in_turns, If, if_none, if_some, if_so, if_changed, if_both, if_at, if_it, if_only}
-use Rattle.chw_meaning.proofs.Sound.{zero_sound, force_sound, elements_found, forced_as}
+use Rattle.chw_meaning.specs.Meant.{first_there, word_in, Made, made_in, of_data, yields_by, yields_at, value_yields_by, yields_each_by, yields_fields_by, domain_in, fields_of_one, all_encoded_by, Supplied, supplied, port_given_by, product_given_by, fields_given_by, given_by, Arrow, arrow_in, on_inputs_by, port_leaves_by, product_leaves_by, field_leaves_by, leaves_by, gives_by, type_leaves_by, fields_types_by, all_leaves_by, Sides, sides, leads_by, TopFound, top_by, port_before, ports_of_by, top_ports_by, ports_by, all_decoded_by, stream_by, next_input, streams_by, bits_fit, event_fits, history_fits, fits_by, after_leaf, here_or, leaf_at_by, means_by}
+use Rattle.chw_meaning.proofs.Holding.{Holds, nothing, one, turned, mapped, then, at_it, at_found, as_found, in_turns, If, if_none, if_some, if_so, if_changed, if_both, if_at, if_it, if_only}
+use Rattle.chw_meaning.proofs.Sound.{zero_sound, force_sound, elements_found}
 use Rattle.chw_meaning.proofs.LayoutsSound.{measured_sound, width_sound, encoded_sound, decoded_sound, both_true}
 
-word_found : {p : Program} {m : ℕ} {s : _} {n : TypeTree} {th : Thunk} {h : History} (v : Value) (y : Datum) → IsWide p.datas (scalar s n) → Forces p m th h v → word_in v ≡ Some y → Yields p m (scalar s n) th h y
-word_found {p} {m} {s} {n} {th} {h} (bits b) y w f e = let same : word b ≡ y = cc in subst (λ y. Yields p m (scalar s n) th h y) same (y_word w f)
-word_found (con_of c ths) y w f e = cc
-word_found (vec_of ths) y w f e = cc
-word_found (closure t γ δ) y w f e = cc
-word_found (ty_closure t γ δ) y w f e = cc
-word_found (partial hd ts ths) y w f e = cc
+word_found : (v : Value) (y : Datum) → word_in v ≡ Some y → (b : List Bool) × (v ≡ bits b) × (word b ≡ y)
+word_found (bits b) y e = (b, refl, cc)
+word_found (con_of c ths) y e = cc
+word_found (vec_of ths) y e = cc
+word_found (closure t γ δ) y e = cc
+word_found (ty_closure t γ δ) y e = cc
+word_found (partial hd ts ths) y e = cc
+
+value_yields_along : {p : Program} {k : ℕ} {t : TypeTree} {v w : Value} {h : History} {d : Datum} → v ≡ w → ValueYields p k t v h d → ValueYields p k t w h d
+value_yields_along {p} {k} {t} {h = h} {d = d} e y = subst (λ v. ValueYields p k t v h d) e y
+
+word_yields : {p : Program} {s : Scalar} {n : TypeTree} {v : Value} {h : History} {b : List Bool} {y : Datum} → v ≡ bits b → word b ≡ y → ValueYields p zero (scalar s n) v h y
+word_yields {p} {s} {n} {v} {h} {b} e f = value_yields_along (sym e) (subst (λ y. ValueYields p zero (scalar s n) (bits b) h y) f v_word)
 
 made_found : (v : Value) (m : Made) → made_in v ≡ Some m → v ≡ con_of m.tag m.fields
 made_found (con_of c ths) m e = let same : record { tag = c; fields = ths } ≡ m = cc in ap (λ (m : Made). con_of m.tag m.fields) same
@@ -64,19 +70,23 @@ mutual
   yields_at_sound : (d : ℕ) (p : Program) (w : ℕ) (t : TypeTree) (th : Thunk) (h : History) → HasWidth p.datas t w → Holds Datum (λ v n. Yields p n t th h v) (yields_at d p w t th h)
   yields_at_sound zero p w t th h own = nothing
   yields_at_sound (suc d) p zero t th h own = at_found (zero_sound d p.datas t) (λ z x. one (y_empty own x))
-  yields_at_sound (suc d) p (suc w) (scalar s n) th h own = seen_as word_in (force_sound d p th h) (λ v m f y e. word_found v y (w, own) f e)
-  yields_at_sound (suc d) p (suc w) (vector n t) th h own =
-      turned (then (force_sound d p th h) (λ v m f. at_it (elements_in v) (λ ths e. as_found elements (yields_each_sound d p t ths h) (λ vs k all. y_elements (w, own) (forced_as (elements_found v ths e) f) all))))
-  yields_at_sound (suc d) p (suc w) (data_of i ts) th h own =
-      turned (then (force_sound d p th h) (λ v m f. at_it (made_in v) (λ c e. at_found (of_data_sound i (con_at p.datas c.tag)) (λ k x. as_found (built c.tag) (yields_fields_sound d p k.decl.fields (arguments ts) c.fields h) (λ vs n all. y_built (w, own) (forced_as (made_found v c e) f) x.0 x.1 all)))))
-  yields_at_sound (suc d) p (suc w) (ty_var x) th h own = nothing
-  yields_at_sound (suc d) p (suc w) (nat_lit x) th h own = nothing
-  yields_at_sound (suc d) p (suc w) (nat_sum a b) th h own = nothing
-  yields_at_sound (suc d) p (suc w) (nat_product a b) th h own = nothing
-  yields_at_sound (suc d) p (suc w) (domain x) th h own = nothing
-  yields_at_sound (suc d) p (suc w) (fun a b) th h own = nothing
-  yields_at_sound (suc d) p (suc w) (signal a b) th h own = nothing
-  yields_at_sound (suc d) p (suc w) (for_all k t) th h own = nothing
+  yields_at_sound (suc d) p (suc w) t th h own = turned (then (force_sound d p th h) (λ v m f. mapped (value_yields_sound d p t v h) (λ y n all. y_value (w, own) f all)))
+
+  value_yields_sound : (d : ℕ) (p : Program) (t : TypeTree) (v : Value) (h : History) → Holds Datum (λ y n. ValueYields p n t v h y) (value_yields_by d p t v h)
+  value_yields_sound zero p t v h = nothing
+  value_yields_sound (suc d) p (scalar s n) v h = at_it (word_in v) (λ y e. let q = word_found v y e in one (word_yields q.1 q.2))
+  value_yields_sound (suc d) p (vector n t) v h =
+      at_it (elements_in v) (λ ths e. as_found elements (yields_each_sound d p t ths h) (λ vs k all. value_yields_along (sym (elements_found v ths e)) (v_elements all)))
+  value_yields_sound (suc d) p (data_of i ts) v h =
+      at_it (made_in v) (λ c e. at_found (of_data_sound i (con_at p.datas c.tag)) (λ k x. as_found (built c.tag) (yields_fields_sound d p k.decl.fields (arguments ts) c.fields h) (λ vs n all. value_yields_along (sym (made_found v c e)) (v_built x.0 x.1 all))))
+  value_yields_sound (suc d) p (ty_var x) v h = nothing
+  value_yields_sound (suc d) p (nat_lit x) v h = nothing
+  value_yields_sound (suc d) p (nat_sum a b) v h = nothing
+  value_yields_sound (suc d) p (nat_product a b) v h = nothing
+  value_yields_sound (suc d) p (domain x) v h = nothing
+  value_yields_sound (suc d) p (fun a b) v h = nothing
+  value_yields_sound (suc d) p (signal a b) v h = nothing
+  value_yields_sound (suc d) p (for_all k t) v h = nothing
 
   yields_each_sound : (d : ℕ) (p : Program) (t : TypeTree) (ths : Thunks) (h : History) → Holds Datums (λ vs n. YieldEach p n t ths h vs) (yields_each_by d p t ths h)
   yields_each_sound zero p t ths h = nothing

@@ -12,6 +12,7 @@ use Rattle.chw_types.specs.Arguments.{arguments}
 use Rattle.chw_prims.specs.declared.prim.Primitive.{Primitive as Prim}
 use Rattle.prim_bits.specs.Values.{value_of as word_value}
 use Rattle.chw_terms.specs.declared.program.Program.{Program}
+use Rattle.chw_terms.specs.Evaluated.{evaluated}
 use Rattle.chw_terms.specs.TermTree.{TermTree, var, global, made, lam, app, ty_lam, ty_app, letrec, con, prim, lit, vec_lit, case_of, Alts}
 use Rattle.chw_layout.specs.Datum.{Datum, built, elements, Datums, datum_and}
 use Rattle.chw_layout.specs.Encodes.{first_constructor}
@@ -126,7 +127,7 @@ mutual
   eval_sound (suc d) p (lam t e) γ δ h = one e_lam
   eval_sound (suc d) p (app f a) γ δ h = turned (then (eval_sound d p f γ δ h) (λ v m x. mapped (apply_sound d p v (closed a γ δ) h) (λ w n y. e_app x y)))
   eval_sound (suc d) p (ty_lam k e) γ δ h = one e_ty_lam
-  eval_sound (suc d) p (ty_app f t) γ δ h = turned (then (eval_sound d p f γ δ h) (λ v m x. mapped (apply_type_sound d p v (closed_type t δ) h) (λ w n y. e_ty_app x y)))
+  eval_sound (suc d) p (ty_app f t) γ δ h = turned (then (eval_sound d p f γ δ h) (λ v m x. mapped (apply_type_sound d p v (evaluated (closed_type t δ)) h) (λ w n y. e_ty_app x y)))
   eval_sound (suc d) p (letrec g e) γ δ h = turned (mapped (eval_sound d p e (in_group g γ δ) δ h) (λ v n f. e_letrec f))
   eval_sound (suc d) p (con c) γ δ h = turned (mapped (run_sound d p (step p.datas (con_head c) no_types none) h) (λ v n f. e_con f))
   eval_sound (suc d) p (prim q) γ δ h = turned (mapped (run_sound d p (step p.datas (prim_head q) no_types none) h) (λ v n f. e_prim f))

@@ -16,6 +16,7 @@ use Rattle.chw_terms.specs.declared.program.Def.{Def}
 use Rattle.chw_terms.specs.declared.program.Program.{Program}
 use Rattle.chw_terms.specs.declared.term.Pattern.{Pattern}
 use Rattle.chw_terms.specs.declared.term.Pattern.TheVariants.{OfCon, OfLit, Default}
+use Rattle.chw_terms.specs.Evaluated.{evaluated}
 use Rattle.chw_terms.specs.TermTree.{TermTree, var, global, lam, app, ty_lam, ty_app, letrec, con, prim, lit, vec_lit, case_of, Terms, Group, Alts, no_alts, alt}
 use Rattle.chw_layout.specs.Datum.{Datum}
 use Rattle.chw_terms.specs.Constructors.{Constructor, con_at}
@@ -108,7 +109,7 @@ mutual
     e_lam : {t : TypeTree} {e : TermTree} {γ : Thunks} {δ : TypeTrees} {h : History} → Evals p (suc zero) (lam t e) γ δ h (closure e γ δ)
     e_app : {m n : ℕ} {f a : TermTree} {γ : Thunks} {δ : TypeTrees} {h : History} {v w : Value} → Evals p m f γ δ h v → Applies p n v (closed a γ δ) h w → Evals p (suc (plus m n)) (app f a) γ δ h w
     e_ty_lam : {k : Kind} {e : TermTree} {γ : Thunks} {δ : TypeTrees} {h : History} → Evals p (suc zero) (ty_lam k e) γ δ h (ty_closure e γ δ)
-    e_ty_app : {m n : ℕ} {f : TermTree} {t : TypeTree} {γ : Thunks} {δ : TypeTrees} {h : History} {v w : Value} → Evals p m f γ δ h v → TyApplies p n v (closed_type t δ) h w → Evals p (suc (plus m n)) (ty_app f t) γ δ h w
+    e_ty_app : {m n : ℕ} {f : TermTree} {t : TypeTree} {γ : Thunks} {δ : TypeTrees} {h : History} {v w : Value} → Evals p m f γ δ h v → TyApplies p n v (evaluated (closed_type t δ)) h w → Evals p (suc (plus m n)) (ty_app f t) γ δ h w
     e_letrec : {n : ℕ} {g : Group} {e : TermTree} {γ : Thunks} {δ : TypeTrees} {h : History} {v : Value} → Evals p n e (in_group g γ δ) δ h v → Evals p (suc n) (letrec g e) γ δ h v
     e_con : {n c : ℕ} {γ : Thunks} {δ : TypeTrees} {h : History} {v : Value} → Runs p n (step p.datas (con_head c) no_types none) h v → Evals p (suc n) (con c) γ δ h v
     e_prim : {n : ℕ} {q : Prim} {γ : Thunks} {δ : TypeTrees} {h : History} {v : Value} → Runs p n (step p.datas (prim_head q) no_types none) h v → Evals p (suc n) (prim q) γ δ h v

@@ -16,7 +16,7 @@ use Rattle.chw_terms.specs.Constructors.{Constructor, con_at}
 use Rattle.chw_layout.specs.Encodes.{first_constructor, IsValueOf}
 use Rattle.chw_layout.specs.Measured.{HasWidth}
 use Rattle.chw_meaning.specs.Zeros.{IsWide, IsZero}
-use Rattle.chw_meaning.specs.Values.{History, bits, con_of, vec_of, Thunk, closed, applied, field, stream, known, Thunks, none, thunk_and, thunk_at}
+use Rattle.chw_meaning.specs.Values.{History, Value, bits, con_of, vec_of, Thunk, closed, applied, field, stream, known, Thunks, none, thunk_and, thunk_at}
 use Rattle.chw_meaning.specs.Eval.{plus, Forces}
 
 mutual
@@ -24,10 +24,30 @@ mutual
   -- value, in so many turns; a part of a type of width 0 is the one value of its type, without
   -- evaluation
   pub data Yields (p : Program) : ℕ → TypeTree → Thunk → History → Datum → Type 0 where
-    y_empty : {t : TypeTree} {th : Thunk} {h : History} {z : Datum} → HasWidth p.datas t zero → IsZero p.datas t z → Yields p zero t th h z
-    y_word : {m : ℕ} {s : Scalar} {n : TypeTree} {th : Thunk} {h : History} {b : List Bool} → IsWide p.datas (scalar s n) → Forces p m th h (bits b) → Yields p m (scalar s n) th h (word b)
-    y_elements : {m k : ℕ} {n t : TypeTree} {th : Thunk} {ths : Thunks} {h : History} {ds : Datums} → IsWide p.datas (vector n t) → Forces p m th h (vec_of ths) → YieldEach p k t ths h ds → Yields p (suc (plus m k)) (vector n t) th h (elements ds)
-    y_built : {m k d c : ℕ} {ts : TypeTrees} {it : Constructor} {th : Thunk} {ths : Thunks} {h : History} {ds : Datums} → IsWide p.datas (data_of d ts) → Forces p m th h (con_of c ths) → con_at p.datas c ≡ Some it → it.of ≡ d → YieldFields p k it.decl.fields (arguments ts) ths h ds → Yields p (suc (plus m k)) (data_of d ts) th h (built c ds)
+    y_empty : {t : TypeTree} {th : Thunk} {h : History} {z : Datum}
+        → HasWidth p.datas t zero
+        → IsZero p.datas t z
+        → Yields p zero t th h z
+    y_value : {m k : ℕ} {t : TypeTree} {th : Thunk} {h : History} {v : Value} {d : Datum}
+        → IsWide p.datas t
+        → Forces p m th h v
+        → ValueYields p k t v h d
+        → Yields p (suc (plus m k)) t th h d
+
+  -- the value of the closed type, with all its parts evaluated at the history, makes the data
+  -- value
+  pub data ValueYields (p : Program) : ℕ → TypeTree → Value → History → Datum → Type 0 where
+    v_word : {s : Scalar} {n : TypeTree} {b : List Bool} {h : History}
+        → ValueYields p zero (scalar s n) (bits b) h (word b)
+    v_elements : {k : ℕ} {n t : TypeTree} {ths : Thunks} {h : History} {ds : Datums}
+        → YieldEach p k t ths h ds
+        → ValueYields p k (vector n t) (vec_of ths) h (elements ds)
+    v_built : {k d c : ℕ} {ts : TypeTrees} {it : Constructor} {ths : Thunks} {h : History}
+        {ds : Datums}
+        → con_at p.datas c ≡ Some it
+        → it.of ≡ d
+        → YieldFields p k it.decl.fields (arguments ts) ths h ds
+        → ValueYields p k (data_of d ts) (con_of c ths) h (built c ds)
 
   -- the same of the elements of a vector
   pub data YieldEach (p : Program) : ℕ → TypeTree → Thunks → History → Datums → Type 0 where

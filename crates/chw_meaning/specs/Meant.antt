@@ -23,7 +23,7 @@ use Rattle.chw_meaning.specs.Values.{History, Value, bits, con_of, Thunk, closed
 use Rattle.chw_meaning.specs.Eval.{dom}
 use Rattle.chw_meaning.specs.Gives.{Input, value_in, stream_in, at_types, LeafOf, leaf_of}
 use Rattle.chw_meaning.specs.Means.{port_of}
-use Rattle.chw_meaning.specs.Run.{Found, found, turn, and_then, with_it, seen, found_as, only_if, changed, elements_in, with_both, zero_by, force}
+use Rattle.chw_meaning.specs.Run.{Found, found, turn, and_then, with_it, found_as, only_if, changed, elements_in, with_both, zero_by, force}
 use Rattle.chw_meaning.specs.Layouts.{measured_by, width_by, encoded_by, decoded_by}
 
 -- what is there first
@@ -59,15 +59,19 @@ unfoldable mutual
   pub yields_at : ℕ → Program → ℕ → TypeTree → Thunk → History → Option (Found Datum)
   yields_at zero p w t th h = None
   yields_at (suc d) p zero t th h = with_it (zero_by d p.datas t) (λ z. found z 0)
-  yields_at (suc d) p (suc w) (scalar s n) th h = seen word_in (force d p th h)
-  yields_at (suc d) p (suc w) (vector n t) th h =
-      turn (and_then (force d p th h)
-      (λ v. with_it (elements_in v) (λ ths. found_as elements (yields_each_by d p t ths h))))
-  yields_at (suc d) p (suc w) (data_of i ts) th h =
-      turn (and_then (force d p th h) (λ v. with_it (made_in v) (λ m.
-      with_it (of_data i (con_at p.datas m.tag)) (λ k.
-      found_as (built m.tag) (yields_fields_by d p k.decl.fields (arguments ts) m.fields h)))))
-  yields_at (suc d) p (suc w) _ th h = None
+  yields_at (suc d) p (suc w) t th h =
+      turn (and_then (force d p th h) (λ v. value_yields_by d p t v h))
+
+  -- the data value that a value of the closed type makes at a history
+  pub value_yields_by : ℕ → Program → TypeTree → Value → History → Option (Found Datum)
+  value_yields_by zero p t v h = None
+  value_yields_by (suc d) p (scalar s n) v h = with_it (word_in v) (λ y. found y 0)
+  value_yields_by (suc d) p (vector n t) v h =
+      with_it (elements_in v) (λ ths. found_as elements (yields_each_by d p t ths h))
+  value_yields_by (suc d) p (data_of i ts) v h =
+      with_it (made_in v) (λ m. with_it (of_data i (con_at p.datas m.tag)) (λ k.
+      found_as (built m.tag) (yields_fields_by d p k.decl.fields (arguments ts) m.fields h)))
+  value_yields_by (suc d) p _ v h = None
 
   -- the same of the elements of a vector
   pub yields_each_by : ℕ → Program → TypeTree → Thunks → History → Option (Found Datums)

@@ -10,6 +10,7 @@ use Rattle.chw_types.specs.TypeMoves.{Substitution, sub}
 use Rattle.chw_types.specs.Arguments.{arguments}
 use Rattle.prim_bits.specs.Values.{value_of as word_value}
 use Rattle.chw_terms.specs.declared.program.Program.{Program}
+use Rattle.chw_terms.specs.Evaluated.{evaluated}
 use Rattle.chw_terms.specs.TermTree.{TermTree, var, global, made, lam, app, ty_lam, ty_app, letrec, con, prim, lit, vec_lit, case_of, Alts}
 use Rattle.chw_layout.specs.Datum.{Datum, word, built, elements, Datums, no_data, datum_and}
 use Rattle.chw_layout.specs.Encodes.{first_constructor}
@@ -122,7 +123,7 @@ unfoldable mutual
       turn (and_then (eval d p f γ δ h) (λ v. apply d p v (closed a γ δ) h))
   eval (suc d) p (ty_lam k e) γ δ h = found (ty_closure e γ δ) 1
   eval (suc d) p (ty_app f t) γ δ h =
-      turn (and_then (eval d p f γ δ h) (λ v. apply_type d p v (closed_type t δ) h))
+      turn (and_then (eval d p f γ δ h) (λ v. apply_type d p v (evaluated (closed_type t δ)) h))
   eval (suc d) p (letrec g e) γ δ h = turn (eval d p e (in_group g γ δ) δ h)
   eval (suc d) p (con c) γ δ h = turn (run d p (step p.datas (con_head c) no_types none) h)
   eval (suc d) p (prim q) γ δ h = turn (run d p (step p.datas (prim_head q) no_types none) h)

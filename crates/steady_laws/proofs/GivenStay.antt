@@ -7,9 +7,9 @@ use Rattle.chw_types.specs.TypeMoves.{Substitution}
 use Rattle.chw_terms.specs.declared.program.Program.{Program}
 use Rattle.chw_terms.specs.TermTree.{TermTree}
 use Rattle.chw_layout.specs.Datum.{Datum, Datums}
-use Rattle.chw_meaning.specs.Values.{History, Thunk, Thunks}
-use Rattle.chw_meaning.specs.Gives.{Yields, y_empty, y_word, y_elements, y_built, YieldEach, yield_none, yield_each, YieldFields, yield_no_field, yield_field, Input, PortGiven, given_stream, given_product, FieldsGiven, given_field, Given, given_value, given_port, OnInputs, on_all, on_next, LeafOf, PortLeaves, leaf_signal, leaves_product, FieldLeaves, no_field_leaves, field_leaves, HasLeaves, leaf_value, leaves_port, Gives}
-use Rattle.steady_laws.specs.Steady.{IsSteady, SteadyThunk, steady_closed, steady_applied, steady_field, steady_known, SteadyThunks, steady_none, steady_and}
+use Rattle.chw_meaning.specs.Values.{History, Value, Thunk, Thunks}
+use Rattle.chw_meaning.specs.Gives.{Yields, y_empty, y_value, ValueYields, v_word, v_elements, v_built, YieldEach, yield_none, yield_each, YieldFields, yield_no_field, yield_field, Input, PortGiven, given_stream, given_product, FieldsGiven, given_field, Given, given_value, given_port, OnInputs, on_all, on_next, LeafOf, PortLeaves, leaf_signal, leaves_product, FieldLeaves, no_field_leaves, field_leaves, HasLeaves, leaf_value, leaves_port, Gives}
+use Rattle.steady_laws.specs.Steady.{IsSteady, SteadyValue, SteadyThunk, steady_closed, steady_applied, steady_field, steady_known, SteadyThunks, steady_none, steady_and}
 use Rattle.steady_laws.specs.Laws.{AreValues}
 use Rattle.steady_laws.proofs.Parts.{thunk_steady, fields_of_steady, elements_of_steady}
 use Rattle.steady_laws.proofs.Stays.{DefsAreSteady, forces_stay}
@@ -17,9 +17,12 @@ use Rattle.steady_laws.proofs.Stays.{DefsAreSteady, forces_stay}
 mutual
   pub yields_stay : {p : Program} {n : ℕ} {t : TypeTree} {th : Thunk} {h : History} {d : Datum} → DefsAreSteady p → Yields p n t th h d → SteadyThunk p th → (g : History) → Yields p n t th g d
   yields_stay ds (y_empty w z) s g = y_empty w z
-  yields_stay ds (y_word w a) s g = y_word w (forces_stay ds a s g).0
-  yields_stay ds (y_elements w a all) s g = let q = forces_stay ds a s g in y_elements w q.0 (each_stay ds all (elements_of_steady q.1) g)
-  yields_stay ds (y_built w a i j all) s g = let q = forces_stay ds a s g in y_built w q.0 i j (fields_stay ds all (fields_of_steady q.1) g)
+  yields_stay ds (y_value w a y) s g = let q = forces_stay ds a s g in y_value w q.0 (value_yields_stay ds y q.1 g)
+
+  value_yields_stay : {p : Program} {n : ℕ} {t : TypeTree} {v : Value} {h : History} {d : Datum} → DefsAreSteady p → ValueYields p n t v h d → SteadyValue p v → (g : History) → ValueYields p n t v g d
+  value_yields_stay ds v_word s g = v_word
+  value_yields_stay ds (v_elements all) s g = v_elements (each_stay ds all (elements_of_steady s) g)
+  value_yields_stay ds (v_built i j all) s g = v_built i j (fields_stay ds all (fields_of_steady s) g)
 
   each_stay : {p : Program} {n : ℕ} {t : TypeTree} {ths : Thunks} {h : History} {d : Datums} → DefsAreSteady p → YieldEach p n t ths h d → SteadyThunks p ths → (g : History) → YieldEach p n t ths g d
   each_stay ds yield_none s g = yield_none

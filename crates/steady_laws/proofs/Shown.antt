@@ -3,6 +3,7 @@ use Rattle.std.proofs.Common.{ℕ, refl, subst}
 use Rattle.chw_bits.specs.Bits.{bits_of}
 use Rattle.chw_types.specs.TypeMoves.{rename, up, sub}
 use Rattle.chw_types.specs.SamePromises.{natural_value}
+use Rattle.chw_terms.specs.Evaluated.{evaluated}
 use Rattle.chw_meaning.specs.Values.{Value, bits}
 use Rattle.chw_meaning.specs.Eval.{Forces}
 use Rattle.chw_meaning.specs.Run.{zero_by, eval}
@@ -17,7 +18,7 @@ pub function_of_values : FunctionOfValues
 function_of_values = ((tt, tt), tt)
 
 pub counter_moves : CounterMoves
-unfolding eval zero_by sub rename up natural_value
+unfolding eval zero_by sub rename up natural_value evaluated
 counter_moves = record { not_steady = λ s. s.0.0.0.0; first = refl; second = refl }
 
 one_at_second : (n : ℕ) (v : Value) → Forces bare n (here (counter a_clock)) (ticks 2) v → SteadyValue bare v

@@ -2,6 +2,7 @@
 #![tactic(auto)]
 
 pub mod item;
+pub mod laws;
 pub mod module;
 pub mod right;
 pub mod word;
