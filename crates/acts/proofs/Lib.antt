@@ -1,0 +1,10 @@
+pub mod Arms
+pub mod Carried
+pub mod Cases
+pub mod Closing
+pub mod Fields
+pub mod Forms
+pub mod Levels
+pub mod SameActs
+pub mod Tied
+pub mod Typed
