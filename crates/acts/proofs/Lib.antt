@@ -5,6 +5,11 @@ pub mod Closing
 pub mod Fields
 pub mod Forms
 pub mod Levels
+pub mod Memory
+pub mod Numbers
 pub mod SameActs
+pub mod Steps
+pub mod Telescopes
 pub mod Tied
 pub mod Typed
+pub mod Values
