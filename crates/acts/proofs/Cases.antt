@@ -1,11 +1,13 @@
 -- A case acts so where what it goes on with does.
-use Rattle.std.proofs.Common.{◌≡◌, ℕ, suc, zero, Some, refl, sym, ap, ◌∙◌, subst}
+use Rattle.std.proofs.Common.{◌≡◌, ℕ, suc, zero, Bool, true, false, if◌then◌else◌, Some, refl, sym, ap, ◌∙◌, subst}
 use Rattle.chw_types.specs.TypeTree.{TypeTree, ty_var, nat_lit, nat_sum, nat_product, domain, scalar, vector, data_of, fun, signal, for_all, TypeTrees}
 use Rattle.chw_terms.specs.declared.program.Program.{Program}
-use Rattle.chw_terms.specs.TermTree.{TermTree, case_of, Alts}
+use Rattle.chw_terms.specs.declared.term.Pattern.{Pattern}
+use Rattle.chw_terms.specs.TermTree.{TermTree, case_of, Alts, alt}
 use Rattle.chw_typing.specs.HeadTypes.{IsLookedAt}
 use Rattle.chw_meaning.specs.Values.{History, Value, closed, Thunks, joined, fields_from}
-use Rattle.chw_meaning.specs.Eval.{plus, Choice, goes_on, takes, looks, choice, Arm, arm_of, Evals, e_goes_on, e_takes, e_looks}
+use Rattle.chw_meaning.specs.Eval.{plus, Choice, goes_on, takes, looks, choice, Arm, matches, bound, arm_of, Evals, e_goes_on, e_takes, e_looks}
+use Rattle.chw_meaning.proofs.Once.{same_some}
 use Rattle.acts.specs.Levels.{Levels, later, Alike, term_has}
 use Rattle.acts.specs.Acts.{act_step}
 use Rattle.acts.proofs.Forms.{TermsAct}
@@ -59,3 +61,27 @@ looks_acts {p} {r} l u t s' s alts' alts γ' γ δ' δ looked first second acts 
         more (at_later (suc k) l) j t w (term_has p arm.second.body (joined arm.second.fields γ) δ h) (term_has p (case_of s alts) γ δ h) (λ x q. (suc (plus arm.has_value.0 q.0), e_looks second arm.has_value.1 arm.is_arm q.1)) (arm.acts h' h j w al b)
 looks_acts l u t s' s alts' alts γ' γ δ' δ looked first second acts arms h' h m w al (e_goes_on picked d) = cc
 looks_acts l u t s' s alts' alts γ' γ δ' δ looked first second acts arms h' h m w al (e_takes picked d) = cc
+
+-- for the first side's arm there is one of the second's, as which it acts
+pub record ArmOf (p : Program) (r : Levels) (t : TypeTree) (alts : Alts) (w : Value) (γ' : Thunks) (δ' : TypeTrees) (γ : Thunks) (δ : TypeTrees) (first : Arm) : Type 0 where
+  pub second : Arm
+  pub is_arm : arm_of w alts ≡ Some second
+  pub acts : TermsAct p r t first.body (joined first.fields γ') δ' second.body (joined second.fields γ) δ
+
+arm_first : (v : Value) (q : Pattern) (e : TermTree) (more : Alts) → matches v q ≡ true → arm_of v (alt q e more) ≡ Some (record { fields = bound v q; body = e })
+arm_first v q e more h = ap (λ b. if b then Some (record { fields = bound v q; body = e }) else arm_of v more) h
+
+arm_rest : (v : Value) (q : Pattern) (e : TermTree) (more : Alts) → matches v q ≡ false → arm_of v (alt q e more) ≡ arm_of v more
+arm_rest v q e more h = ap (λ b. if b then Some (record { fields = bound v q; body = e }) else arm_of v more) h
+
+-- one alternative before others
+pub alt_acts : {p : Program} {r : Levels} (t : TypeTree) (q : Pattern) (e' e : TermTree) (more' more : Alts) (γ' γ : Thunks) (δ' δ : TypeTrees) (v w : Value) → matches v q ≡ matches w q → (matches v q ≡ true → TermsAct p r t e' (joined (bound v q) γ') δ' e (joined (bound w q) γ) δ) → ((a : Arm) → arm_of v more' ≡ Some a → ArmOf p r t more w γ' δ' γ δ a) → (a : Arm) → arm_of v (alt q e' more') ≡ Some a → ArmOf p r t (alt q e more) w γ' δ' γ δ a
+alt_acts {p} {r} t q e' e more' more γ' γ δ' δ v w both here rest a found = split (matches v q) refl
+  where
+    split : (b : Bool) → matches v q ≡ b → ArmOf p r t (alt q e more) w γ' δ' γ δ a
+    split true hit =
+        let same = same_some (arm_first v q e' more' hit) found in
+        record { second = record { fields = bound w q; body = e }; is_arm = arm_first w q e more (sym both ∙ hit); acts = subst (λ (a : Arm). TermsAct p r t a.body (joined a.fields γ') δ' e (joined (bound w q) γ) δ) same (here hit) }
+    split false miss =
+        let one = rest a (sym (arm_rest v q e' more' miss) ∙ found) in
+        record { second = one.second; is_arm = arm_rest w q e more (sym both ∙ miss) ∙ one.is_arm; acts = one.acts }

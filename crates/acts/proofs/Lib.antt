@@ -4,10 +4,15 @@ pub mod Cases
 pub mod Closing
 pub mod Fields
 pub mod Forms
+pub mod Globals
+pub mod HeadsAct
 pub mod Levels
 pub mod Memory
 pub mod Numbers
+pub mod Replaces
+pub mod Rows
 pub mod SameActs
+pub mod Shapes
 pub mod Steps
 pub mod Telescopes
 pub mod Tied

@@ -36,7 +36,7 @@ use Rattle.acts.specs.Acts.{act_step, acts_from}
 use Rattle.acts.specs.Terms.{TiedBy, Kinded, setting_with}
 use Rattle.acts.proofs.Arms.{bound_fields, Seen, seen, matches_same, pattern_tied, only_tied}
 use Rattle.acts.proofs.Carried.{carried, carried_all, carried_group, carried_alts, size_carried, size_declared, KeepsValues, Carries, carries_type, type_carried}
-use Rattle.acts.proofs.Cases.{goes_on_acts, takes_acts, looks_acts, ArmActs}
+use Rattle.acts.proofs.Cases.{goes_on_acts, takes_acts, looks_acts, ArmActs, ArmOf, alt_acts}
 use Rattle.acts.proofs.Closing.{closed_kind, closed_same, closed_stays, opens_as, put_closes}
 use Rattle.acts.proofs.Forms.{TermsAct, var_acts, lit_acts, thunk_acts, app_acts, lam_acts, ty_lam_acts, ty_app_acts, MembersAct, SidesAct, GroupActs, members_act, letrec_acts, EachTermActs, vec_acts}
 use Rattle.acts.proofs.Levels.{IsLevels, at_levels, at_later, runs_later}
@@ -98,29 +98,6 @@ unfolding sub
 looked_closed (scalar x w) δ i = tt
 looked_closed (data_of d ts) δ i = tt
 looked_closed _ δ i = absurd i
-
--- for the first side's arm there is one of the second's, as which it acts
-pub record ArmOf (p : Program) (r : Levels) (t : TypeTree) (alts : Alts) (w : Value) (γ' : Thunks) (δ' : TypeTrees) (γ : Thunks) (δ : TypeTrees) (first : Arm) : Type 0 where
-  pub second : Arm
-  pub is_arm : arm_of w alts ≡ Some second
-  pub acts : TermsAct p r t first.body (joined first.fields γ') δ' second.body (joined second.fields γ) δ
-
-arm_first : (v : Value) (q : Pattern) (e : TermTree) (more : Alts) → matches v q ≡ true → arm_of v (alt q e more) ≡ Some (record { fields = bound v q; body = e })
-arm_first v q e more h = ap (λ b. if b then Some (record { fields = bound v q; body = e }) else arm_of v more) h
-
-arm_rest : (v : Value) (q : Pattern) (e : TermTree) (more : Alts) → matches v q ≡ false → arm_of v (alt q e more) ≡ arm_of v more
-arm_rest v q e more h = ap (λ b. if b then Some (record { fields = bound v q; body = e }) else arm_of v more) h
-
-alt_acts : {p : Program} {r : Levels} (t : TypeTree) (q : Pattern) (e' e : TermTree) (more' more : Alts) (γ' γ : Thunks) (δ' δ : TypeTrees) (v w : Value) → matches v q ≡ matches w q → (matches v q ≡ true → TermsAct p r t e' (joined (bound v q) γ') δ' e (joined (bound w q) γ) δ) → ((a : Arm) → arm_of v more' ≡ Some a → ArmOf p r t more w γ' δ' γ δ a) → (a : Arm) → arm_of v (alt q e' more') ≡ Some a → ArmOf p r t (alt q e more) w γ' δ' γ δ a
-alt_acts {p} {r} t q e' e more' more γ' γ δ' δ v w both here rest a found = split (matches v q) refl
-  where
-    split : (b : Bool) → matches v q ≡ b → ArmOf p r t (alt q e more) w γ' δ' γ δ a
-    split true hit =
-        let same = same_some (arm_first v q e' more' hit) found in
-        record { second = record { fields = bound w q; body = e }; is_arm = arm_first w q e more (sym both ∙ hit); acts = subst (λ (a : Arm). TermsAct p r t a.body (joined a.fields γ') δ' e (joined (bound w q) γ) δ) same (here hit) }
-    split false miss =
-        let one = rest a (sym (arm_rest v q e' more' miss) ∙ found) in
-        record { second = one.second; is_arm = arm_rest w q e more (sym both ∙ miss) ∙ one.is_arm; acts = one.acts }
 
 -- a pattern that isn't of a constructor, and binds nothing
 abbrev IsNoCon : Pattern → Type 0
