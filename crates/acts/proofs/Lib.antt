@@ -18,3 +18,4 @@ pub mod Telescopes
 pub mod Tied
 pub mod Typed
 pub mod Values
+pub mod Yields
