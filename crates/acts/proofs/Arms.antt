@@ -1,6 +1,6 @@
 -- What a pattern binds of values that act so.
 use Rattle.std.specs.Prelude.{slice_get}
-use Rattle.std.proofs.Common.{◌≡◌, ◌⊎◌, inl, inr, ℕ, suc, zero, Bool, true, false, List, [], ◌∷◌, ◌++◌, length, map, reverse, Some, refl, sym, ap, ◌∙◌, subst}
+use Rattle.std.proofs.Common.{◌≡◌, ◌⊎◌, inl, inr, ℕ, suc, zero, Bool, true, List, [], ◌∷◌, length, map, reverse, Some, refl, sym, ap, ◌∙◌, subst}
 use Rattle.std.proofs.lemmas.Bool.{eqb-true}
 use Rattle.std.proofs.lemmas.List.{length-map, length-reverse}
 use Rattle.chw_types.specs.declared.kind.Kind.{Kind}
@@ -20,23 +20,23 @@ use Rattle.chw_terms.specs.TermTree.{binders}
 use Rattle.type_laws.specs.Standing.{InSums}
 use Rattle.type_laws.proofs.OneKind.{nat_natural, sums_kind}
 use Rattle.type_laws.proofs.PutSame.{same_put}
-use Rattle.chw_typing.specs.Scopes.{Setting, HasKind, IsTermType, AreTermTypes, AreSame, with_more}
+use Rattle.chw_typing.specs.Scopes.{HasKind, IsTermType, AreTermTypes, AreSame, with_more}
 use Rattle.chw_typing.specs.HeadTypes.{IsLookedAt, fields_at, PatternOf, of_con, of_lit, of_any}
 use Rattle.chw_typing.specs.Programs.{IsSound, setting_of}
 use Rattle.chw_typing.proofs.Lists.{map_reverse}
 use Rattle.chw_typing.proofs.Patterns.{are_of_terms, fields_typed, constructor_arguments, AllSumsAreNat, pattern_sums}
 use Rattle.chw_typing.proofs.PutAgreeing.{field_put}
 use Rattle.chw_typing.proofs.SameScopes.{are_same_length}
-use Rattle.chw_meaning.specs.Values.{Value, bits, con_of, Thunk, field, Thunks, none, thunk_and, type_at, closed_type, joined, fields_from}
+use Rattle.chw_meaning.specs.Values.{Value, bits, con_of, Thunk, field, Thunks, none, type_at, closed_type, joined, fields_from}
 use Rattle.chw_meaning.specs.Eval.{matches, bound}
 use Rattle.chw_meaning.proofs.Once.{same_some}
 use Rattle.acts.specs.Levels.{Levels, ThunksAct}
-use Rattle.acts.specs.Acts.{AllAct, BuiltActs, act_step}
+use Rattle.acts.specs.Acts.{AllAct, act_step}
 use Rattle.acts.specs.Terms.{TiedBy, Kinded}
 use Rattle.acts.proofs.Closing.{puts_closed, closed_kind}
 use Rattle.acts.proofs.Fields.{field_acts}
 use Rattle.acts.proofs.Levels.{IsLevels}
-use Rattle.acts.proofs.SameActs.{Same, EachSame, each_reverse, same_fields, same_all_act}
+use Rattle.acts.proofs.SameActs.{EachSame, each_reverse, same_fields, same_all_act}
 use Rattle.acts.proofs.Tied.{tied_joined, fields_act, fields_joined, plus_zero}
 
 closed_each : (p : Program) (kinds params : List Kind) (fs : List TypeTree) (ts : TypeTrees) (δ : TypeTrees) → ((i : ℕ) (f : TypeTree) → slice_get fs i ≡ Some f → IsTermType (setting_of p) (reverse params) f) → KindsOf p.datas (length p.domains) kinds ts params → map (λ f. sub f (arguments (sub_all ts (type_at δ)))) fs ≡ map (λ t. closed_type t δ) (map (λ f. sub f (arguments ts)) fs)
@@ -52,9 +52,10 @@ bound_each : (p : Program) → IsSound (setting_of p) → (kinds : List Kind) (�
 bound_each p sound kinds δ known [] [] x sums typed e = tt
 bound_each p sound kinds δ known [] (b ∷ bnd) x sums typed e = absurd x
 bound_each p sound kinds δ known (f ∷ fs) [] x sums typed e = absurd x
-bound_each p sound kinds δ known (f ∷ fs) (b ∷ bnd) x sums typed e =
-    (record { first = e.0.first; second = typed.0.kind; has_first = e.0.has_first; has_second = closed_kind p δ known typed.0.has; same = same_put x.0 (type_at δ) (type_at δ) (λ y. same_self (type_at δ y)) natural },
-    bound_each p sound kinds δ known fs bnd x.1 sums.1 typed.1 e.1)
+bound_each p sound kinds δ known (f ∷ fs) (b ∷ bnd) x sums typed e = (
+  record { first = e.0.first; second = typed.0.kind; has_first = e.0.has_first; has_second = closed_kind p δ known typed.0.has; same = same_put x.0 (type_at δ) (type_at δ) (λ y. same_self (type_at δ y)) natural },
+  bound_each p sound kinds δ known fs bnd x.1 sums.1 typed.1 e.1,
+)
   where
     natural : (y : ℕ) → InSums f y ⊎ InSums b y → is_natural (type_at δ y) ≡ true
     natural y (inl z) = nat_natural (are_of_terms (setting_of p) sound) (puts_closed p kinds δ known y Nat (sums.0 y z)).0 refl

@@ -6,7 +6,7 @@ use Rattle.chw_terms.specs.declared.term.Pattern.{Pattern}
 use Rattle.chw_terms.specs.TermTree.{TermTree, case_of, Alts, alt}
 use Rattle.chw_typing.specs.HeadTypes.{IsLookedAt}
 use Rattle.chw_meaning.specs.Values.{History, Value, closed, Thunks, joined, fields_from}
-use Rattle.chw_meaning.specs.Eval.{plus, Choice, goes_on, takes, looks, choice, Arm, matches, bound, arm_of, Evals, e_goes_on, e_takes, e_looks}
+use Rattle.chw_meaning.specs.Eval.{plus, goes_on, takes, looks, choice, Arm, matches, bound, arm_of, Evals, e_goes_on, e_takes, e_looks}
 use Rattle.chw_meaning.proofs.Once.{same_some}
 use Rattle.acts.specs.Levels.{Levels, later, Alike, term_has}
 use Rattle.acts.specs.Acts.{act_step}

@@ -1,10 +1,9 @@
 -- Types in scope, with the closed types of an environment put for their variables.
-use Rattle.std.specs.Prelude.{slice_get}
-use Rattle.std.proofs.Common.{◌≡◌, ◌≤◌, ◌⊎◌, inl, inr, ℕ, suc, zero, true, List, [], ◌∷◌, length, Some, refl, sym, ap, ◌∙◌, subst, arith}
+use Rattle.std.proofs.Common.{◌≡◌, ◌≤◌, ◌⊎◌, inl, inr, ℕ, suc, zero, true, List, [], ◌∷◌, length, refl, ap, ◌∙◌, subst, arith}
 use Rattle.chw_types.specs.declared.kind.Kind.{Kind}
 use Rattle.chw_types.specs.declared.kind.Kind.TheVariants.{Nat}
-use Rattle.chw_types.specs.TypeTree.{TypeTree, ty_var, for_all, TypeTrees, no_types, type_and}
-use Rattle.chw_types.specs.TypeMoves.{rename, raised, shift, up, sub, up_by, one, put_at, put}
+use Rattle.chw_types.specs.TypeTree.{TypeTree, for_all, TypeTrees, no_types, type_and}
+use Rattle.chw_types.specs.TypeMoves.{raised, shift, up, sub, up_by, one, put_at, put}
 use Rattle.chw_types.specs.Kinds.{degree}
 use Rattle.chw_types.specs.Polynomials.{is_natural}
 use Rattle.chw_types.specs.SameTypes.{SameTypes}
@@ -80,6 +79,7 @@ put_closes p sound {kinds} δ {t} {a} {u} {i} {j} {k} h f l m x =
   where
     of_terms : AreOfTerms p.datas
     of_terms = are_of_terms (setting_of p) sound
+
     body : HasKind (setting_of p) (j ∷ []) (sub t (up (type_at δ))) i
     body = (bound_part (closed_kind p δ {t = for_all j t} h f)).0
 

@@ -8,11 +8,11 @@ use Rattle.chw_terms.specs.declared.program.Program.{Program}
 use Rattle.chw_terms.specs.Constructors.{Constructor, con_at}
 use Rattle.chw_typing.specs.HeadTypes.{fields_at}
 use Rattle.chw_typing.proofs.Heads.{is_constructor}
-use Rattle.chw_meaning.specs.Values.{History, Value, con_of, vec_of, Thunk, field, element, Thunks, none, thunk_and, thunk_at}
-use Rattle.chw_meaning.specs.Eval.{plus, Forces, f_field, f_element}
+use Rattle.chw_meaning.specs.Values.{con_of, vec_of, Thunk, field, element, Thunks, none, thunk_and, thunk_at}
+use Rattle.chw_meaning.specs.Eval.{plus, f_field, f_element}
 use Rattle.chw_meaning.proofs.Once.{same_some}
-use Rattle.acts.specs.Levels.{Levels, later, Alike, thunk_runs, thunk_has, ThunksAct}
-use Rattle.acts.specs.Acts.{AllAct, EachAct, BuiltActs, VectorActs}
+use Rattle.acts.specs.Levels.{Levels, later, thunk_has, ThunksAct}
+use Rattle.acts.specs.Acts.{EachAct, BuiltActs, VectorActs}
 use Rattle.acts.proofs.Levels.{at_end, later_plus, IsLevels, at_later, more, opens}
 use Rattle.acts.proofs.Tied.{part_acts}
 

@@ -1,20 +1,20 @@
 -- Each form of term acts so where its parts do, in any two environments.
 use Rattle.std.specs.Prelude.{slice_get}
-use Rattle.std.proofs.Common.{◌≡◌, ℕ, suc, zero, Bool, List, [], ◌∷◌, Option, Some, refl, sym, ap, ◌∙◌, subst}
+use Rattle.std.proofs.Common.{◌≡◌, ℕ, suc, zero, Bool, List, [], Some, refl, sym, subst}
 use Rattle.chw_types.specs.declared.kind.Kind.{Kind}
 use Rattle.chw_types.specs.declared.kind.Scalar.{Scalar}
-use Rattle.chw_types.specs.TypeTree.{TypeTree, nat_lit, scalar, vector, fun, for_all, TypeTrees, type_and}
+use Rattle.chw_types.specs.TypeTree.{TypeTree, scalar, vector, fun, for_all, TypeTrees, type_and}
 use Rattle.chw_types.specs.TypeMoves.{put}
 use Rattle.chw_terms.specs.declared.program.Program.{Program}
 use Rattle.chw_terms.specs.TermTree.{TermTree, var, lam, app, ty_lam, ty_app, letrec, lit, vec_lit, Terms, no_terms, term_and, Group}
 use Rattle.chw_terms.specs.Evaluated.{evaluated}
 use Rattle.chw_typing.specs.Scopes.{HasKind}
 use Rattle.chw_typing.specs.Programs.{setting_of}
-use Rattle.chw_meaning.specs.Values.{History, Value, bits, vec_of, closure, ty_closure, Thunk, closed, applied, member, sample, Thunks, none, thunk_and, thunk_at, closed_type, in_group, body_at, closed_all}
+use Rattle.chw_meaning.specs.Values.{History, Value, bits, vec_of, closure, ty_closure, Thunk, closed, applied, member, sample, Thunks, none, thunk_and, closed_type, in_group, body_at, closed_all}
 use Rattle.chw_meaning.specs.Eval.{plus, Evals, e_var, e_lam, e_app, e_ty_lam, e_ty_app, e_letrec, e_lit, e_vec, Forces, f_closed, f_applied, f_member, f_sample, Applies, a_closure, TyApplies, t_closure}
 use Rattle.chw_meaning.proofs.Once.{same_some}
-use Rattle.acts.specs.Levels.{Level, Levels, later, Alike, First, Second, RunsAct, term_runs, term_has, thunk_runs, thunk_has, ThunksAct}
-use Rattle.acts.specs.Acts.{EachAct, FunctionActs, FamilyActs, VectorActs, act_step, acts_from}
+use Rattle.acts.specs.Levels.{Levels, later, Alike, Second, RunsAct, term_runs, term_has, thunk_runs, thunk_has, ThunksAct}
+use Rattle.acts.specs.Acts.{EachAct, acts_from}
 use Rattle.acts.specs.Terms.{LooksAlike}
 use Rattle.acts.proofs.Levels.{at_end, later_plus, IsLevels, from_turns, at_levels, at_later, cost, more, runs_later, function_opens, family_opens}
 

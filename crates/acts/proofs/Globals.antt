@@ -1,6 +1,6 @@
 -- Definitions act as themselves, and so does every typed term.
 use Rattle.std.specs.Prelude.{slice_get}
-use Rattle.std.proofs.Common.{◌≡◌, ℕ, suc, zero, List, [], ◌∷◌, length, map, reverse, Some, refl, sym, ap, ◌∙◌, subst}
+use Rattle.std.proofs.Common.{◌≡◌, ℕ, suc, zero, List, [], ◌∷◌, reverse, Some, refl, sym, ap, ◌∙◌, subst}
 use Rattle.chw_types.specs.declared.kind.Kind.{Kind}
 use Rattle.chw_types.specs.TypeTree.{TypeTree, ty_var, TypeTrees, no_types, type_and}
 use Rattle.chw_types.specs.TypeMoves.{Renaming, Substitution, sub, up_by, put_at}
@@ -12,25 +12,25 @@ use Rattle.chw_terms.specs.TermMoves.{rename}
 use Rattle.chw_terms.specs.TermTree.{TermTree, var, global, made, lam, app, ty_lam, ty_app, letrec, con, prim, lit, vec_lit, case_of, Terms, no_terms, term_and, Group, no_bindings, bind, Alts, no_alts, alt}
 use Rattle.chw_terms.proofs.Renamed.{rename_ids}
 use Rattle.chw_typing.specs.Scopes.{HasKind, IsTermType, AreTermTypes}
-use Rattle.chw_typing.specs.Programs.{AreClosed, IsSound, IsTyped, HasItsType, setting_of}
+use Rattle.chw_typing.specs.Programs.{AreClosed, IsSound, IsTyped, setting_of}
 use Rattle.chw_typing.specs.Typing.{HasType, HasTypeUpTo}
 use Rattle.chw_typing.proofs.EvaluatedTypes.{kind_evaluated}
 use Rattle.chw_typing.proofs.Kinded.{term_type, type_kinded}
 use Rattle.chw_typing.proofs.Lists.{found_in_map}
 use Rattle.chw_terms.proofs.TypesEvaluated.{evaluated_twice}
-use Rattle.chw_meaning.specs.Values.{History, Value, Thunks, none, type_at, closed_type}
+use Rattle.chw_meaning.specs.Values.{Thunks, none, closed_type}
 use Rattle.chw_meaning.specs.Eval.{Evals, e_global}
 use Rattle.chw_meaning.proofs.Once.{same_some}
-use Rattle.acts.specs.Levels.{Levels, later, term_runs, term_has}
+use Rattle.acts.specs.Levels.{Levels, term_runs, term_has}
 use Rattle.acts.specs.Acts.{acts_from}
 use Rattle.acts.specs.Terms.{TiedBy, Kinded, ActsAs, with_origins, with_origins_all, with_origins_group, with_origins_alts, setting_with}
 use Rattle.acts.proofs.Carried.{carried, carried_renamed, carried_evaluated, Carries, itself_keeps, evaluated_keeps}
-use Rattle.acts.proofs.Closing.{closed_kind, closed_same, closed_stays}
+use Rattle.acts.proofs.Closing.{closed_kind, closed_stays}
 use Rattle.acts.proofs.Forms.{TermsAct}
 use Rattle.acts.proofs.HeadsAct.{heads_act}
 use Rattle.acts.proofs.Levels.{at_end, IsLevels, from_turns, more}
 use Rattle.acts.proofs.SameActs.{as_same, same_acts}
-use Rattle.acts.proofs.Typed.{GlobalsAct, MadeAct, Tied, sound_without, typed_acts}
+use Rattle.acts.proofs.Typed.{GlobalsAct, MadeAct, typed_acts}
 
 mutual
   unfolding with_origins
@@ -76,14 +76,14 @@ none_made p o' o n m u γ' γ δ' δ e = cc
 none_carried : (τ : Substitution) (δ δ0 : TypeTrees) → Carries [] τ δ δ0
 none_carried τ δ δ0 x k e = cc
 
-no_names : (p : Program) (r : Levels) (ρ' ρ : Renaming) (δ : TypeTrees) (γ' γ : Thunks) → TiedBy p r [] ρ' ρ δ γ' γ
+pub no_names : (p : Program) (r : Levels) (ρ' ρ : Renaming) (δ : TypeTrees) (γ' γ : Thunks) → TiedBy p r [] ρ' ρ δ γ' γ
 no_names p r ρ' ρ δ γ' γ x t e = cc
 
 -- a closed term, in any two environments
-closed_acts : (p : Program) → IsSound (setting_of p) → {e : TermTree} {t : TypeTree} → HasType (setting_of p) [] [] e t → (r : Levels) → IsLevels p r → GlobalsAct p r → (γ' γ : Thunks) (δ' δ : TypeTrees) → TermsAct p r t e γ' δ' e γ δ
+pub closed_acts : (p : Program) → IsSound (setting_of p) → {e : TermTree} {t : TypeTree} → HasType (setting_of p) [] [] e t → (r : Levels) → IsLevels p r → GlobalsAct p r → (γ' γ : Thunks) (δ' δ : TypeTrees) → TermsAct p r t e γ' δ' e γ δ
 closed_acts p sound {e} {t} d r l globals γ' γ δ' δ =
     let acts = typed_acts p [] sound made made (λ t. t) (λ t. t) itself_keeps itself_keeps Any (λ c δ' δ h. tt) (none_made p made made) (heads_act p sound) d tt r l (λ x. x) (λ x. x) ty_var ty_var no_types δ' δ γ' γ
-      (record { known = tt; first = none_carried ty_var δ' no_types; second = none_carried ty_var δ no_types; types = tt; names = no_names p r (λ x. x) (λ x. x) no_types γ' γ; globals = globals }) in
+    (record { known = tt; first = none_carried ty_var δ' no_types; second = none_carried ty_var δ no_types; types = tt; names = no_names p r (λ x. x) (λ x. x) no_types γ' γ; globals = globals }) in
     subst (λ t. TermsAct p r t e γ' δ' e γ δ) (closed_stays p no_types (type_kinded d sound tt).has)
     (subst (λ b. TermsAct p r (closed_type t no_types) b γ' δ' b γ δ) (carried_itself e) acts)
 
@@ -92,7 +92,7 @@ up_to_acts : (p : Program) → IsSound (setting_of p) → {e : TermTree} {t : Ty
 up_to_acts p sound {e} d k r l globals γ' γ δ' δ =
     same_acts sound l (as_same (type_kinded d.has sound tt).has k.has (same_turned d.same)) (term_runs p e γ' δ') (term_has p e γ δ) (closed_acts p sound d.has r l globals γ' γ δ' δ)
 
-globals_from : (p : Program) → IsSound (setting_of p) → IsTyped p → (n : ℕ) → GlobalsAct p (acts_from p n)
+pub globals_from : (p : Program) → IsSound (setting_of p) → IsTyped p → (n : ℕ) → GlobalsAct p (acts_from p n)
 unfolding acts_from
 globals_from p sound typed zero d it γ' γ δ' δ i h' h m v al e = at_end p m it.ty v _
 globals_from p sound typed (suc n) d it γ' γ δ' δ i h' h m v al (e_global {n = j} {it = other} found e) =

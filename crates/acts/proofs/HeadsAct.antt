@@ -1,13 +1,12 @@
 -- Constructors and primitives act as themselves.
 use Rattle.std.specs.Prelude.{slice_get}
-use Rattle.std.proofs.Common.{◌≡◌, ◌<◌, ◌≤◌, ◌+◌, ◌⊎◌, inl, inr, ℕ, suc, zero, List, [], ◌∷◌, ◌++◌, length, map, reverse, Some, refl, sym, ap, ◌∙◌, subst, arith}
+use Rattle.std.proofs.Common.{◌≡◌, ◌<◌, ◌+◌, ◌⊎◌, inl, inr, ℕ, suc, zero, List, [], ◌∷◌, ◌++◌, length, map, reverse, Some, refl, sym, ap, ◌∙◌, subst, arith}
 use Rattle.std.proofs.lemmas.List.{length-append, length-reverse}
 use Rattle.std.proofs.lemmas.Option.{slice_get_within}
 use Rattle.chw_types.specs.declared.kind.Kind.{Kind}
-use Rattle.chw_types.specs.declared.kind.Kind.TheVariants.{Nat, Dom, Val, Cir}
-use Rattle.chw_types.specs.declared.kind.Scalar.{Scalar}
-use Rattle.chw_types.specs.declared.kind.Scalar.TheVariants.{U, S, B}
-use Rattle.chw_types.specs.TypeTree.{TypeTree, ty_var, nat_lit, nat_sum, nat_product, scalar, vector, data_of, fun, signal, TypeTrees, no_types, type_and}
+use Rattle.chw_types.specs.declared.kind.Kind.TheVariants.{Nat, Dom, Val}
+use Rattle.chw_types.specs.declared.kind.Scalar.TheVariants.{U, B}
+use Rattle.chw_types.specs.TypeTree.{TypeTree, ty_var, nat_lit, nat_sum, nat_product, scalar, vector, data_of, fun, signal, TypeTrees, no_types}
 use Rattle.chw_types.specs.TypeMoves.{Substitution, sub, sub_all}
 use Rattle.chw_types.specs.Arguments.{list_of, given, arguments}
 use Rattle.chw_prims.specs.declared.prim.Primitive.{Primitive as Prim}
@@ -18,16 +17,16 @@ use Rattle.chw_terms.specs.declared.program.Program.{Program}
 use Rattle.chw_terms.specs.Constructors.{Constructor, con_at}
 use Rattle.chw_terms.specs.TermTree.{con, prim}
 use Rattle.chw_typing.specs.Scopes.{IsTermType}
-use Rattle.chw_typing.specs.HeadTypes.{for_each, from_each, variables, con_type, fields_at}
+use Rattle.chw_typing.specs.HeadTypes.{variables, con_type, fields_at}
 use Rattle.chw_typing.specs.Programs.{IsSound, setting_of}
 use Rattle.chw_typing.proofs.Heads.{con_kind}
 use Rattle.chw_typing.proofs.Lists.{reverse_cons, map_reverse}
 use Rattle.chw_typing.proofs.Patterns.{fields_typed}
 use Rattle.chw_typing.proofs.PutAgreeing.{Agree, put_agreeing}
-use Rattle.chw_meaning.specs.Values.{Value, con_of, con_head, Thunks, none, type_at, closed_type}
+use Rattle.chw_meaning.specs.Values.{con_of, con_head, Thunks, none, type_at, closed_type}
 use Rattle.chw_meaning.specs.Steps.{Step, gives, params_of, fields_of, step}
-use Rattle.chw_meaning.specs.Eval.{Runs, r_gives, e_con}
-use Rattle.acts.specs.Levels.{Levels, later, term_has}
+use Rattle.chw_meaning.specs.Eval.{r_gives, e_con}
+use Rattle.acts.specs.Levels.{Levels, term_has}
 use Rattle.acts.specs.Acts.{AllAct, acts_from}
 use Rattle.acts.proofs.Closing.{closed_stays}
 use Rattle.acts.proofs.Forms.{TermsAct}

@@ -1,14 +1,14 @@
 -- Laws of levels: fewer turns ask less, more values are as good, and what is asked with a turn opens.
-use Rattle.std.proofs.Common.{◌≡◌, ℕ, suc, zero, Bool, List, [], ◌∷◌, reverse, Some, refl, sym, ap, ◌∙◌, subst}
+use Rattle.std.proofs.Common.{◌≡◌, ℕ, suc, zero, List, [], ◌∷◌, reverse, refl, sym, ap, ◌∙◌, subst}
 use Rattle.chw_types.specs.declared.kind.Kind.{Kind}
-use Rattle.chw_types.specs.TypeTree.{TypeTree, ty_var, nat_lit, nat_sum, nat_product, domain, scalar, vector, data_of, fun, signal, for_all, TypeTrees}
+use Rattle.chw_types.specs.TypeTree.{TypeTree, ty_var, nat_lit, nat_sum, nat_product, domain, scalar, vector, data_of, fun, signal, for_all}
 use Rattle.chw_types.specs.TypeMoves.{put}
 use Rattle.chw_terms.specs.declared.program.Program.{Program}
 use Rattle.chw_typing.specs.HeadTypes.{fields_at}
-use Rattle.chw_meaning.specs.Values.{History, Value, bits, con_of, Thunk, Thunks, none, thunk_and}
-use Rattle.chw_meaning.specs.Eval.{plus, Applies, TyApplies}
-use Rattle.acts.specs.Levels.{Level, Levels, later, Alike, First, Second, RunsAct, thunk_runs, thunk_has, ThunksAct}
-use Rattle.acts.specs.Acts.{AllAct, EachAct, BuiltActs, VectorActs, FunctionActs, FamilyActs, act_step, acts_from}
+use Rattle.chw_meaning.specs.Values.{History, Value, Thunk, Thunks, none, thunk_and}
+use Rattle.chw_meaning.specs.Eval.{plus}
+use Rattle.acts.specs.Levels.{Levels, later, Alike, First, Second, RunsAct, thunk_runs, thunk_has, ThunksAct}
+use Rattle.acts.specs.Acts.{AllAct, EachAct, FunctionActs, FamilyActs, act_step, acts_from}
 
 -- at the end nothing is asked
 pub at_end : (p : Program) (m : ℕ) (t : TypeTree) (v : Value) (s : Value → Type 0) → later m (acts_from p zero) zero t v s

@@ -1,9 +1,11 @@
 pub mod Arms
+pub mod Better
 pub mod Carried
 pub mod Cases
 pub mod Closing
 pub mod Fields
 pub mod Forms
+pub mod Given
 pub mod Globals
 pub mod HeadsAct
 pub mod Levels

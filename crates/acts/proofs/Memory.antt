@@ -1,9 +1,9 @@
 -- A block RAM acts as another whose content, addresses and writes act so.
 use Rattle.std.specs.Prelude.{slice_get}
-use Rattle.std.proofs.Common.{◌≡◌, ◌≢◌, ◌<◌, ◌≤◌, ◌+◌, ◌⊎◌, inl, inr, ℕ, suc, zero, Bool, List, [], ◌∷◌, ◌++◌, length, map, reverse, Option, Some, None, refl, sym, ap, ◌∙◌, subst, arith}
+use Rattle.std.proofs.Common.{◌≡◌, ◌≢◌, ◌<◌, ◌≤◌, ◌⊎◌, inl, inr, ℕ, suc, zero, Bool, List, [], ◌∷◌, length, map, reverse, Some, refl, sym, ap, ◌∙◌, subst, arith}
 use Rattle.chw_bits.specs.Bits.{number_of}
 use Rattle.chw_types.specs.declared.kind.Scalar.TheVariants.{U}
-use Rattle.chw_types.specs.TypeTree.{TypeTree, ty_var, scalar, vector, data_of, signal, TypeTrees, no_types, type_and}
+use Rattle.chw_types.specs.TypeTree.{TypeTree, ty_var, scalar, vector, signal, TypeTrees, no_types, type_and}
 use Rattle.chw_types.specs.TypeMoves.{sub}
 use Rattle.chw_types.specs.Arguments.{arguments}
 use Rattle.chw_prims.specs.Schemas.{maybe, pair}
@@ -11,20 +11,19 @@ use Rattle.chw_terms.specs.declared.program.Program.{Program}
 use Rattle.chw_terms.specs.Constructors.{Constructor, con_at}
 use Rattle.chw_typing.specs.HeadTypes.{fields_at}
 use Rattle.chw_typing.specs.Programs.{IsSound, setting_of}
-use Rattle.chw_meaning.specs.Zeros.{IsZero}
 use Rattle.chw_meaning.specs.Values.{History, Value, con_of, Thunk, field, element, Thunks, none, thunk_and, value_of}
-use Rattle.chw_meaning.specs.Steps.{Ram, Step, remembers}
-use Rattle.chw_meaning.specs.Eval.{plus, last_tick, Forces, Runs, r_zero_first, r_zero_outside, r_word, Looks, Word, w_content, w_kept, w_elsewhere, w_written}
+use Rattle.chw_meaning.specs.Steps.{Ram, remembers}
+use Rattle.chw_meaning.specs.Eval.{plus, last_tick, Forces, r_zero_first, r_zero_outside, r_word, Looks, Word, w_content, w_kept, w_elsewhere, w_written}
 use Rattle.chw_meaning.proofs.Once.{same_some}
 use Rattle.acts.specs.Levels.{Levels, later, thunk_has, ThunksAct}
-use Rattle.acts.specs.Acts.{AllAct, BuiltActs, act_step, acts_from}
+use Rattle.acts.specs.Acts.{AllAct, BuiltActs, acts_from}
 use Rattle.acts.proofs.Fields.{field_acts, element_acts}
 use Rattle.acts.proofs.Levels.{IsLevels, from_turns, more, cost, from_signal, to_signal, alike_same}
 use Rattle.acts.proofs.Numbers.{plus_is, room, ended, costs, to_later, Left, left}
 use Rattle.acts.proofs.Steps.{looks_found}
 use Rattle.acts.proofs.Telescopes.{step_has, StepsAct}
 use Rattle.acts.proofs.Tied.{plus_suc, plus_zero}
-use Rattle.acts.proofs.Values.{Fits, value_acts, zero_fits}
+use Rattle.acts.proofs.Values.{value_acts, zero_fits}
 
 -- the constructor of pairs, and of what is there
 pub pair_con : (p : Program) → IsSound (setting_of p) → (it : Constructor) × (con_at p.datas 4 ≡ Some it) × (it.of ≡ 2) × (length it.it.cons ≡ 1) × (it.decl.fields ≡ ty_var 1 ∷ ty_var 0 ∷ [])

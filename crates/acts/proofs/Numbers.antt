@@ -1,12 +1,11 @@
 -- What is left of a number of turns.
-use Rattle.std.proofs.Common.{◌≡◌, ◌<◌, ◌≤◌, ◌+◌, ◌⊎◌, inl, inr, ℕ, suc, zero, List, Bool, refl, sym, ap, ◌∙◌, subst, arith}
-use Rattle.chw_types.specs.declared.kind.Scalar.{Scalar}
-use Rattle.chw_types.specs.TypeTree.{TypeTree, scalar, data_of, TypeTrees}
+use Rattle.std.proofs.Common.{◌≡◌, ◌<◌, ◌≤◌, ◌+◌, ◌⊎◌, inl, inr, ℕ, suc, zero, refl, ap, arith}
+use Rattle.chw_types.specs.TypeTree.{TypeTree}
 use Rattle.chw_terms.specs.declared.program.Program.{Program}
-use Rattle.chw_meaning.specs.Values.{Value, bits}
+use Rattle.chw_meaning.specs.Values.{Value}
 use Rattle.chw_meaning.specs.Eval.{plus}
 use Rattle.acts.specs.Levels.{Levels, later}
-use Rattle.acts.specs.Acts.{BuiltActs, act_step, acts_from}
+use Rattle.acts.specs.Acts.{act_step, acts_from}
 use Rattle.acts.proofs.Levels.{at_end, IsLevels, cost}
 
 pub plus_is : (m n : ℕ) → plus m n ≡ m + n

@@ -1,11 +1,11 @@
 -- A vector with one element replaced: the term that chooses between both acts as itself.
 use Rattle.std.specs.Prelude.{nat_lt}
-use Rattle.std.proofs.Common.{◌≡◌, ◌^◌, ℕ, suc, zero, Bool, true, false, if◌then◌else◌, List, [], ◌∷◌, length, map, reverse, Some, refl, sym, ap, ◌∙◌, subst}
+use Rattle.std.proofs.Common.{◌≡◌, ◌^◌, ℕ, suc, Bool, true, false, if◌then◌else◌, [], ◌∷◌, map, reverse, Some, refl, sym, ap, ◌∙◌, subst}
 use Rattle.std.proofs.lemmas.Bool.{eqb-true}
 use Rattle.chw_bits.specs.Bits.{bits_of}
 use Rattle.chw_types.specs.declared.kind.Kind.TheVariants.{Nat, Val}
 use Rattle.chw_types.specs.declared.kind.Scalar.TheVariants.{U}
-use Rattle.chw_types.specs.TypeTree.{TypeTree, ty_var, nat_lit, scalar, vector, data_of, fun, TypeTrees, no_types}
+use Rattle.chw_types.specs.TypeTree.{TypeTree, ty_var, nat_lit, scalar, vector, fun, TypeTrees, no_types}
 use Rattle.chw_types.specs.TypeMoves.{sub, put_at, up_by}
 use Rattle.chw_types.specs.Arguments.{arguments}
 use Rattle.chw_types.specs.Kinds.{kind_nat}
@@ -14,23 +14,21 @@ use Rattle.chw_prims.specs.declared.prim.Primitive.{Primitive as Prim}
 use Rattle.chw_prims.specs.declared.prim.Primitive.TheVariants.{EqU}
 use Rattle.chw_prims.specs.declared.row.Row.TheVariants.{Compare, Replaced}
 use Rattle.chw_terms.specs.declared.program.Program.{Program}
-use Rattle.chw_terms.specs.declared.term.Pattern.{Pattern}
 use Rattle.chw_terms.specs.declared.term.Pattern.TheVariants.{OfCon}
 use Rattle.chw_terms.specs.Constructors.{Constructor, con_at}
 use Rattle.chw_terms.specs.Evaluated.{evaluated}
-use Rattle.chw_terms.specs.TermTree.{TermTree, var, app, ty_app, prim, lit, case_of, Alts, no_alts, alt}
+use Rattle.chw_terms.specs.TermTree.{TermTree, var, app, ty_app, prim, lit, Alts, no_alts, alt}
 use Rattle.chw_layout.specs.Measured.{closed_value}
-use Rattle.chw_typing.specs.HeadTypes.{fields_at}
 use Rattle.chw_typing.specs.Programs.{IsSound, setting_of}
 use Rattle.chw_meaning.specs.Values.{Value, Thunk, closed, element, Thunks, none, thunk_and, thunk_at, joined}
-use Rattle.chw_meaning.specs.Steps.{gives, each, replacing, replaced, types_3, thunks_3}
+use Rattle.chw_meaning.specs.Steps.{gives, each, replacing, replaced, thunks_3}
 use Rattle.chw_meaning.specs.Eval.{looks, is_only, by_fields, choice, Arm, matches, bound, arm_of}
 use Rattle.chw_meaning.proofs.Once.{same_some}
 use Rattle.acts.specs.Levels.{Levels, later, thunk_runs, thunk_has, ThunksAct}
 use Rattle.acts.specs.Acts.{AllAct, act_step, acts_from}
 use Rattle.acts.specs.Terms.{LooksAlike}
 use Rattle.acts.proofs.Arms.{Seen, seen_bits, seen_con, seen, matches_same}
-use Rattle.acts.proofs.Cases.{looks_acts, ArmActs, ArmOf, alt_acts}
+use Rattle.acts.proofs.Cases.{looks_acts, ArmActs, alt_acts}
 use Rattle.acts.proofs.Fields.{element_acts}
 use Rattle.acts.proofs.Forms.{TermsAct, var_acts, lit_acts, thunk_acts, app_acts, ty_app_acts}
 use Rattle.acts.proofs.Levels.{IsLevels, from_turns, at_later, runs_later}
@@ -99,9 +97,9 @@ replacing_acts p sound r l a k j γ' γ index new old =
         let t = truth_con p sound in
         let f = falsity_con p sound in
         let one = alt_acts {p = p} {r = q} a (OfCon (record { number = 1 }) 0) (var 1) (var 1) (alt (OfCon (record { number = 0 }) 0) (var 2) no_alts) (alt (OfCon (record { number = 0 }) 0) (var 2) no_alts) γ' γ no_types no_types v s.0 (matches_same s.2 (OfCon (record { number = 1 }) 0))
-          (λ hit. beside_acts p q lq a 1 γ' γ _ _ (looks_later l (suc i) a 1 γ' γ new) (bare_bound p q 1 t.0 t.1 t.3 s.2 hit))
-          (alt_acts {p = p} {r = q} a (OfCon (record { number = 0 }) 0) (var 2) (var 2) no_alts no_alts γ' γ no_types no_types v s.0 (matches_same s.2 (OfCon (record { number = 0 }) 0))
-            (λ hit. beside_acts p q lq a 2 γ' γ _ _ (looks_later l (suc i) a 2 γ' γ old) (bare_bound p q 0 f.0 f.1 f.3 s.2 hit)) (λ b e. cc)) arm found in
+        (λ hit. beside_acts p q lq a 1 γ' γ _ _ (looks_later l (suc i) a 1 γ' γ new) (bare_bound p q 1 t.0 t.1 t.3 s.2 hit))
+        (alt_acts {p = p} {r = q} a (OfCon (record { number = 0 }) 0) (var 2) (var 2) no_alts no_alts γ' γ no_types no_types v s.0 (matches_same s.2 (OfCon (record { number = 0 }) 0))
+        (λ hit. beside_acts p q lq a 2 γ' γ _ _ (looks_later l (suc i) a 2 γ' γ old) (bare_bound p q 0 f.0 f.1 f.3 s.2 hit)) (λ b e. cc)) arm found in
         record { value = s.0; has_value = s.1; second = one.second; is_arm = one.is_arm; acts = one.acts }
 
 if_acts : (p : Program) (r : Levels) (t : TypeTree) (b : Bool) (x' x y' y : Thunk) → ThunksAct p r t x' x → ThunksAct p r t y' y → ThunksAct p r t (if b then x' else y') (if b then x else y)

@@ -1,17 +1,16 @@
 -- Each primitive acts as itself, a line for each line of their table.
-use Rattle.std.specs.Prelude.{nat_lt}
-use Rattle.std.proofs.Common.{◌≡◌, ◌+◌, ◌-◌, ◌^◌, ◌%◌, ℕ, suc, zero, Bool, true, false, if◌then◌else◌, List, [], ◌∷◌, length, map, reverse, Option, Some, None, refl, sym, ap, ◌∙◌, subst}
+use Rattle.std.proofs.Common.{◌≡◌, ◌+◌, ◌-◌, ◌%◌, ℕ, suc, zero, Bool, true, false, List, [], ◌∷◌, length, map, reverse, Option, Some, None, refl, sym, ap, ◌∙◌, subst}
 use Rattle.chw_bits.specs.Bits.{bits_of}
 use Rattle.chw_types.specs.declared.kind.Kind.{Kind}
-use Rattle.chw_types.specs.declared.kind.Kind.TheVariants.{Nat, Dom, Val, Cir}
+use Rattle.chw_types.specs.declared.kind.Kind.TheVariants.{Nat, Dom, Val}
 use Rattle.chw_types.specs.declared.kind.Scalar.{Scalar}
-use Rattle.chw_types.specs.declared.kind.Scalar.TheVariants.{U, S, B}
-use Rattle.chw_types.specs.TypeTree.{TypeTree, ty_var, nat_lit, nat_sum, nat_product, domain, scalar, vector, data_of, fun, signal, for_all, TypeTrees, no_types, type_and}
+use Rattle.chw_types.specs.declared.kind.Scalar.TheVariants.{U, B}
+use Rattle.chw_types.specs.TypeTree.{TypeTree, ty_var, nat_lit, nat_sum, nat_product, scalar, vector, data_of, fun, signal, TypeTrees, no_types}
 use Rattle.chw_types.specs.TypeMoves.{sub}
-use Rattle.chw_types.specs.Arguments.{list_of, arguments}
+use Rattle.chw_types.specs.Arguments.{arguments}
 use Rattle.chw_prims.specs.declared.prim.Primitive.{Primitive as Prim}
 use Rattle.chw_prims.specs.declared.row.Row.{Row}
-use Rattle.chw_prims.specs.declared.row.Row.TheVariants.{Binary, WideSum, WideProduct, Unary, Shift, Compare, Extend, Truncate, Cut, Joined, Reduce, Packed, Unpacked, Mapping, Applying, Constant, Delay, Memory, Crossing, Element, ElementAt, Replaced, Mapped, Zipped, FoldedLeft, FoldedRight, Generated, Replicated, Appended, Concatenated, Taken, Dropped, Reversed, Rotated}
+use Rattle.chw_prims.specs.declared.row.Row.TheVariants.{Binary, WideSum, WideProduct, Unary, Shift, Compare, Extend, Truncate, Cut, Joined, Reduce, Packed, Unpacked, Mapping, Applying, Constant, Delay, Memory, Crossing, Element, ElementAt, Mapped, Zipped, FoldedLeft, FoldedRight, Generated, Replicated, Appended, Concatenated, Taken, Dropped, Reversed, Rotated}
 use Rattle.chw_prims.specs.Schemas.{bool, maybe, pair, row_of, row_type, schema_type}
 use Rattle.prim_bits.specs.Widths.{argument_widths}
 use Rattle.chw_terms.specs.declared.program.Program.{Program}
@@ -19,15 +18,14 @@ use Rattle.chw_terms.specs.Constructors.{Constructor, con_at}
 use Rattle.chw_terms.specs.TermTree.{prim}
 use Rattle.chw_layout.specs.Datum.{word}
 use Rattle.chw_layout.specs.Measured.{closed_value}
-use Rattle.chw_typing.specs.HeadTypes.{for_each, from_each, fields_at}
+use Rattle.chw_typing.specs.HeadTypes.{for_each, from_each}
 use Rattle.chw_typing.specs.Programs.{IsSound, setting_of}
 use Rattle.chw_typing.proofs.Kinded.{schema_kind}
-use Rattle.chw_meaning.specs.Values.{Value, bits, con_of, vec_of, prim_head, Thunk, applied, element, known, Thunks, none, thunk_and, closed_type, joined}
-use Rattle.chw_meaning.specs.Steps.{Step, gives, goes_to, samples, delays, remembers, types_asked, thunks_asked, each, each_from, folded_left, folded_right, concatenated, replaced, at_index, naturals, on_words, types_2, types_3, types_4, thunks_1, thunks_2, thunks_3, in_domain, by_row, step}
+use Rattle.chw_meaning.specs.Values.{Value, bits, con_of, vec_of, prim_head, Thunk, applied, element, known, Thunks, none, closed_type, joined}
+use Rattle.chw_meaning.specs.Steps.{Step, gives, goes_to, samples, delays, remembers, types_asked, thunks_asked, each, each_from, folded_left, folded_right, concatenated, at_index, naturals, on_words, thunks_1, thunks_2, thunks_3, in_domain, by_row, step}
 use Rattle.chw_meaning.specs.Eval.{truth_of, result_by, result, e_prim}
 use Rattle.acts.specs.Levels.{Levels, later, term_has, thunk_has, ThunksAct}
 use Rattle.acts.specs.Acts.{AllAct, acts_from}
-use Rattle.acts.specs.Terms.{Kinded}
 use Rattle.acts.proofs.Closing.{closed_stays}
 use Rattle.acts.proofs.Fields.{element_acts}
 use Rattle.acts.proofs.Forms.{TermsAct, bits_act, applied_acts}
@@ -102,7 +100,6 @@ pub each_step : (p : Program) (n : ℕ) (w t : TypeTree) (size : ℕ) (f' f : �
 each_step p n w t size f' f acts = vector_step (from_turns p n) w t (each_from zero size f') (each_from zero size f) (each_from_acts t f' f acts zero size)
 
 module _ (p : Program) (sound : IsSound (setting_of p)) (q : Prim) where
-
   pub binary_line : (x : Scalar) → row_of q ≡ (Binary x) → RowActs p q (Binary x) (scalar x (ty_var 0)) (Nat ∷ []) (scalar x (ty_var 0) ∷ scalar x (ty_var 0) ∷ [])
   unfolding sub
   binary_line x e n ts xs' xs = word_line p q (Binary x) e (λ b. refl) n x (closed_type (ty_var 0) ts) (naturals ts) (map (λ t. closed_type t ts) (scalar x (ty_var 0) ∷ scalar x (ty_var 0) ∷ [])) xs' xs tt

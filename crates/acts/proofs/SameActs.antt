@@ -1,6 +1,6 @@
 -- Types that are the same up to naturals act the same.
 use Rattle.std.specs.Prelude.{slice_get}
-use Rattle.std.proofs.Common.{◌≡◌, ◌⊎◌, ℕ, suc, zero, true, List, [], ◌∷◌, ◌++◌, length, map, reverse, Some, refl, sym, ap, ◌∙◌, subst}
+use Rattle.std.proofs.Common.{◌≡◌, ◌⊎◌, ℕ, suc, zero, true, List, [], ◌∷◌, ◌++◌, length, map, reverse, Some, refl, sym, subst}
 use Rattle.chw_types.specs.declared.kind.Kind.{Kind}
 use Rattle.chw_types.specs.declared.kind.Kind.TheVariants.{Nat, Val}
 use Rattle.chw_types.specs.declared.declarations.Data.{Data}
@@ -26,10 +26,10 @@ use Rattle.chw_typing.proofs.Kinded.{function_parts, bound_part}
 use Rattle.chw_typing.proofs.Lists.{reverse_cons}
 use Rattle.chw_typing.proofs.OneType.{put_same_of_kinds}
 use Rattle.chw_typing.proofs.Patterns.{are_of_terms, fields_typed, constructor_arguments}
-use Rattle.chw_meaning.specs.Values.{History, Value, Thunk, Thunks, none, thunk_and}
+use Rattle.chw_meaning.specs.Values.{History, Value, Thunks, none, thunk_and}
 use Rattle.chw_meaning.specs.Eval.{plus}
-use Rattle.acts.specs.Levels.{Level, Levels, later, Alike, First, Second, RunsAct, thunk_runs, thunk_has, ThunksAct}
-use Rattle.acts.specs.Acts.{AllAct, EachAct, BuiltActs, VectorActs, FunctionActs, FamilyActs, act_step, acts_from}
+use Rattle.acts.specs.Levels.{Levels, later, Alike, First, Second, RunsAct, thunk_runs, thunk_has}
+use Rattle.acts.specs.Acts.{AllAct, EachAct, act_step, acts_from}
 use Rattle.acts.proofs.Levels.{at_end, later_plus, IsLevels, at_levels}
 
 -- closed types that are the same, with kinds
@@ -67,15 +67,16 @@ each_reverse p [] (u ∷ us) h = absurd h
 each_reverse p (t ∷ ts) [] h = absurd h
 
 -- arguments of the parameters' kinds, as closed types
-arguments_put : (p : Program) (params : List Kind) (ts : TypeTrees) → KindsOf p.datas (length p.domains) [] ts params → Puts p.datas (length p.domains) (arguments ts) (reverse params) []
+pub arguments_put : (p : Program) (params : List Kind) (ts : TypeTrees) → KindsOf p.datas (length p.domains) [] ts params → Puts p.datas (length p.domains) (arguments ts) (reverse params) []
 arguments_put p params ts d x k e = let a = kinds_of_arguments p.datas (length p.domains) [] params ts d x k e in (a, closed_small a)
 
 each_field : (p : Program) → IsSound (setting_of p) → (params : List Kind) (fs : List TypeTree) (ts us : TypeTrees) → ((i : ℕ) (f : TypeTree) → slice_get fs i ≡ Some f → IsTermType (setting_of p) (reverse params) f) → KindsOf p.datas (length p.domains) [] ts params → KindsOf p.datas (length p.domains) [] us params → SameAll ts us → EachSame p (map (λ f. sub f (arguments ts)) fs) (map (λ f. sub f (arguments us)) fs)
 each_field p sound params [] ts us typed d e x = tt
 each_field p sound params (f ∷ fs) ts us typed d e x =
-    let k = typed 0 f refl in
-    (record { first = k.kind; second = k.kind; has_first = kind_put k.has (arguments ts) [] (arguments_put p params ts d); has_second = kind_put k.has (arguments us) [] (arguments_put p params us e); same = same_put (same_self f) (arguments ts) (arguments us) (same_arguments ts us x) natural },
-    each_field p sound params fs ts us (λ i g. typed (suc i) g) d e x)
+    let k = typed 0 f refl in (
+      record { first = k.kind; second = k.kind; has_first = kind_put k.has (arguments ts) [] (arguments_put p params ts d); has_second = kind_put k.has (arguments us) [] (arguments_put p params us e); same = same_put (same_self f) (arguments ts) (arguments us) (same_arguments ts us x) natural },
+      each_field p sound params fs ts us (λ i g. typed (suc i) g) d e x,
+    )
   where
     natural : (y : ℕ) → InSums f y ⊎ InSums f y → is_natural (arguments ts y) ≡ true
     natural y z = nat_natural (are_of_terms (setting_of p) sound) (kinds_of_arguments p.datas (length p.domains) [] params ts d y Nat (sum_slot (typed 0 f refl).has (typed 0 f refl).has y z)) refl

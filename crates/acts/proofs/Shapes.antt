@@ -1,5 +1,5 @@
 -- A primitive on as many types and thunks as it takes.
-use Rattle.std.proofs.Common.{◌≡◌, ℕ, List, [], ◌∷◌, map}
+use Rattle.std.proofs.Common.{ℕ, List, [], ◌∷◌, map}
 use Rattle.chw_types.specs.TypeTree.{TypeTree, ty_var, nat_lit, nat_sum, nat_product, domain, scalar, vector, data_of, fun, signal, for_all, TypeTrees, no_types, type_and}
 use Rattle.chw_terms.specs.declared.program.Program.{Program}
 use Rattle.chw_meaning.specs.Values.{Thunk, Thunks, none, thunk_and, closed_type}

@@ -1,21 +1,19 @@
 -- What a primitive does with thunks that act so acts so.
-use Rattle.std.proofs.Common.{◌≡◌, ◌<◌, ◌≤◌, ◌+◌, ◌⊎◌, inl, inr, ℕ, suc, zero, min, Bool, List, [], ◌∷◌, length, map, reverse, Option, Some, None, refl, sym, ap, ◌∙◌, subst, arith}
+use Rattle.std.proofs.Common.{◌≡◌, ◌<◌, ◌≤◌, ◌⊎◌, inl, inr, ℕ, suc, zero, min, Bool, List, [], ◌∷◌, refl, subst, arith}
 use Rattle.chw_bits.specs.Bits.{number_of}
-use Rattle.chw_clock.specs.Histories.{taken}
 use Rattle.chw_types.specs.declared.kind.Scalar.{Scalar}
-use Rattle.chw_types.specs.TypeTree.{TypeTree, ty_var, nat_lit, nat_sum, nat_product, domain, scalar, vector, data_of, fun, signal, for_all, TypeTrees}
+use Rattle.chw_types.specs.TypeTree.{TypeTree, ty_var, nat_lit, nat_sum, nat_product, domain, scalar, vector, data_of, fun, signal, for_all}
 use Rattle.chw_prims.specs.declared.prim.Primitive.{Primitive as Prim}
-use Rattle.prim_bits.specs.Values.{value_of as word_value}
 use Rattle.chw_terms.specs.declared.program.Program.{Program}
 use Rattle.chw_meaning.specs.Values.{History, Value, bits, vec_of, Thunk, applied, element, sample, Thunks, none, thunk_and, joined}
 use Rattle.chw_meaning.specs.Steps.{Step, gives, goes_to, computes, samples, delays, looks_up, stuck, each_from, folded_left, folded_right, concatenated, at_index}
-use Rattle.chw_meaning.specs.Eval.{plus, result, dom, Forces, Applies, Runs, r_gives, r_goes_to, r_computes, r_samples, r_first, r_later, r_looks_up, Looks, l_empty, l_bits, Words, no_words, word_and}
-use Rattle.acts.specs.Levels.{Levels, later, Alike, thunk_runs, thunk_has, ThunksAct}
-use Rattle.acts.specs.Acts.{AllAct, EachAct, act_step, acts_from}
+use Rattle.chw_meaning.specs.Eval.{plus, result, Forces, r_gives, r_goes_to, r_computes, r_samples, r_first, r_later, r_looks_up, Looks, l_empty, l_bits, Words, no_words, word_and}
+use Rattle.acts.specs.Levels.{Levels, later, thunk_has, ThunksAct}
+use Rattle.acts.specs.Acts.{AllAct, EachAct, acts_from}
 use Rattle.acts.proofs.Fields.{element_acts}
 use Rattle.acts.proofs.Forms.{called, call_acts, applied_acts, vector_acts, sample_acts}
-use Rattle.acts.proofs.Levels.{at_end, IsLevels, from_turns, at_levels, more, cost, from_signal, to_signal, alike_same, alike_at}
-use Rattle.acts.proofs.Numbers.{plus_is, room, ended, costs, Left, left}
+use Rattle.acts.proofs.Levels.{at_end, IsLevels, from_turns, at_levels, more, from_signal, to_signal, alike_same, alike_at}
+use Rattle.acts.proofs.Numbers.{plus_is, room, ended, costs, left}
 use Rattle.acts.proofs.Telescopes.{step_has, StepsAct}
 
 pub stuck_acts : {p : Program} (r : Levels) (t : TypeTree) (s : Step) → StepsAct p r t stuck s

@@ -1,5 +1,5 @@
 -- A constructor or primitive acts as itself where it does with all its arguments.
-use Rattle.std.proofs.Common.{◌≡◌, ◌<◌, ◌≤◌, ◌+◌, ℕ, suc, zero, Bool, true, false, ◌||◌, if◌then◌else◌, List, [], ◌∷◌, ◌++◌, length, map, reverse, Some, refl, sym, ap, ◌∙◌, subst, arith}
+use Rattle.std.proofs.Common.{◌≡◌, ◌<◌, ◌≤◌, ◌+◌, ℕ, suc, zero, Bool, true, false, ◌||◌, if◌then◌else◌, List, [], ◌∷◌, ◌++◌, length, map, reverse, refl, sym, ap, ◌∙◌, subst, arith}
 use Rattle.std.specs.Prelude.{nat_lt}
 use Rattle.std.proofs.lemmas.Bool.{lt-ltb, le-ltb}
 use Rattle.std.proofs.lemmas.List.{append-nil, length-map}
@@ -14,14 +14,14 @@ use Rattle.chw_typing.specs.HeadTypes.{for_each, from_each}
 use Rattle.chw_typing.specs.Programs.{setting_of}
 use Rattle.chw_typing.proofs.Lists.{turned_onto}
 use Rattle.chw_meaning.specs.Values.{History, Value, Head, partial, Thunk, Thunks, none, thunk_and, count_of, type_at, closed_type}
-use Rattle.chw_meaning.specs.Steps.{Step, gives, stuck, takes_types, takes_thunks, lacks, saturated, step}
+use Rattle.chw_meaning.specs.Steps.{Step, gives, takes_types, takes_thunks, lacks, saturated, step}
 use Rattle.chw_meaning.specs.Eval.{Applies, a_runs, TyApplies, t_runs, Runs, r_gives}
-use Rattle.acts.specs.Levels.{Levels, later, First, Second, RunsAct, thunk_runs, thunk_has, ThunksAct}
-use Rattle.acts.specs.Acts.{AllAct, FunctionActs, FamilyActs, act_step, acts_from}
+use Rattle.acts.specs.Levels.{Levels, later, First, Second, RunsAct, ThunksAct}
+use Rattle.acts.specs.Acts.{AllAct, acts_from}
 use Rattle.acts.specs.Terms.{Kinded}
 use Rattle.acts.proofs.Closing.{opens_as}
 use Rattle.acts.proofs.Forms.{called, ty_called}
-use Rattle.acts.proofs.Levels.{at_end, IsLevels, from_turns, at_levels, at_later, cost, more, all_later}
+use Rattle.acts.proofs.Levels.{IsLevels, from_turns, at_levels, at_later, cost, more, all_later}
 
 -- what a step gives
 abbrev pub step_runs : Program → Step → First

@@ -1,13 +1,10 @@
 -- Typed terms act as themselves, as two sides carry them.
-use Rattle.std.specs.Prelude.{slice_get, ◌==◌}
-use Rattle.std.proofs.Common.{◌≡◌, ◌≤◌, ℕ, suc, zero, Bool, true, false, if◌then◌else◌, List, [], ◌∷◌, ◌++◌, length, map, reverse, Option, Some, None, refl, sym, ap, ◌∙◌, subst}
+use Rattle.std.specs.Prelude.{slice_get}
+use Rattle.std.proofs.Common.{◌≡◌, ℕ, suc, zero, Bool, true, false, List, [], ◌∷◌, length, map, reverse, Some, refl, sym, ap, ◌∙◌, subst}
 use Rattle.std.proofs.lemmas.Bool.{eqb-true}
-use Rattle.std.proofs.lemmas.List.{length-map}
 use Rattle.chw_types.specs.declared.kind.Kind.{Kind}
-use Rattle.chw_types.specs.declared.kind.Scalar.{Scalar}
-use Rattle.chw_types.specs.TypeTree.{TypeTree, nat_lit, scalar, vector, data_of, fun, for_all, TypeTrees, type_and}
-use Rattle.chw_types.specs.TypeMoves.{Renaming, lift, lift_by, Substitution, up, sub, sub_all, put}
-use Rattle.chw_types.specs.SameTypes.{SameTypes}
+use Rattle.chw_types.specs.TypeTree.{TypeTree, nat_lit, scalar, data_of, TypeTrees, type_and}
+use Rattle.chw_types.specs.TypeMoves.{Renaming, lift, lift_by, Substitution, up, sub}
 use Rattle.chw_types.proofs.SameLaws.{same_turned}
 use Rattle.chw_prims.specs.declared.prim.Primitive.{Primitive as Prim}
 use Rattle.chw_prims.specs.Schemas.{schema_type}
@@ -17,30 +14,29 @@ use Rattle.chw_terms.specs.declared.term.Pattern.{Pattern}
 use Rattle.chw_terms.specs.declared.term.Pattern.TheVariants.{OfCon, OfLit, Default}
 use Rattle.chw_terms.specs.Constructors.{Constructor, con_at}
 use Rattle.chw_terms.specs.Evaluated.{evaluated}
-use Rattle.chw_terms.specs.TermTree.{TermTree, var, global, made, lam, app, ty_lam, ty_app, letrec, con, prim, lit, vec_lit, case_of, Terms, no_terms, term_and, Group, no_bindings, bind, Alts, no_alts, alt, binders, size_of}
+use Rattle.chw_terms.specs.TermTree.{TermTree, global, ty_app, con, prim, case_of, Terms, Group, Alts, no_alts, alt, binders, size_of}
 use Rattle.chw_terms.proofs.TypesEvaluated.{evaluated_twice}
-use Rattle.chw_typing.specs.Scopes.{Setting, HasKind, IsTermType, AreTermTypes, AreSame, under_binder, with_more, declared}
-use Rattle.chw_typing.specs.HeadTypes.{con_type, IsLookedAt, fields_at, PatternOf, of_con, of_lit, of_any}
+use Rattle.chw_typing.specs.Scopes.{HasKind, AreTermTypes, AreSame, under_binder, with_more, declared}
+use Rattle.chw_typing.specs.HeadTypes.{con_type, IsLookedAt, PatternOf, of_con, of_lit, of_any}
 use Rattle.chw_typing.specs.Programs.{IsSound, setting_of}
-use Rattle.chw_typing.specs.Typing.{count, Binds, HasType, h_var, h_global, h_made, h_lam, h_app, h_ty_lam, h_ty_app, h_letrec, h_con, h_prim, h_lit, h_vec, h_case, AreBound, none_bound, bound_and, AllHave, none_have, have_and, AllGive, none_give, give_and}
+use Rattle.chw_typing.specs.Typing.{count, HasType, h_var, h_global, h_made, h_lam, h_app, h_ty_lam, h_ty_app, h_letrec, h_con, h_prim, h_lit, h_vec, h_case, AreBound, none_bound, bound_and, AllHave, none_have, have_and, AllGive, none_give, give_and}
 use Rattle.chw_typing.proofs.EvaluatedTypes.{kind_evaluated}
 use Rattle.chw_typing.proofs.Heads.{con_kind}
 use Rattle.chw_typing.proofs.Kinded.{term_type, function_parts, function_takes, typed_under, typed_more, bound_typed, schema_kind, type_kinded}
 use Rattle.chw_typing.proofs.Lists.{found_in_map, found_before_map}
 use Rattle.chw_typing.proofs.Patterns.{pattern_sums}
-use Rattle.chw_meaning.specs.Values.{History, Value, Thunk, closed, member, Thunks, none, thunk_and, type_at, closed_type, joined, in_group, body_at, fields_from}
-use Rattle.chw_meaning.specs.Eval.{Choice, goes_on, takes, looks, is_only, by_fields, choice, Arm, matches, bound, arm_of, Evals, e_con, e_prim}
-use Rattle.chw_meaning.proofs.Once.{same_some}
-use Rattle.acts.specs.Levels.{Levels, later, RunsAct, term_runs, term_has, thunk_runs, thunk_has, ThunksAct}
+use Rattle.chw_meaning.specs.Values.{Value, Thunk, closed, Thunks, thunk_and, type_at, closed_type, joined, in_group, body_at, fields_from}
+use Rattle.chw_meaning.specs.Eval.{is_only, by_fields, Arm, bound, arm_of}
+use Rattle.acts.specs.Levels.{Levels, later, term_runs, term_has, ThunksAct}
 use Rattle.acts.specs.Acts.{act_step, acts_from}
 use Rattle.acts.specs.Terms.{TiedBy, Kinded, setting_with}
-use Rattle.acts.proofs.Arms.{bound_fields, Seen, seen, matches_same, pattern_tied, only_tied}
+use Rattle.acts.proofs.Arms.{Seen, seen, matches_same, pattern_tied, only_tied}
 use Rattle.acts.proofs.Carried.{carried, carried_all, carried_group, carried_alts, size_carried, size_declared, KeepsValues, Carries, carries_type, type_carried}
 use Rattle.acts.proofs.Cases.{goes_on_acts, takes_acts, looks_acts, ArmActs, ArmOf, alt_acts}
 use Rattle.acts.proofs.Closing.{closed_kind, closed_same, closed_stays, opens_as, put_closes}
-use Rattle.acts.proofs.Forms.{TermsAct, var_acts, lit_acts, thunk_acts, app_acts, lam_acts, ty_lam_acts, ty_app_acts, MembersAct, SidesAct, GroupActs, members_act, letrec_acts, EachTermActs, vec_acts}
+use Rattle.acts.proofs.Forms.{TermsAct, var_acts, lit_acts, thunk_acts, app_acts, lam_acts, ty_lam_acts, ty_app_acts, MembersAct, SidesAct, members_act, letrec_acts, EachTermActs, vec_acts}
 use Rattle.acts.proofs.Levels.{IsLevels, at_levels, at_later, runs_later}
-use Rattle.acts.proofs.SameActs.{Same, same_acts}
+use Rattle.acts.proofs.SameActs.{same_acts}
 use Rattle.acts.proofs.Tied.{tied_later, tied_and, tied_type, tied_group}
 
 -- what is typed beside made definitions has the same kinds without them
@@ -77,13 +73,13 @@ MadeAct p types o' o R =
 pub record Tied
     (p : Program) (R : TypeTrees → TypeTrees → Type 0) (kinds : List Kind) (vars : List TypeTree) (ρ' ρ : Renaming) (τ' τ : Substitution) (r : Levels)
     (δ0 δ' δ : TypeTrees) (γ' γ : Thunks) : Type 0
-    where
-  pub known : Kinded p kinds δ0
-  pub first : Carries kinds τ' δ' δ0
-  pub second : Carries kinds τ δ δ0
-  pub types : R δ' δ
-  pub names : TiedBy p r vars ρ' ρ δ0 γ' γ
-  pub globals : GlobalsAct p r
+  where
+    pub known : Kinded p kinds δ0
+    pub first : Carries kinds τ' δ' δ0
+    pub second : Carries kinds τ δ δ0
+    pub types : R δ' δ
+    pub names : TiedBy p r vars ρ' ρ δ0 γ' γ
+    pub globals : GlobalsAct p r
 
 -- the same with fewer turns, and with other names
 with_names : {p : Program} {R : TypeTrees → TypeTrees → Type 0} {kinds : List Kind} {vars : List TypeTree} {ρ' ρ : Renaming} {τ' τ : Substitution} {r : Levels} {δ0 δ' δ : TypeTrees} {γ' γ : Thunks} → IsLevels p r → (i : ℕ) → Tied p R kinds vars ρ' ρ τ' τ r δ0 δ' δ γ' γ → (new : List TypeTree) (π' π : Renaming) (ε' ε : Thunks) → TiedBy p (later i r) new π' π δ0 ε' ε → Tied p R kinds new π' π τ' τ (later i r) δ0 δ' δ ε' ε
@@ -239,10 +235,10 @@ module _ (p : Program) (made_types : List TypeTree) (sound : IsSound (setting_wi
         (λ i v set arm asked found.
         let s = seen u δ0 v set looked asked in
         let one = alt_acts (closed_type t δ0) q (carried o' f' a (lift_by n ρ') τ') (carried o f a (lift_by n ρ) τ) (carried_alts o' f' more ρ' τ') (carried_alts o f more ρ τ) γ' γ δ' δ v s.0 (matches_same s.2 q)
-          (λ hit. typed_acts da inner (later (suc i) r) (at_later (suc i) l) (lift_by n ρ') (lift_by n ρ) τ' τ δ0 δ' δ (joined (bound v q) γ') (joined (bound s.0 q) γ)
-          (with_names l (suc i) h (with_more bnd vars) (lift_by n ρ') (lift_by n ρ) (joined (bound v q) γ') (joined (bound s.0 q) γ)
-          (pattern_tied (at_later (suc i) l) base kinds δ0 h.known bs.pattern j ku bnd vars bs.same bnd_typed ρ' ρ γ' γ (tied_later l (suc i) vars ρ' ρ δ0 γ' γ h.names) s.2 refl hit)))
-          (alts_act alts j ku k kt g (later (suc i) r) (at_later (suc i) l) ρ' ρ τ' τ δ0 δ' δ γ' γ (tied_falls l (suc i) h) v s.0 s.2) arm found in
+        (λ hit. typed_acts da inner (later (suc i) r) (at_later (suc i) l) (lift_by n ρ') (lift_by n ρ) τ' τ δ0 δ' δ (joined (bound v q) γ') (joined (bound s.0 q) γ)
+        (with_names l (suc i) h (with_more bnd vars) (lift_by n ρ') (lift_by n ρ) (joined (bound v q) γ') (joined (bound s.0 q) γ)
+        (pattern_tied (at_later (suc i) l) base kinds δ0 h.known bs.pattern j ku bnd vars bs.same bnd_typed ρ' ρ γ' γ (tied_later l (suc i) vars ρ' ρ δ0 γ' γ h.names) s.2 refl hit)))
+        (alts_act alts j ku k kt g (later (suc i) r) (at_later (suc i) l) ρ' ρ τ' τ δ0 δ' δ γ' γ (tied_falls l (suc i) h) v s.0 s.2) arm found in
         record { value = s.0; has_value = s.1; second = one.second; is_arm = one.is_arm; acts = one.acts })
 
     bound_acts : {kinds : List Kind} {vars : List TypeTree} {k : Kind} {b : Group} → AreBound (setting_with p made_types) kinds vars k b → AreTermTypes (setting_with p made_types) kinds vars → (r : Levels) → IsLevels p r → (ρ' ρ : Renaming) (τ' τ : Substitution) (δ0 δ' δ : TypeTrees) (γ' γ : Thunks) → Tied p R kinds vars ρ' ρ τ' τ r δ0 δ' δ γ' γ → (i : ℕ) (u : TypeTree) → slice_get (map (λ t. closed_type t δ0) (declared b)) i ≡ Some u → SideOf p r i u (carried_group o' f' b ρ' τ') γ' δ' (carried_group o f b ρ τ) γ δ

@@ -1,5 +1,5 @@
 -- Data values act as themselves.
-use Rattle.std.specs.Prelude.{slice_get, replicate}
+use Rattle.std.specs.Prelude.{slice_get}
 use Rattle.std.proofs.Common.{◌≡◌, ◌+◌, ℕ, suc, zero, Bool, List, [], ◌∷◌, ◌++◌, length, map, reverse, Some, refl, sym, ap, ◌∙◌, subst, arith}
 use Rattle.std.proofs.lemmas.List.{append-nil}
 use Rattle.chw_types.specs.declared.kind.Scalar.{Scalar}
@@ -15,12 +15,12 @@ use Rattle.chw_layout.specs.Encodes.{first_constructor, IsValueOf, scalar_value,
 use Rattle.chw_typing.specs.HeadTypes.{fields_at}
 use Rattle.chw_typing.proofs.Lists.{turned_onto}
 use Rattle.chw_meaning.specs.Zeros.{IsZero, zero_scalar, zero_vector, zero_data, AreZeros, no_zeros, zeros_and, AreZeroFields, no_zero_field, zero_field_and}
-use Rattle.chw_meaning.specs.Values.{History, Value, bits, con_of, Thunk, known, Thunks, none, thunk_and, knowns, knowns_back, value_of}
-use Rattle.chw_meaning.specs.Eval.{Forces, f_known}
+use Rattle.chw_meaning.specs.Values.{Value, con_of, known, Thunks, none, thunk_and, knowns, knowns_back, value_of}
+use Rattle.chw_meaning.specs.Eval.{f_known}
 use Rattle.acts.specs.Levels.{Levels, later, thunk_has, ThunksAct}
-use Rattle.acts.specs.Acts.{AllAct, EachAct, BuiltActs, act_step, acts_from}
+use Rattle.acts.specs.Acts.{AllAct, EachAct, acts_from}
 use Rattle.acts.proofs.Forms.{bits_act, vector_acts}
-use Rattle.acts.proofs.Levels.{at_end, IsLevels, from_turns, at_levels, cost, all_later}
+use Rattle.acts.proofs.Levels.{at_end, IsLevels, from_turns, at_levels, all_later}
 
 mutual
   -- the data value has the form of values of the closed type, whatever its widths and lengths

@@ -1,23 +1,22 @@
 -- What a thunk yields, a thunk as which it acts yields too.
 use Rattle.std.specs.Prelude.{slice_get}
-use Rattle.std.proofs.Common.{◌≡◌, ◌<◌, ◌+◌, ℕ, suc, zero, List, [], ◌∷◌, ◌++◌, length, map, reverse, Some, refl, sym, ap, ◌∙◌, subst, arith}
+use Rattle.std.proofs.Common.{◌≡◌, ◌<◌, ℕ, suc, zero, List, [], ◌∷◌, ◌++◌, length, map, reverse, Some, refl, sym, ap, ◌∙◌, subst, arith}
 use Rattle.std.proofs.lemmas.List.{append-nil, length-reverse, length-map}
-use Rattle.chw_types.specs.TypeTree.{TypeTree, scalar, vector, data_of, TypeTrees}
+use Rattle.chw_types.specs.TypeTree.{TypeTree}
 use Rattle.chw_types.specs.TypeMoves.{Substitution, sub}
-use Rattle.chw_types.specs.Arguments.{arguments}
 use Rattle.chw_terms.specs.declared.program.Program.{Program}
 use Rattle.chw_terms.specs.Constructors.{Constructor, con_at}
-use Rattle.chw_layout.specs.Datum.{Datum, word, Datums}
+use Rattle.chw_layout.specs.Datum.{Datum, Datums}
 use Rattle.chw_typing.specs.HeadTypes.{fields_at}
 use Rattle.chw_typing.proofs.Lists.{turned_onto}
-use Rattle.chw_meaning.specs.Values.{History, Value, bits, con_of, vec_of, Thunk, Thunks, none, thunk_and, thunk_at}
+use Rattle.chw_meaning.specs.Values.{History, Value, bits, con_of, vec_of, Thunk, Thunks, none, thunk_and}
 use Rattle.chw_meaning.specs.Eval.{plus, Forces}
 use Rattle.chw_meaning.specs.Gives.{Yields, y_empty, y_value, ValueYields, v_word, v_elements, v_built, YieldEach, yield_none, yield_each, YieldFields, yield_no_field, yield_field}
 use Rattle.chw_meaning.proofs.Once.{same_some}
-use Rattle.acts.specs.Levels.{Levels, later, thunk_has, ThunksAct}
+use Rattle.acts.specs.Levels.{later, thunk_has, ThunksAct}
 use Rattle.acts.specs.Acts.{AllAct, EachAct, act_step, acts_from}
 use Rattle.acts.proofs.Levels.{alike_same}
-use Rattle.acts.proofs.Numbers.{plus_is, Left, left}
+use Rattle.acts.proofs.Numbers.{plus_is, left}
 use Rattle.acts.proofs.Tied.{part_acts}
 
 -- what the first thunk has at a history acts as what the second has there
@@ -33,7 +32,7 @@ slot_after [] y zs = refl
 slot_after (x ∷ xs) y zs = slot_after xs y zs
 
 -- the type of a field, counted from the last one
-field_slot : (f : TypeTree) (fs : List TypeTree) (σ : Substitution) (rest : List TypeTree) → slice_get (reverse (map (λ f. sub f σ) (f ∷ fs)) ++ rest) (length fs) ≡ Some (sub f σ)
+pub field_slot : (f : TypeTree) (fs : List TypeTree) (σ : Substitution) (rest : List TypeTree) → slice_get (reverse (map (λ f. sub f σ) (f ∷ fs)) ++ rest) (length fs) ≡ Some (sub f σ)
 field_slot f fs σ rest =
     ap (λ us. slice_get us (length fs)) (turned_onto (sub f σ) (map (λ f. sub f σ) fs) rest)
     ∙ ap (slice_get (reverse (map (λ f. sub f σ) fs) ++ sub f σ ∷ rest)) (sym (length-reverse (map (λ f. sub f σ) fs) ∙ length-map fs (λ f. sub f σ)))

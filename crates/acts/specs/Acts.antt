@@ -2,7 +2,8 @@
 -- turns, the same done with that one leads to the same.
 use Rattle.std.specs.Prelude.{◌≡◌, ℕ, suc, zero, Bool, List, [], ◌∷◌, reverse, Some}
 use Rattle.chw_types.specs.declared.kind.Kind.{Kind}
-use Rattle.chw_types.specs.TypeTree.{TypeTree, ty_var, nat_lit, nat_sum, nat_product, domain, scalar, vector, data_of, fun, signal, for_all, TypeTrees}
+use Rattle.chw_types.specs.TypeTree.{TypeTree, ty_var, nat_lit, nat_sum, nat_product, domain}
+use Rattle.chw_types.specs.TypeTree.{scalar, vector, data_of, fun, signal, for_all, TypeTrees}
 use Rattle.chw_types.specs.TypeMoves.{put}
 use Rattle.chw_terms.specs.declared.program.Program.{Program}
 use Rattle.chw_terms.specs.Constructors.{Constructor, con_at}
@@ -10,7 +11,7 @@ use Rattle.chw_terms.specs.Evaluated.{evaluated}
 use Rattle.chw_typing.specs.Scopes.{HasKind}
 use Rattle.chw_typing.specs.HeadTypes.{fields_at}
 use Rattle.chw_typing.specs.Programs.{setting_of}
-use Rattle.chw_meaning.specs.Values.{History, Value, bits, con_of, vec_of, Thunk, Thunks, none, thunk_and}
+use Rattle.chw_meaning.specs.Values.{Value, bits, con_of, vec_of, Thunk, Thunks, none, thunk_and}
 use Rattle.chw_meaning.specs.Eval.{Applies, TyApplies}
 use Rattle.acts.specs.Levels.{Level, Levels, later, RunsAct, ThunksAct}
 
@@ -31,26 +32,26 @@ EachAct p r t _ _ = ⊥
 -- first
 pub record BuiltActs
     (p : Program) (r : Levels) (d : ℕ) (ts : TypeTrees) (v' : Value) (s : Value → Type 0) : Type 0
-    where
-  pub tag : ℕ
-  pub it : Constructor
-  pub held : con_at p.datas tag ≡ Some it
-  pub of_type : it.of ≡ d
-  pub first : Thunks
-  pub second : Thunks
-  pub is : v' ≡ con_of tag first
-  pub has_value : s (con_of tag second)
-  pub parts : AllAct p r (reverse (fields_at it ts)) first second
+  where
+    pub tag : ℕ
+    pub it : Constructor
+    pub held : con_at p.datas tag ≡ Some it
+    pub of_type : it.of ≡ d
+    pub first : Thunks
+    pub second : Thunks
+    pub is : v' ≡ con_of tag first
+    pub has_value : s (con_of tag second)
+    pub parts : AllAct p r (reverse (fields_at it ts)) first second
 
 -- both are vectors, and the elements act so
 pub record VectorActs
     (p : Program) (r : Levels) (t : TypeTree) (v' : Value) (s : Value → Type 0) : Type 0
-    where
-  pub first : Thunks
-  pub second : Thunks
-  pub is : v' ≡ vec_of first
-  pub has_value : s (vec_of second)
-  pub parts : EachAct p r t first second
+  where
+    pub first : Thunks
+    pub second : Thunks
+    pub is : v' ≡ vec_of first
+    pub has_value : s (vec_of second)
+    pub parts : EachAct p r t first second
 
 -- on thunks that act so, after any number of turns, the values act so
 abbrev pub FunctionActs :
@@ -58,14 +59,14 @@ abbrev pub FunctionActs :
 FunctionActs p r a b v' s =
     (i : ℕ) (x' x : Thunk) → ThunksAct p (later i r) a x' x
     → RunsAct (later i r) b (λ m h w. Applies p m v' x' h w)
-      (λ h w. (v : Value) × s v × ((m : ℕ) × Applies p m v x h w))
+    (λ h w. (v : Value) × s v × ((m : ℕ) × Applies p m v x h w))
 
 -- on each closed type of the kind, with its naturals evaluated, the values act so
 abbrev pub FamilyActs : Program → Levels → Kind → TypeTree → Value → (Value → Type 0) → Type 0
 FamilyActs p r k t v' s =
     (c : TypeTree) → HasKind (setting_of p) [] c k → evaluated c ≡ c
     → RunsAct r (put t 0 c) (λ m h w. TyApplies p m v' c h w)
-      (λ h w. (v : Value) × s v × ((m : ℕ) × TyApplies p m v c h w))
+    (λ h w. (v : Value) × s v × ((m : ℕ) × TyApplies p m v c h w))
 
 -- what is asked of a value with one turn at least, where r is what is asked after it
 abbrev pub act_step : Program → Levels → Level

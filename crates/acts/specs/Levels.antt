@@ -1,6 +1,7 @@
 -- What is asked of the values of a computation, as against the values of another, turn by turn.
 use Rattle.std.specs.Prelude.{◌≡◌, ℕ, suc, zero}
-use Rattle.chw_types.specs.TypeTree.{TypeTree, ty_var, nat_lit, nat_sum, nat_product, domain, scalar, vector, data_of, fun, signal, for_all, TypeTrees}
+use Rattle.chw_types.specs.TypeTree.{TypeTree, ty_var, nat_lit, nat_sum, nat_product, domain}
+use Rattle.chw_types.specs.TypeTree.{scalar, vector, data_of, fun, signal, for_all, TypeTrees}
 use Rattle.chw_terms.specs.declared.program.Program.{Program}
 use Rattle.chw_terms.specs.TermTree.{TermTree}
 use Rattle.chw_meaning.specs.Values.{History, Value, Thunk, Thunks}

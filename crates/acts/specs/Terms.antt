@@ -4,10 +4,13 @@ use Rattle.chw_types.specs.declared.kind.Kind.{Kind}
 use Rattle.chw_types.specs.TypeTree.{TypeTree, TypeTrees, no_types, type_and}
 use Rattle.chw_types.specs.TypeMoves.{Renaming}
 use Rattle.chw_terms.specs.declared.program.Program.{Program}
-use Rattle.chw_terms.specs.TermTree.{TermTree, var, global, made, lam, app, ty_lam, ty_app, letrec, con, prim, lit, vec_lit, case_of, Terms, no_terms, term_and, Group, no_bindings, bind, Alts, no_alts, alt}
+use Rattle.chw_terms.specs.TermTree.{TermTree, var, global, made, lam, app, ty_lam, ty_app}
+use Rattle.chw_terms.specs.TermTree.{letrec, con, prim, lit, vec_lit, case_of, Terms, no_terms}
+use Rattle.chw_terms.specs.TermTree.{term_and, Group, no_bindings, bind, Alts, no_alts, alt}
 use Rattle.chw_terms.specs.Evaluated.{evaluated}
 use Rattle.chw_typing.specs.Scopes.{Setting, HasKind}
 use Rattle.chw_typing.specs.Programs.{setting_of}
+use Rattle.chw_typing.specs.Typing.{HasTypeUpTo}
 use Rattle.chw_meaning.specs.Values.{Thunk, Thunks, thunk_at, closed_type}
 use Rattle.acts.specs.Levels.{Levels, RunsAct, term_runs, term_has, ThunksAct}
 use Rattle.acts.specs.Acts.{acts_from}
@@ -15,12 +18,12 @@ use Rattle.acts.specs.Acts.{acts_from}
 -- both variables have a thunk, and these act so at the type
 pub record LooksAlike
     (p : Program) (r : Levels) (t : TypeTree) (x' x : ℕ) (γ' γ : Thunks) : Type 0
-    where
-  pub first : Thunk
-  pub second : Thunk
-  pub has_first : thunk_at γ' x' ≡ Some first
-  pub has_second : thunk_at γ x ≡ Some second
-  pub acts : ThunksAct p r t first second
+  where
+    pub first : Thunk
+    pub second : Thunk
+    pub has_first : thunk_at γ' x' ≡ Some first
+    pub has_second : thunk_at γ x ≡ Some second
+    pub acts : ThunksAct p r t first second
 
 -- the variables of these types, as each side renames them, have thunks that act so
 abbrev pub TiedBy :
@@ -55,6 +58,10 @@ ActsAs p t e' e = ActsUnder p [] [] e' e t
 pub data Chain (p : Program) (t : TypeTree) : TermTree → TermTree → Type 0 where
   chain_end : {e : TermTree} → Chain p t e e
   chain_and : {c b a : TermTree} → ActsAs p t c b → Chain p t b a → Chain p t c a
+
+-- the environment with a type argument besides
+abbrev pub with_argument : TypeTree → TypeTrees → TypeTrees
+with_argument a δ = type_and (evaluated (closed_type a δ)) δ
 
 unfoldable mutual
   -- a closed term for each made definition
@@ -94,3 +101,14 @@ setting_with p types =
       defs = map (λ d. d.ty) p.defs;
       made = types;
     }
+
+-- the terms for the made definitions of these types act as others, each at its type
+abbrev pub OriginsAct : Program → List TypeTree → (ℕ → TermTree) → (ℕ → TermTree) → Type 0
+OriginsAct p types o' o =
+    (m : ℕ) (u : TypeTree) → slice_get types m ≡ Some u → ActsAs p u (o' m) (o m)
+
+-- they have these types, up to naturals
+abbrev pub OriginsTyped : Program → List TypeTree → (ℕ → TermTree) → Type 0
+OriginsTyped p types o =
+    (m : ℕ) (u : TypeTree) → slice_get types m ≡ Some u
+    → HasTypeUpTo (setting_of p) [] [] (o m) u
