@@ -1,0 +1,4 @@
+pub mod Acts
+pub mod Laws
+pub mod Levels
+pub mod Terms
