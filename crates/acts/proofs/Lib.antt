@@ -2,6 +2,7 @@ pub mod Arms
 pub mod Better
 pub mod Cases
 pub mod Closing
+pub mod Eta
 pub mod Fields
 pub mod Filled
 pub mod Forms

@@ -13,6 +13,7 @@ use Rattle.chw_terms.specs.Tidy.{IsTidy}
 use Rattle.chw_layout.specs.Datum.{Datum}
 use Rattle.chw_layout.specs.Encodes.{IsValueOf}
 use Rattle.chw_typing.specs.Scopes.{HasKind, AreTermTypes}
+use Rattle.chw_typing.specs.HeadTypes.{from_each}
 use Rattle.chw_typing.specs.Programs.{IsTyped, AreClosed, setting_of}
 use Rattle.chw_typing.specs.Typing.{HasType}
 use Rattle.chw_meaning.specs.Values.{Thunk, stream, known, Thunks, closed_type}
@@ -20,7 +21,7 @@ use Rattle.chw_meaning.specs.Gives.{Input, Given, Better}
 use Rattle.acts.specs.Levels.{RunsAct, term_runs, term_has, ThunksAct}
 use Rattle.acts.specs.Acts.{acts_from}
 use Rattle.acts.specs.Terms.{TiedBy, Kinded, ActsAs, Chain, with_argument, with_origins}
-use Rattle.acts.specs.Terms.{OriginsAct, OriginsTyped, ArePut, setting_with}
+use Rattle.acts.specs.Terms.{ActsUnder, OriginsAct, OriginsTyped, ArePut, setting_with, eta_expanded}
 
 -- thunks that act so for a number of turns do so for one less
 abbrev pub FewerTurnsAskLess : Type 0
@@ -106,6 +107,18 @@ PutTermsAct =
     → RunsAct (acts_from p n) (closed_type t δ)
       (term_runs p (with_origins o (sub e σ)) γ' δ)
       (term_has p (with_origins o (rename e ρ)) γ δ)
+
+-- a typed function acts as itself with its first parameters written out
+abbrev pub EtaActs : Type 0
+EtaActs =
+    (p : Program) (types : List TypeTree) (o' o : ℕ → TermTree)
+    (kinds : List Kind) (vars : List TypeTree) (e : TermTree) (args : List TypeTree) (r : TypeTree)
+    → IsTidy p → IsTyped p
+    → AreClosed (setting_of p) types → OriginsAct p types o' o
+    → AreTermTypes (setting_with p types) kinds vars
+    → HasType (setting_with p types) kinds vars e (from_each args r)
+    → ActsUnder p kinds vars
+      (with_origins o' (eta_expanded args e)) (with_origins o e) (from_each args r)
 
 -- a closed term that acts as another gives nothing that the other doesn't
 abbrev pub ActsGives : Type 0

@@ -1,5 +1,5 @@
 -- A term acts as another of its type: in all environments that act so, for any number of turns.
-use Rattle.std.specs.Prelude.{◌≡◌, ◌⊎◌, ℕ, List, [], ◌∷◌, map, length, Some, slice_get}
+use Rattle.std.specs.Prelude.{◌≡◌, ◌⊎◌, ℕ, suc, zero, List, [], ◌∷◌, map, length, Some, slice_get}
 use Rattle.chw_types.specs.declared.kind.Kind.{Kind}
 use Rattle.chw_types.specs.TypeTree.{TypeTree, TypeTrees, no_types, type_and}
 use Rattle.chw_types.specs.TypeMoves.{Renaming}
@@ -9,7 +9,7 @@ use Rattle.chw_terms.specs.TermTree.{TermTree, var, global, made, lam, app, ty_l
 use Rattle.chw_terms.specs.TermTree.{letrec, con, prim, lit, vec_lit, case_of, Terms, no_terms}
 use Rattle.chw_terms.specs.TermTree.{term_and, Group, no_bindings, bind, Alts, no_alts, alt}
 use Rattle.chw_terms.specs.Evaluated.{evaluated}
-use Rattle.chw_terms.specs.TermMoves.{rename, Substitution}
+use Rattle.chw_terms.specs.TermMoves.{rename, Substitution, shift}
 use Rattle.chw_typing.specs.Scopes.{Setting, HasKind, AreTermTypes}
 use Rattle.chw_typing.specs.Programs.{setting_of}
 use Rattle.chw_typing.specs.Typing.{HasType, HasTypeUpTo}
@@ -145,3 +145,17 @@ ArePut p types o kinds r vars σ ρ δ γ' γ =
     (x : ℕ) (t : TypeTree) → slice_get vars x ≡ Some t
     → ((y : ℕ) × (σ x ≡ var y) × LooksAlike p r (closed_type t δ) y (ρ x) γ' γ)
       ⊎ StandsFor p types o kinds r t (σ x) (ρ x) δ γ' γ
+
+-- a term on so many variables, the last of which has this number
+abbrev pub on_variables : TermTree → ℕ → ℕ → TermTree
+on_variables e j zero = e
+on_variables e j (suc n) = app (on_variables e (suc j) n) (var j)
+
+-- a term under a lambda for each of these types
+abbrev pub under_each : List TypeTree → TermTree → TermTree
+under_each [] e = e
+under_each (a ∷ args) e = lam a (under_each args e)
+
+-- `\x1 .. \xn . e x1 .. xn`, with variables of these types
+abbrev pub eta_expanded : List TypeTree → TermTree → TermTree
+eta_expanded args e = under_each args (on_variables (shift e 0 (length args)) 0 (length args))
