@@ -18,6 +18,7 @@ pub mod Replaces
 pub mod Rows
 pub mod SameActs
 pub mod Shapes
+pub mod Shown
 pub mod Steps
 pub mod Telescopes
 pub mod Tied
