@@ -3,6 +3,7 @@ pub mod Deep
 pub mod Found
 pub mod OccursLaws
 pub mod Renamed
+pub mod Renumbered
 pub mod ShiftLaws
 pub mod Spines
 pub mod TermMoved

@@ -2,6 +2,7 @@ pub mod Constructors
 pub mod Deepest
 pub mod Depth
 pub mod Evaluated
+pub mod FreeVariables
 pub mod Moved
 pub mod Names
 pub mod Occurs

@@ -1,5 +1,5 @@
 -- Renaming the variables of a term, and putting terms for them.
-use Rattle.std.specs.Prelude.{ℕ, suc, zero}
+use Rattle.std.specs.Prelude.{ℕ, suc, zero, ◌+◌, ◌-◌, ◌==◌, nat_lt, if◌then◌else◌}
 use Rattle.chw_types.specs.TypeMoves.{Renaming, lift, lift_by, raised}
 use Rattle.chw_terms.specs.TermTree.{TermTree, var, global, made, lam, app, ty_lam, ty_app, letrec, con, prim, lit, vec_lit, case_of, Terms, no_terms, term_and, Group, no_bindings, bind, Alts, no_alts, alt, binders, size_of}
 use Rattle.chw_terms.specs.TypesMoved.{rename_types}
@@ -94,3 +94,15 @@ put_at c a = up_by c (one a)
 -- a, which stands outside of the c innermost binders, put for the variable c; later variables come down by one
 abbrev pub put : TermTree → ℕ → TermTree → TermTree
 put e c a = sub e (put_at c a)
+
+-- a for the variable v, in the scope without v; later variables come down by one
+abbrev pub in_place_of : ℕ → TermTree → Substitution
+in_place_of v a x = if nat_lt x v then var x else (if x == v then a else var (x - 1))
+
+-- without the variable v: later ones come down by one
+abbrev pub lowered : ℕ → Renaming
+lowered v x = if nat_lt v x then x - 1 else x
+
+-- the first m variables and the next n change places
+abbrev pub exchanged : ℕ → ℕ → Renaming
+exchanged m n x = if nat_lt x m then x + n else (if nat_lt x (m + n) then x - m else x)

@@ -8,14 +8,26 @@ use chw_base::{NoMemory, TyIx};
 use chw_types::{Ty, put_type, shift_type};
 use std::alloc::Global;
 
+// How a walk renames the variables from its place on.
+#[derive(Clone, Copy)]
+pub(crate) enum Renumbering {
+    // Each is raised by the number.
+    Raise(u32),
+    // Those behind the place come down by one.
+    Lower,
+    // The first so many and the next so many change places.
+    Exchange(u32, u32),
+}
+
 // What a walk does at its places. A place among the variables is counted up by each binder that is passed, and a place among the type
 // variables by each type binder.
 #[derive(Clone, Copy)]
 pub(crate) enum Move<'a> {
-    // The variables from the place on are raised by the first number, and the type variables from the type place on by the second.
-    Raise(u32, u32),
-    // The term, from outside of as many type binders as the type place counts, is put for the variable at the place.
-    PutTerm(&'a Term),
+    // The variables are renamed, and the type variables from the type place on are raised by the number.
+    Rename(Renumbering, u32),
+    // The term, from outside of as many binders and type binders as the two places count, is put for the variable that has the number
+    // there.
+    PutTerm(u32, &'a Term),
     // The type is put for the type variable at the type place, and closed naturals become numerals.
     PutType(&'a Ty),
 }
@@ -27,8 +39,8 @@ impl<'a> Move<'a> {
     {
         let at = TyIx { number: types };
         match self {
-            Move::Raise(_, by) => shift_type(alloc, t, at, by),
-            Move::PutTerm(_) => t.copy(alloc),
+            Move::Rename(_, by) => shift_type(alloc, t, at, by),
+            Move::PutTerm(_, _) => t.copy(alloc),
             Move::PutType(arg) => {
                 let put = put_type(alloc, t, at, arg)?;
                 evaluate(alloc, &put)

@@ -1,11 +1,13 @@
 //! The one walk over a term that changes its variables and its types.
 ghost use Rattle.std.specs.Prelude.{◌≡◌, map, IfOk};
 ghost use Rattle.chw_types.specs.TypeMoves.{raised};
+ghost use Rattle.chw_terms.specs.TermMoves.{in_place_of};
 ghost use Rattle.chw_terms.specs.TermTree.{var, lam, letrec, vec_lit, case_of};
 ghost use Rattle.chw_terms.specs.TermView.{tree_of, terms_of, group_of, alts_of};
-ghost use Rattle.chw_terms.specs.Moved.{IsLeaf, moved, moved_arg, moved_binding, moved_alt, put_under};
+ghost use Rattle.chw_terms.specs.Moved.{IsLeaf, moved, moved_arg, moved_binding, moved_alt, renamed};
 
-use crate::moves::{Move, count, deeper};
+use crate::moves::{Move, Renumbering, count, deeper};
+use crate::renumbering::renumber;
 use crate::term::{Alt, Arg, Binding, Head, Term};
 use chw_base::{NoMemory, VarIx};
 use chw_types::Ty;
@@ -186,38 +188,41 @@ fn walk_var(alloc: Global, x: VarIx, what: Move<'_>, at: u32, types: u32) -> Res
     ensures { IfOk result (λ e. e ≡ moved what.entry at types (var x.number)) }
 {
     match what {
-        Move::Raise(by, _) => Ok(Term::var(alloc, raise_var(x, at, by)?)),
-        Move::PutTerm(arg) => put_for_var(alloc, x, arg, at, types),
+        Move::Rename(how, _) => Ok(Term::var(alloc, renumber(x, how, at)?)),
+        Move::PutTerm(v, arg) => {
+            let place = u64::from(v) + u64::from(at);
+            put_for_var(alloc, x, place, arg, at, types)
+        }
         Move::PutType(_) => Ok(Term::var(alloc, x)),
     }
 }
 
-// What is put for a variable. The term is raised only where it is put, so that it is copied once for each.
+// What a variable becomes where the term is put for the one at the place, from outside of so many binders and type binders. The term is
+// raised only where it is put, so that it is copied once for each.
 #[cycle(walk)]
-#[tactic(auto, using(crate::proofs::TermMoved::put_below, crate::proofs::TermMoved::put_above))]
-fn put_for_var(alloc: Global, x: VarIx, arg: &Term, at: u32, types: u32) -> Result<Term, NoMemory>
-    ensures { IfOk result (λ e. e ≡ put_under arg.now at types (var x.number)) }
+fn put_for_var(
+    alloc: Global,
+    x: VarIx,
+    place: u64,
+    arg: &Term,
+    binders: u32,
+    types: u32,
+) -> Result<Term, NoMemory>
+    ensures { IfOk result (λ e. e ≡ in_place_of place (renamed (raised 0 binders) types 0 arg.now) x.number) }
 {
     let number = x.number;
-    if number < at {
+    if u64::from(number) < place {
         Ok(Term::var(alloc, x))
-    } else if number == at {
-        walk(alloc, arg, Move::Raise(at, types), 0, 0)
+    } else if u64::from(number) == place {
+        walk(
+            alloc,
+            arg,
+            Move::Rename(Renumbering::Raise(binders), types),
+            0,
+            0,
+        )
     } else {
         Ok(Term::var(alloc, VarIx { number: number - 1 }))
-    }
-}
-
-// A variable, raised if it stands at or above the place.
-#[tactic(auto, using(chw_types::proofs::TypeMoved::raised_below, chw_types::proofs::TypeMoved::raised_above))]
-fn raise_var(x: VarIx, from: u32, by: u32) -> Result<VarIx, NoMemory>
-    ensures { IfOk result (λ y. y.number ≡ raised from by x.number) }
-{
-    if x.number < from {
-        Ok(x)
-    } else {
-        let number = deeper(x.number, by)?;
-        Ok(VarIx { number })
     }
 }
 

@@ -2,10 +2,12 @@ use Rattle.std.proofs.Common.{◌≡◌, ◌+◌, IfOk, map, sym, ap, ◌∙◌,
 use Rattle.chw_terms.specs.PartsFall.{alt_smaller, arg_smaller, binding_smaller, term_smaller}
 use Rattle.chw_terms.specs.TermFalls.{applied_size}
 use Rattle.chw_terms.specs.TermSize.{tree_size, args_size}
+use Rattle.chw_types.specs.TypeMoves.{raised}
+use Rattle.chw_terms.specs.TermMoves.{in_place_of}
 use Rattle.chw_terms.specs.TermTree.{var, lam, ty_lam, letrec, vec_lit, case_of}
 use Rattle.chw_terms.specs.TermView.{tree_of, applied, terms_of, group_of, alts_of}
-use Rattle.chw_terms.specs.Moved.{moved, moved_arg, moved_binding, moved_alt}
-use Rattle.chw_terms.proofs.TermMoved.{all_done, put_here, moved_leaf, moved_applied, moved_lam, moved_ty_lam, moved_letrec, moved_vec, moved_case, raised_var, typed_var}
+use Rattle.chw_terms.specs.Moved.{moved, moved_arg, moved_binding, moved_alt, renumbered, renamed}
+use Rattle.chw_terms.proofs.TermMoved.{all_done, put_var, moved_leaf, moved_applied, moved_lam, moved_ty_lam, moved_letrec, moved_vec, moved_case, renamed_var, typed_var}
 use Rattle.chw_terms.proofs.walk.+walk.Goals as goal
 
 -- a head at arguments
@@ -98,18 +100,22 @@ walk_case-returns t c =
     c.case.ensures
 
 -- the variables
-pub walk_var-returns-in_ok-raise_var-in-Raise : goal.walk_var-returns-in_ok-raise_var-in-Raise
-walk_var-returns-in_ok-raise_var-in-Raise t c =
+pub walk_var-returns-in_ok-renumber-in-Rename : goal.walk_var-returns-in_ok-renumber-in-Rename
+walk_var-returns-in_ok-renumber-in-Rename t c =
     c.var.ensures
-    ∙ raised_var c.in-Raise.by c.in-Raise.field-1 c.args.at c.args.types c.args.x.number c.in_ok-raise_var-in-Raise.field-0.number c.in_ok-raise_var-in-Raise.ensures
-    ∙ ap (λ m. moved m c.args.at c.args.types (var c.args.x.number)) (sym c.in-Raise.is)
+    ∙ renamed_var (renumbered c.in-Rename.how c.args.at) c.in-Rename.field-1 c.args.types c.args.x.number c.in_ok-renumber-in-Rename.field-0.number c.in_ok-renumber-in-Rename.ensures
+    ∙ ap (λ m. moved m c.args.at c.args.types (var c.args.x.number)) (sym c.in-Rename.is)
+
+pub walk_var-returns-in-PutTerm : goal.walk_var-returns-in-PutTerm
+walk_var-returns-in-PutTerm t c =
+    subst (λ y. IfOk c.put_for_var.result (λ e. e ≡ y))
+    ((λ i. in_place_of (c.from.ensures i + c.from-in-PutTerm.ensures i) (renamed (raised 0 c.args.at) c.args.types 0 c.in-PutTerm.arg.now) c.args.x.number)
+    ∙ put_var c.in-PutTerm.v c.in-PutTerm.arg.now c.args.at c.args.types c.args.x.number
+    ∙ ap (λ m. moved m c.args.at c.args.types (var c.args.x.number)) (sym c.in-PutTerm.is))
+    c.put_for_var.ensures
 
 pub walk_var-returns-in-PutType : goal.walk_var-returns-in-PutType
 walk_var-returns-in-PutType t c =
     c.var-in-PutType.ensures
     ∙ typed_var c.in-PutType.field-0.now c.args.types c.args.x.number
     ∙ ap (λ m. moved m c.args.at c.args.types (var c.args.x.number)) (sym c.in-PutType.is)
-
-pub put_for_var-returns-then-number-at-2 : goal.put_for_var-returns-then-number-at-2
-put_for_var-returns-then-number-at-2 t c =
-    subst (λ y. IfOk c.walk.result (λ e. e ≡ y)) (put_here c.args.arg.now c.args.at c.args.types c.args.x.number c.if-number-at-2.true) c.walk.ensures

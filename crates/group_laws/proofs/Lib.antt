@@ -1,0 +1,4 @@
+pub mod Exchanged
+pub mod Free
+pub mod Occurrences
+pub mod Parts

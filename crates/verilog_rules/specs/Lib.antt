@@ -1,0 +1,10 @@
+pub mod Checks
+pub mod Declarations
+pub mod DriverRules
+pub mod Faults
+pub mod Limits
+pub mod NameRules
+pub mod NetOf
+pub mod Resolving
+pub mod Texts
+pub mod WidthRules
