@@ -37,7 +37,7 @@ use Rattle.acts.proofs.Closing.{puts_closed, closed_kind}
 use Rattle.acts.proofs.Fields.{field_acts}
 use Rattle.acts.proofs.Levels.{IsLevels}
 use Rattle.acts.proofs.SameActs.{EachSame, each_reverse, same_fields, same_all_act}
-use Rattle.acts.proofs.Tied.{tied_joined, fields_act, fields_joined, plus_zero}
+use Rattle.acts.proofs.Tied.{fields_act, plus_zero}
 
 closed_each : (p : Program) (kinds params : List Kind) (fs : List TypeTree) (ts : TypeTrees) (δ : TypeTrees) → ((i : ℕ) (f : TypeTree) → slice_get fs i ≡ Some f → IsTermType (setting_of p) (reverse params) f) → KindsOf p.datas (length p.domains) kinds ts params → map (λ f. sub f (arguments (sub_all ts (type_at δ)))) fs ≡ map (λ t. closed_type t δ) (map (λ f. sub f (arguments ts)) fs)
 closed_each p kinds params [] ts δ typed d = refl
@@ -98,40 +98,33 @@ matches_same (seen_con held of parts) (OfCon c n) = refl
 matches_same (seen_con held of parts) (OfLit s b) = refl
 matches_same (seen_con held of parts) Default = refl
 
--- the variables that a pattern binds
-pub pattern_tied : {p : Program} {r : Levels} → IsLevels p r → IsSound (setting_of p) → (kinds : List Kind) (δ : TypeTrees) → Kinded p kinds δ → {u : TypeTree} {q : Pattern} {fields : List TypeTree} → PatternOf p.datas u q fields → (j : Kind) → HasKind (setting_of p) kinds u j → (bnd vars : List TypeTree) → AreSame fields bnd → AreTermTypes (setting_of p) kinds bnd → (ρ' ρ : Renaming) (γ' γ : Thunks) → TiedBy p r vars ρ' ρ δ γ' γ → {t : TypeTree} {v w : Value} → Seen p r t v w → t ≡ closed_type u δ → matches v q ≡ true → TiedBy p r (with_more bnd vars) (lift_by (binders q) ρ') (lift_by (binders q) ρ) δ (joined (bound v q) γ') (joined (bound w q) γ)
+-- what a pattern binds of both
+pub pattern_acts : {p : Program} {r : Levels} → IsLevels p r → IsSound (setting_of p) → (kinds : List Kind) (δ : TypeTrees) → Kinded p kinds δ → {u : TypeTree} {q : Pattern} {fields : List TypeTree} → PatternOf p.datas u q fields → (j : Kind) → HasKind (setting_of p) kinds u j → (bnd : List TypeTree) → AreSame fields bnd → AreTermTypes (setting_of p) kinds bnd → {t : TypeTree} {v w : Value} → Seen p r t v w → t ≡ closed_type u δ → matches v q ≡ true → AllAct p r (map (λ t. closed_type t δ) (reverse bnd)) (bound v q) (bound w q)
 unfolding sub
-pattern_tied {p} {r} l sound kinds δ known (of_con {d = d} {n = m} {c = c} {ts = ts} it e o n) j k bnd vars x typed ρ' ρ γ' γ h (seen_con {tag = tag} {ts = us} {it = other} {first = first} {second = second} held of parts) same hit =
+pattern_acts {p} {r} l sound kinds δ known (of_con {d = d} {n = m} {c = c} {ts = ts} it e o n) j k bnd x typed (seen_con {tag = tag} {ts = us} {it = other} {first = first} {second = second} held of parts) same hit =
     let number : tag ≡ c.number = eqb-true tag c.number hit in
     let args : us ≡ sub_all ts (type_at δ) = cc in
     let is : other ≡ it = same_some held (ap (λ i. con_at p.datas i) number ∙ e) in
     let moved = subst (λ vs. AllAct p r (reverse (fields_at it vs)) first second) args (subst (λ (i : Constructor). AllAct p r (reverse (fields_at i us)) first second) is parts) in
     let sums = pattern_sums {s = setting_of p} (of_con {c = c} {ts = ts} it e o n) sound kinds j k in
     let fields = bound_fields p sound kinds δ known c.number d it ts j bnd e o k x sums typed in
-    let acts = same_all_act sound l (reverse (fields_at it (sub_all ts (type_at δ)))) (map (λ t. closed_type t δ) (reverse bnd)) first second fields moved in
-    let size : length (reverse bnd) ≡ m = length-reverse bnd ∙ are_same_length (fields_at it ts) bnd x ∙ length-map it.decl.fields (λ f. sub f (arguments ts)) ∙ n in
-    subst (λ i. TiedBy p r (with_more bnd vars) (lift_by i ρ') (lift_by i ρ) δ (joined first γ') (joined second γ)) size (tied_joined (reverse bnd) vars ρ' ρ δ first second γ' γ acts h)
-pattern_tied l sound kinds δ known (of_con it e o n) j k bnd vars x typed ρ' ρ γ' γ h seen_bits same hit = cc
-pattern_tied l sound kinds δ known (of_lit i e) j k [] vars x typed ρ' ρ γ' γ h seen_bits same hit = h
-pattern_tied l sound kinds δ known (of_lit i e) j k [] vars x typed ρ' ρ γ' γ h (seen_con held of parts) same hit = h
-pattern_tied l sound kinds δ known (of_lit i e) j k (b ∷ bnd) vars x typed ρ' ρ γ' γ h s same hit = absurd x
-pattern_tied l sound kinds δ known of_any j k [] vars x typed ρ' ρ γ' γ h seen_bits same hit = h
-pattern_tied l sound kinds δ known of_any j k [] vars x typed ρ' ρ γ' γ h (seen_con held of parts) same hit = h
-pattern_tied l sound kinds δ known of_any j k (b ∷ bnd) vars x typed ρ' ρ γ' γ h s same hit = absurd x
+    same_all_act sound l (reverse (fields_at it (sub_all ts (type_at δ)))) (map (λ t. closed_type t δ) (reverse bnd)) first second fields moved
+pattern_acts l sound kinds δ known (of_con it e o n) j k bnd x typed seen_bits same hit = cc
+pattern_acts l sound kinds δ known (of_lit i e) j k [] x typed seen_bits same hit = tt
+pattern_acts l sound kinds δ known (of_lit i e) j k [] x typed (seen_con held of parts) same hit = tt
+pattern_acts l sound kinds δ known (of_lit i e) j k (b ∷ bnd) x typed s same hit = absurd x
+pattern_acts l sound kinds δ known of_any j k [] x typed seen_bits same hit = tt
+pattern_acts l sound kinds δ known of_any j k [] x typed (seen_con held of parts) same hit = tt
+pattern_acts l sound kinds δ known of_any j k (b ∷ bnd) x typed s same hit = absurd x
 
--- the variables that the only pattern of a data type binds, as fields of a thunk
-pub only_tied : {p : Program} {r : Levels} → IsLevels p r → IsSound (setting_of p) → (kinds : List Kind) (δ : TypeTrees) → Kinded p kinds δ → (c d n : ℕ) (it : Constructor) (ts : TypeTrees) (j : Kind) (bnd vars : List TypeTree) → con_at p.datas c ≡ Some it → it.of ≡ d → length it.it.cons ≡ 1 → length it.decl.fields ≡ n → HasKind (setting_of p) kinds (data_of d ts) j → AreSame (fields_at it ts) bnd → AllSumsAreNat kinds (fields_at it ts) → AreTermTypes (setting_of p) kinds bnd → (ρ' ρ : Renaming) (γ' γ : Thunks) → TiedBy p r vars ρ' ρ δ γ' γ → (x' x : Thunk) → ThunksAct p r (closed_type (data_of d ts) δ) x' x → TiedBy p r (with_more bnd vars) (lift_by n ρ') (lift_by n ρ) δ (fields_from zero n x' γ') (fields_from zero n x γ)
+-- what the only pattern of a data type binds, as fields of a thunk
+pub only_acts : {p : Program} {r : Levels} → IsLevels p r → IsSound (setting_of p) → (kinds : List Kind) (δ : TypeTrees) → Kinded p kinds δ → (c d n : ℕ) (it : Constructor) (ts : TypeTrees) (j : Kind) (bnd : List TypeTree) → con_at p.datas c ≡ Some it → it.of ≡ d → length it.it.cons ≡ 1 → length it.decl.fields ≡ n → HasKind (setting_of p) kinds (data_of d ts) j → AreSame (fields_at it ts) bnd → AllSumsAreNat kinds (fields_at it ts) → AreTermTypes (setting_of p) kinds bnd → (x' x : Thunk) → ThunksAct p r (closed_type (data_of d ts) δ) x' x → AllAct p r (map (λ t. closed_type t δ) (reverse bnd)) (fields_from zero n x' none) (fields_from zero n x none)
 unfolding sub
-only_tied {p} {r} l sound kinds δ known c d n it ts j bnd vars held of only count k same sums typed ρ' ρ γ' γ h x' x acts =
+only_acts {p} {r} l sound kinds δ known c d n it ts j bnd held of only count k same sums typed x' x acts =
     let us = sub_all ts (type_at δ) in
     let types = reverse (fields_at it us) in
     let each = fields_act types zero x' x (λ i t q. subst (λ j. ThunksAct p r t (field j x') (field j x)) (sym (plus_zero i)) (field_acts l c d us it i t x' x held of only q acts)) in
     let fields = bound_fields p sound kinds δ known c d it ts j bnd held of k same sums typed in
     let size : length types ≡ n = length-reverse (fields_at it us) ∙ length-map it.decl.fields (λ f. sub f (arguments us)) ∙ count in
-    let wide : length (reverse bnd) ≡ n = length-reverse bnd ∙ are_same_length (fields_at it ts) bnd same ∙ length-map it.decl.fields (λ f. sub f (arguments ts)) ∙ count in
     let moved = subst (λ i. AllAct p r types (fields_from zero i x' none) (fields_from zero i x none)) size each in
-    let bound_act = same_all_act sound l types (map (λ t. closed_type t δ) (reverse bnd)) (fields_from zero n x' none) (fields_from zero n x none) fields moved in
-    let tied = tied_joined (reverse bnd) vars ρ' ρ δ (fields_from zero n x' none) (fields_from zero n x none) γ' γ bound_act h in
-    let numbered = subst (λ i. TiedBy p r (with_more bnd vars) (lift_by i ρ') (lift_by i ρ) δ (joined (fields_from zero n x' none) γ') (joined (fields_from zero n x none) γ)) wide tied in
-    subst (λ env. TiedBy p r (with_more bnd vars) (lift_by n ρ') (lift_by n ρ) δ env (fields_from zero n x γ)) (sym (fields_joined zero n x' γ'))
-    (subst (λ env. TiedBy p r (with_more bnd vars) (lift_by n ρ') (lift_by n ρ) δ (joined (fields_from zero n x' none) γ') env) (sym (fields_joined zero n x γ)) numbered)
+    same_all_act sound l types (map (λ t. closed_type t δ) (reverse bnd)) (fields_from zero n x' none) (fields_from zero n x none) fields moved

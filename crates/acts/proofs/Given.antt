@@ -78,7 +78,7 @@ type_given no_types x l = absurd (let bad : ⊥ = omega (arith, l) in bad)
 type_given (type_and t δ) zero l = refl
 type_given (type_and t δ) (suc x) l = type_given δ x (omega (arith, l))
 
-closed_from_each : (fs : List TypeTree) (t : TypeTree) (δ : TypeTrees) → closed_type (from_each fs t) δ ≡ from_each (map (λ f. closed_type f δ) fs) (closed_type t δ)
+pub closed_from_each : (fs : List TypeTree) (t : TypeTree) (δ : TypeTrees) → closed_type (from_each fs t) δ ≡ from_each (map (λ f. closed_type f δ) fs) (closed_type t δ)
 unfolding sub
 closed_from_each [] t δ = refl
 closed_from_each (f ∷ fs) t δ = ap (fun (closed_type f δ)) (closed_from_each fs t δ)

@@ -7,12 +7,13 @@ use Rattle.chw_types.specs.TypeMoves.{Renaming}
 use Rattle.chw_types.specs.SameTypes.{SameTypes}
 use Rattle.chw_terms.specs.declared.program.Program.{Program}
 use Rattle.chw_terms.specs.Evaluated.{put_type_in}
-use Rattle.chw_terms.specs.TermMoves.{rename}
+use Rattle.chw_terms.specs.TermMoves.{rename, Substitution, sub}
 use Rattle.chw_terms.specs.TermTree.{TermTree}
 use Rattle.chw_terms.specs.Tidy.{IsTidy}
 use Rattle.chw_layout.specs.Datum.{Datum}
 use Rattle.chw_layout.specs.Encodes.{IsValueOf}
 use Rattle.chw_typing.specs.Scopes.{HasKind, AreTermTypes}
+use Rattle.chw_typing.specs.HeadTypes.{from_each}
 use Rattle.chw_typing.specs.Programs.{IsTyped, AreClosed, setting_of}
 use Rattle.chw_typing.specs.Typing.{HasType}
 use Rattle.chw_meaning.specs.Values.{Thunk, stream, known, Thunks, closed_type}
@@ -20,7 +21,7 @@ use Rattle.chw_meaning.specs.Gives.{Input, Given, Better}
 use Rattle.acts.specs.Levels.{RunsAct, term_runs, term_has, ThunksAct}
 use Rattle.acts.specs.Acts.{acts_from}
 use Rattle.acts.specs.Terms.{TiedBy, Kinded, ActsAs, Chain, with_argument, with_origins}
-use Rattle.acts.specs.Terms.{OriginsAct, OriginsTyped, setting_with}
+use Rattle.acts.specs.Terms.{ActsUnder, OriginsAct, OriginsTyped, ArePut, setting_with, eta_expanded}
 
 -- thunks that act so for a number of turns do so for one less
 abbrev pub FewerTurnsAskLess : Type 0
@@ -89,6 +90,35 @@ PutTypeActs =
     → RunsAct (acts_from p n) (closed_type t (with_argument a δ))
     (term_runs p (with_origins o (put_type_in (rename e ρ') a)) γ' δ)
     (term_has p (with_origins o (rename e ρ)) γ (with_argument a δ))
+
+-- a typed term with terms put for its variables acts as the term in an environment that has their
+-- thunks
+abbrev pub PutTermsAct : Type 0
+PutTermsAct =
+    (p : Program) (types : List TypeTree) (o : ℕ → TermTree)
+    (kinds : List Kind) (vars : List TypeTree) (e : TermTree) (t : TypeTree)
+    (σ : Substitution) (ρ : Renaming)
+    → IsTidy p → IsTyped p
+    → AreClosed (setting_of p) types → OriginsTyped p types o
+    → AreTermTypes (setting_with p types) kinds vars
+    → HasType (setting_with p types) kinds vars e t
+    → (n : ℕ) (δ : TypeTrees) (γ' γ : Thunks)
+    → Kinded p kinds δ → ArePut p types o kinds (acts_from p n) vars σ ρ δ γ' γ
+    → RunsAct (acts_from p n) (closed_type t δ)
+      (term_runs p (with_origins o (sub e σ)) γ' δ)
+      (term_has p (with_origins o (rename e ρ)) γ δ)
+
+-- a typed function acts as itself with its first parameters written out
+abbrev pub EtaActs : Type 0
+EtaActs =
+    (p : Program) (types : List TypeTree) (o' o : ℕ → TermTree)
+    (kinds : List Kind) (vars : List TypeTree) (e : TermTree) (args : List TypeTree) (r : TypeTree)
+    → IsTidy p → IsTyped p
+    → AreClosed (setting_of p) types → OriginsAct p types o' o
+    → AreTermTypes (setting_with p types) kinds vars
+    → HasType (setting_with p types) kinds vars e (from_each args r)
+    → ActsUnder p kinds vars
+      (with_origins o' (eta_expanded args e)) (with_origins o e) (from_each args r)
 
 -- a closed term that acts as another gives nothing that the other doesn't
 abbrev pub ActsGives : Type 0

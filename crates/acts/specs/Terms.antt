@@ -1,18 +1,20 @@
 -- A term acts as another of its type: in all environments that act so, for any number of turns.
-use Rattle.std.specs.Prelude.{◌≡◌, ℕ, List, [], ◌∷◌, map, length, Some, slice_get}
+use Rattle.std.specs.Prelude.{◌≡◌, ◌⊎◌, ℕ, suc, zero, List, [], ◌∷◌, map, length, Some, slice_get}
 use Rattle.chw_types.specs.declared.kind.Kind.{Kind}
 use Rattle.chw_types.specs.TypeTree.{TypeTree, TypeTrees, no_types, type_and}
 use Rattle.chw_types.specs.TypeMoves.{Renaming}
+use Rattle.chw_types.specs.SameTypes.{SameTypes}
 use Rattle.chw_terms.specs.declared.program.Program.{Program}
 use Rattle.chw_terms.specs.TermTree.{TermTree, var, global, made, lam, app, ty_lam, ty_app}
 use Rattle.chw_terms.specs.TermTree.{letrec, con, prim, lit, vec_lit, case_of, Terms, no_terms}
 use Rattle.chw_terms.specs.TermTree.{term_and, Group, no_bindings, bind, Alts, no_alts, alt}
 use Rattle.chw_terms.specs.Evaluated.{evaluated}
-use Rattle.chw_typing.specs.Scopes.{Setting, HasKind}
+use Rattle.chw_terms.specs.TermMoves.{rename, Substitution, shift}
+use Rattle.chw_typing.specs.Scopes.{Setting, HasKind, AreTermTypes}
 use Rattle.chw_typing.specs.Programs.{setting_of}
-use Rattle.chw_typing.specs.Typing.{HasTypeUpTo}
-use Rattle.chw_meaning.specs.Values.{Thunk, Thunks, thunk_at, closed_type}
-use Rattle.acts.specs.Levels.{Levels, RunsAct, term_runs, term_has, ThunksAct}
+use Rattle.chw_typing.specs.Typing.{HasType, HasTypeUpTo}
+use Rattle.chw_meaning.specs.Values.{History, Value, Thunk, Thunks, thunk_at, closed_type}
+use Rattle.acts.specs.Levels.{Levels, RunsAct, term_runs, term_has, thunk_has, ThunksAct}
 use Rattle.acts.specs.Acts.{acts_from}
 
 -- both variables have a thunk, and these act so at the type
@@ -112,3 +114,48 @@ abbrev pub OriginsTyped : Program → List TypeTree → (ℕ → TermTree) → T
 OriginsTyped p types o =
     (m : ℕ) (u : TypeTree) → slice_get types m ≡ Some u
     → HasTypeUpTo (setting_of p) [] [] (o m) u
+
+-- a term that is put for a variable is typed, up to the variable's type, and renamed; and what it
+-- has on the second side, in an environment that acts so, the variable's thunk there has
+pub record StandsFor
+    (p : Program) (types : List TypeTree) (o : ℕ → TermTree) (kinds : List Kind) (r : Levels)
+    (t : TypeTree) (e' : TermTree) (x : ℕ) (δ : TypeTrees) (γ' γ : Thunks) : Type 0
+    where
+  pub vars : List TypeTree
+  pub body : TermTree
+  pub type : TypeTree
+  pub first : Renaming
+  pub second : Renaming
+  pub is : e' ≡ rename body first
+  pub in_scope : AreTermTypes (setting_with p types) kinds vars
+  pub typed : HasType (setting_with p types) kinds vars body type
+  pub same : SameTypes type t
+  pub thunk : Thunk
+  pub held : thunk_at γ x ≡ Some thunk
+  pub env : Thunks
+  pub names : TiedBy p r vars first second δ γ' env
+  pub has : (h : History) (v : Value)
+      → term_has p (with_origins o (rename body second)) env δ h v → thunk_has p thunk h v
+
+-- for each variable of these types a variable is put, and both look alike; or a term stands for it
+abbrev pub ArePut :
+    Program → List TypeTree → (ℕ → TermTree) → List Kind → Levels → List TypeTree
+    → Substitution → Renaming → TypeTrees → Thunks → Thunks → Type 0
+ArePut p types o kinds r vars σ ρ δ γ' γ =
+    (x : ℕ) (t : TypeTree) → slice_get vars x ≡ Some t
+    → ((y : ℕ) × (σ x ≡ var y) × LooksAlike p r (closed_type t δ) y (ρ x) γ' γ)
+      ⊎ StandsFor p types o kinds r t (σ x) (ρ x) δ γ' γ
+
+-- a term on so many variables, the last of which has this number
+abbrev pub on_variables : TermTree → ℕ → ℕ → TermTree
+on_variables e j zero = e
+on_variables e j (suc n) = app (on_variables e (suc j) n) (var j)
+
+-- a term under a lambda for each of these types
+abbrev pub under_each : List TypeTree → TermTree → TermTree
+under_each [] e = e
+under_each (a ∷ args) e = lam a (under_each args e)
+
+-- `\x1 .. \xn . e x1 .. xn`, with variables of these types
+abbrev pub eta_expanded : List TypeTree → TermTree → TermTree
+eta_expanded args e = under_each args (on_variables (shift e 0 (length args)) 0 (length args))

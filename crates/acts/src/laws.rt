@@ -1,5 +1,5 @@
 //! Laws of terms that act as others, each as the contract of a call that does nothing.
-ghost use Rattle.acts.specs.Laws.{FewerTurnsAskLess, SameTypesAct, DataAct, StreamsAct, InputsAct, TypedTermsAct, PutTypeActs, ActsGives, ChainGives};
+ghost use Rattle.acts.specs.Laws.{FewerTurnsAskLess, SameTypesAct, DataAct, StreamsAct, InputsAct, TypedTermsAct, PutTypeActs, PutTermsAct, EtaActs, ActsGives, ChainGives};
 
 use chw_typing::laws::typed_is_sound;
 
@@ -34,6 +34,20 @@ pub fn typed_terms_act()
 /// A type may be put into a typed term, or stand in its environment.
 pub fn put_type_acts()
     ensures { PutTypeActs }
+{
+    typed_is_sound();
+}
+
+/// Terms may be put for the variables of a typed term, or their thunks stand in its environment.
+pub fn put_terms_act()
+    ensures { PutTermsAct }
+{
+    typed_is_sound();
+}
+
+/// A function with its first parameters written out acts as the function.
+pub fn eta_acts()
+    ensures { EtaActs }
 {
     typed_is_sound();
 }
