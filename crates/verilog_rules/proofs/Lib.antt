@@ -1,0 +1,4 @@
+pub mod Holding
+pub mod Operands
+pub mod Literals
+pub mod Values
