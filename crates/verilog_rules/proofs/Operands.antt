@@ -152,3 +152,6 @@ has_width ws widths a fit k =
 
 pub has_kind : (ws : List Wire) (a : Word) → (k : Known ws a) → IsOfKind (map said ws) (operand ws a).wire (kind_said k.kind)
 has_kind ws a k = rw (got_said, k.found) (ap Some (ap kind_said k.of_kind))
+
+pub kind_is : (ws : List Wire) (a : Word) (k : Known ws a) (given : Kind) → kind_of ws (bytes_of a) ≡ Some given → k.kind ≡ given
+kind_is ws a k given is = same_Some k.kind given (sym k.has_kind ∙ is)
