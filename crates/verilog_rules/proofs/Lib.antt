@@ -5,3 +5,4 @@ pub mod Values
 pub mod Wires
 pub mod Registers
 pub mod Rams
+pub mod Connections
