@@ -6,3 +6,4 @@ pub mod Wires
 pub mod Registers
 pub mod Rams
 pub mod Connections
+pub mod Connected
