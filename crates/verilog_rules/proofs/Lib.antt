@@ -7,3 +7,4 @@ pub mod Registers
 pub mod Rams
 pub mod Connections
 pub mod Connected
+pub mod Uses
