@@ -8,3 +8,4 @@ pub mod Rams
 pub mod Connections
 pub mod Connected
 pub mod Uses
+pub mod Items
