@@ -9,3 +9,4 @@ pub mod Connections
 pub mod Connected
 pub mod Uses
 pub mod Items
+pub mod Used
