@@ -10,3 +10,4 @@ pub mod Connected
 pub mod Uses
 pub mod Items
 pub mod Used
+pub mod WasItems
