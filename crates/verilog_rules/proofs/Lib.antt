@@ -11,3 +11,7 @@ pub mod Uses
 pub mod Items
 pub mod Used
 pub mod WasItems
+pub mod Parts
+pub mod Apart
+pub mod Driven
+pub mod Distinct
