@@ -15,3 +15,4 @@ pub mod Parts
 pub mod Apart
 pub mod Driven
 pub mod Distinct
+pub mod Signals
