@@ -16,3 +16,5 @@ pub mod Apart
 pub mod Driven
 pub mod Distinct
 pub mod Signals
+pub mod Formed
+pub mod WiresHold
