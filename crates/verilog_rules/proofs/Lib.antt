@@ -18,3 +18,4 @@ pub mod Distinct
 pub mod Signals
 pub mod Formed
 pub mod WiresHold
+pub mod Denoting
