@@ -2,11 +2,12 @@
 use Rattle.std.proofs.Common.{◌≡◌, ℕ, zero, suc, ◌+◌, ◌-◌, ◌<◌, ◌≤◌, Bool, true, false, List, [], ◌∷◌, ◌++◌, length, map, drop, Option, Some, None, refl, sym, ap, ◌∙◌, subst, arith}
 use Rattle.std.specs.Prelude.{slice_get}
 use Rattle.std.specs.List.{AllByRecursion, flat_map}
-use Rattle.std.proofs.lemmas.Bool.{eqb-true}
+use Rattle.std.proofs.lemmas.Bool.{eqb-true, not-true}
 use Rattle.std.proofs.lemmas.List.{length-map, length-drop, map-append}
 use Rattle.std.proofs.lemmas.Option.{slice_get_within}
 use Rattle.chw_base.specs.declared.index.WireId.{WireId}
 use Rattle.chw_clock.specs.declared.event.Ports.{Ports}
+use Rattle.name_tables.specs.Names.{is_among}
 use Rattle.verilog_text.specs.Declared.{Declared, declared_by, declared_input, lines_of, names_of, value, width_of}
 use Rattle.verilog_text.specs.Declared.{input_wires as said_input_wires, wires_of as said_wires}
 use Rattle.verilog_text.specs.Declared.{inputs_of as said_inputs, outputs_of as said_outputs, signals_of as said_signals}
@@ -49,6 +50,7 @@ made ports earl mt = resolved_module (place_in ports earl) mt
 
 -- all that is checked of a module
 pub record ModuleChecked (ports : Ports) (earl : List Module) (er : List ResolvedModule) (mt : Module) : Type 0 where
+  pub new : is_among (module_names earl) (bytes_of mt.name) ≡ false
   pub formed : ModuleFormed mt
   pub port_limits_hold : AllTrue (flat_map port_limits (ports_in mt))
   pub item_limits_hold : AllTrue (flat_map item_limits mt.items)
@@ -87,6 +89,7 @@ module_checked ports earl er k mt formed ordered limits names widths drivers =
     let after_shown : AllTrue (driven_list ++ (twice_list ++ last_list)) = second_part shown_list (driven_list ++ (twice_list ++ last_list)) drivers in
     let after_driven : AllTrue (twice_list ++ last_list) = second_part driven_list (twice_list ++ last_list) after_shown in
     record {
+      new = not-true (is_among (module_names earl) (bytes_of mt.name)) names.0;
       formed = formed;
       port_limits_hold = first_part (flat_map port_limits (ports_in mt)) (flat_map item_limits mt.items) limits.1;
       item_limits_hold = second_part (flat_map port_limits (ports_in mt)) (flat_map item_limits mt.items) limits.1;

@@ -19,3 +19,5 @@ pub mod Signals
 pub mod Formed
 pub mod WiresHold
 pub mod Denoting
+pub mod Tops
+pub mod Texts
