@@ -21,3 +21,4 @@ pub mod WiresHold
 pub mod Denoting
 pub mod Tops
 pub mod Texts
+pub mod Wells

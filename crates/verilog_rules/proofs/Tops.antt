@@ -45,7 +45,7 @@ split_at_line (b ∷ bs) is = by_case (eqb b 95) refl is (split_at_line bs)
         let rest : bs ≡ before_line bs ++ (95 ∷ behind_line bs) = later lower_so in
         rw (after, next) (ap (λ (xs : List ℕ). b ∷ xs) rest)
 
-place_got : (names : List (List ℕ)) (name : List ℕ) (k : ℕ) → place_of names name ≡ Some k → (slice_index_or names k [] ≡ name) × (k < length names)
+pub place_got : (names : List (List ℕ)) (name : List ℕ) (k : ℕ) → place_of names name ≡ Some k → (slice_index_or names k [] ≡ name) × (k < length names)
 place_got [] name k placed = absurd (cc)
 place_got (n ∷ names) name k placed = by_case (bytes_eq name n) refl (place_of names name) refl placed (place_got names name)
   where
