@@ -22,3 +22,5 @@ pub mod Denoting
 pub mod Tops
 pub mod Texts
 pub mod Wells
+pub mod ModulesWell
+pub mod TextWell
