@@ -1,47 +1,42 @@
 -- A module that passes its checks denotes its net's module.
-use Rattle.std.proofs.Common.{◌≡◌, ℕ, zero, suc, ◌+◌, ◌-◌, ◌<◌, ◌≤◌, Bool, true, false, List, [], ◌∷◌, ◌++◌, length, map, drop, Option, Some, None, refl, sym, ap, ◌∙◌, subst, arith}
-use Rattle.std.specs.Prelude.{slice_get}
+use Rattle.std.proofs.Common.{◌≡◌, ℕ, suc, ◌+◌, ◌<◌, true, false, List, [], ◌∷◌, ◌++◌, length, map, None, refl, sym, ap, ◌∙◌, subst, arith}
 use Rattle.std.specs.List.{AllByRecursion, flat_map}
 use Rattle.std.proofs.lemmas.Bool.{eqb-true, not-true}
-use Rattle.std.proofs.lemmas.List.{length-map, length-drop, map-append}
+use Rattle.std.proofs.lemmas.List.{length-map, map-append}
 use Rattle.std.proofs.lemmas.Option.{slice_get_within}
 use Rattle.chw_base.specs.declared.index.WireId.{WireId}
 use Rattle.chw_clock.specs.declared.event.Ports.{Ports}
 use Rattle.name_tables.specs.Names.{is_among}
-use Rattle.verilog_text.specs.Declared.{Declared, declared_by, declared_input, lines_of, names_of, value, width_of}
+use Rattle.verilog_text.specs.Declared.{Declared, declared_by, declared_input, value, width_of}
 use Rattle.verilog_text.specs.Declared.{input_wires as said_input_wires, wires_of as said_wires}
-use Rattle.verilog_text.specs.Declared.{inputs_of as said_inputs, outputs_of as said_outputs, signals_of as said_signals}
-use Rattle.verilog_text.specs.Denotes.{DenotesModule, ItemsAre, Scene, assigned_to, scene_of}
-use Rattle.verilog_text.specs.Source.{Line as LineItem, all_of}
+use Rattle.verilog_text.specs.Denotes.{DenotesModule, ItemsAre, Scene, scene_of}
+use Rattle.verilog_text.specs.Source.{Line as LineItem}
 use Rattle.verilog_text.specs.Text.{clock_names}
-use Rattle.verilog_tree.specs.Sources.{bytes_of, item_of, line_of, module_of, port_of}
+use Rattle.verilog_tree.specs.Sources.{bytes_of, item_of, line_of, module_of}
 use Rattle.verilog_tree.specs.declared.item.Item.{Item}
 use Rattle.verilog_tree.specs.declared.module.Module.{Module}
-use Rattle.verilog_tree.specs.declared.module.Port.{Port}
 use Rattle.verilog_tree.specs.declared.word.Line.{Line}
-use Rattle.verilog_rules.specs.Checks.{Check, check}
+use Rattle.verilog_rules.specs.Checks.{Check}
 use Rattle.verilog_rules.specs.Declarations.{declared_words, input_wire, input_wires, inputs_of, line_name, outputs_of, ports_in, signals_of, wires_by, wires_of}
-use Rattle.verilog_rules.specs.DriverRules.{all_driven, all_shown, driven_checks, drives, is_one_of, module_driver_checks, own_names, shown_checks, shows, undriven_checks, wire_number}
+use Rattle.verilog_rules.specs.DriverRules.{all_driven, all_shown, driven_checks, drives, is_one_of, module_driver_checks, own_names, shown_checks, shows, undriven_checks}
 use Rattle.verilog_rules.specs.Limits.{item_limits, module_limits, port_limits}
 use Rattle.verilog_rules.specs.NameRules.{Place, items_checks, module_checks, module_names, once_checks, order_checks, signal_checks, texts}
 use Rattle.verilog_rules.specs.NetOf.{net_module, shown_wire, shown_wires}
-use Rattle.verilog_rules.specs.Resolving.{drivers_of, resolved_module}
+use Rattle.verilog_rules.specs.Resolving.{resolved_module}
 use Rattle.verilog_rules.specs.Texts.{number, width}
-use Rattle.verilog_rules.specs.WidthRules.{driver_width_checks, module_width_checks, range_check, wire_checks, wire_widths}
+use Rattle.verilog_rules.specs.WidthRules.{driver_width_checks, module_width_checks, range_check, wire_checks}
 use Rattle.verilog_rules.specs.declared.resolved.Driver.{Driver}
 use Rattle.verilog_rules.specs.declared.resolved.ResolvedModule.{ResolvedModule}
 use Rattle.verilog_rules.specs.declared.resolved.Wire.{Wire}
-use Rattle.verilog_rules.proofs.Apart.{Apart}
 use Rattle.verilog_rules.proofs.Connections.{NoInput, Ordered, in_order, inputs_said, outputs_said, signals_said}
 use Rattle.verilog_rules.proofs.Distinct.{names_distinct}
 use Rattle.verilog_rules.proofs.Driven.{driven_apart, shown_apart, shown_once, undriven_at}
 use Rattle.verilog_rules.proofs.Formed.{ModuleFormed}
-use Rattle.verilog_rules.proofs.Holding.{AllTrue, each_one, each_part, first_part, second_part}
-use Rattle.verilog_rules.proofs.Items.{Around, output_names, place_in, scene_in}
+use Rattle.verilog_rules.proofs.Holding.{AllTrue, first_part, second_part}
+use Rattle.verilog_rules.proofs.Items.{Around, place_in, scene_in}
 use Rattle.verilog_rules.proofs.Operands.{said}
-use Rattle.verilog_rules.proofs.Parts.{all_both, cells_are, items_are, parts_in, shown_are, shown_by, wires_said_by}
+use Rattle.verilog_rules.proofs.Parts.{all_both, cells_are, items_are, parts_in, shown_are, wires_said_by}
 use Rattle.verilog_rules.proofs.Used.{got_shown}
-use Rattle.verilog_rules.proofs.Wires.{WireHolds}
 use Rattle.verilog_rules.proofs.WiresHold.{no_inputs_driven, wires_hold}
 
 -- the module with its names resolved
@@ -167,36 +162,37 @@ module_denotes ports earl er mt c signals_are =
     let place : Place = place_in ports earl in
     let no_input : AllByRecursion (NoInput m.wires) (flat_map drives m.drivers) = no_inputs_driven mt (flat_map drives m.drivers) (driven_apart m.inputs [] (flat_map drives m.drivers) c.driven_hold).1 in
     let items : ItemsAre (scene_in ports earl m) (map said (input_wires mt)) (map item_of mt.items) (parts_in m place (input_wires mt) mt.items) =
-        items_are ports earl er m (input_wires mt) mt.items (around ports earl er mt c) refl c.formed c.items c.widths no_input in
+    items_are ports earl er m (input_wires mt) mt.items (around ports earl er mt c) refl c.formed c.items c.widths no_input in
     let scene : scene_in ports earl m ≡ scene_of ports (map module_of earl) (module_of mt) =
-        ap (λ (outs : List LineItem). a_scene ports earl outs) (sym (outputs_said (ports_in mt))) in
+    ap (λ (outs : List LineItem). a_scene ports earl outs) (sym (outputs_said (ports_in mt))) in
     record {
       order = in_order 0 (ports_in mt) c.order;
       signals = signals_said (ports_in mt) ∙ signals_are;
       names = names_distinct mt c.once;
       ranges = subst (λ (outs : List LineItem). AllByRecursion EndsAtZero (outs ++ map (λ (d : Declared). d.line) (said_wires (module_of mt)))) (sym (outputs_said (ports_in mt)))
-        (subst (λ (ds : List Declared). AllByRecursion EndsAtZero (map line_of (outputs_of (ports_in mt)) ++ map (λ (d : Declared). d.line) ds)) (sym (wires_said mt))
-        (all_both EndsAtZero (map line_of (outputs_of (ports_in mt))) (map (λ (d : Declared). d.line) (map said (wires_of mt))) (outputs_end (outputs_of (ports_in mt)) c.ranges) (wires_end (wires_of mt) c.wires)));
+          (subst (λ (ds : List Declared). AllByRecursion EndsAtZero (map line_of (outputs_of (ports_in mt)) ++ map (λ (d : Declared). d.line) ds)) (sym (wires_said mt))
+          (all_both EndsAtZero (map line_of (outputs_of (ports_in mt))) (map (λ (d : Declared). d.line) (map said (wires_of mt))) (outputs_end (outputs_of (ports_in mt)) c.ranges) (wires_end (wires_of mt) c.wires)));
       parts = parts_in m place (input_wires mt) mt.items;
       items = subst (λ (s : Scene). ItemsAre s (said_input_wires (module_of mt)) (map item_of mt.items) (parts_in m place (input_wires mt) mt.items)) scene
-        (subst (λ (ds : List Declared). ItemsAre (scene_in ports earl m) ds (map item_of mt.items) (parts_in m place (input_wires mt) mt.items)) (sym (input_wires_said mt)) items);
+          (subst (λ (ds : List Declared). ItemsAre (scene_in ports earl m) ds (map item_of mt.items) (parts_in m place (input_wires mt) mt.items)) (sym (input_wires_said mt)) items);
       inputs = sym (ap (λ (ls : List LineItem). length ls) (inputs_said (ports_in mt)) ∙ length-map (inputs_of (ports_in mt)) line_of);
       widths = widths_said (wires_of mt) ∙ sym (ap (map (λ (d : Declared). width_of d.line.range)) (wires_said mt));
       cells = sym (cells_are m place (input_wires mt) mt.items);
       outputs = lines_long m.drivers 0 (outputs_of (ports_in mt))
-        ∙ sym (ap (λ (ls : List LineItem). length ls) (outputs_said (ports_in mt)) ∙ length-map (outputs_of (ports_in mt)) line_of);
+          ∙ sym (ap (λ (ls : List LineItem). length ls) (outputs_said (ports_in mt)) ∙ length-map (outputs_of (ports_in mt)) line_of);
       assigned = λ k a found.
-        let shown = got_shown m.drivers 0 (outputs_of (ports_in mt)) k a found in
-        let is : shown_wire m.drivers k ≡ a = shown_wire_is m.drivers k a shown.2 in
-        let below : k < length (map (λ (l : Line). l.name) (outputs_of (ports_in mt))) =
-            subst (λ (n : ℕ). k < n) (sym (length-map (outputs_of (ports_in mt)) (λ (l : Line). l.name))) (slice_get_within (outputs_of (ports_in mt)) k shown.0 shown.1) in
-        let here : is_one_of (all_shown m.drivers) k ≡ true =
-            one_of_number (all_shown m.drivers) k (undriven_at (all_shown m.drivers) 0 (map (λ (l : Line). l.name) (outputs_of (ports_in mt))) c.all_shown_hold k below) in
-        shown_are m place k (input_wires mt) mt.items ∙ shown_once [] m.drivers k (shown_apart [] (flat_map shows m.drivers) c.shown_hold) here
-        ∙ ap (λ (v : WireId). v ∷ []) is;
+          let shown = got_shown m.drivers 0 (outputs_of (ports_in mt)) k a found in
+          let is : shown_wire m.drivers k ≡ a = shown_wire_is m.drivers k a shown.2 in
+          let below : k < length (map (λ (l : Line). l.name) (outputs_of (ports_in mt))) =
+          subst (λ (n : ℕ). k < n) (sym (length-map (outputs_of (ports_in mt)) (λ (l : Line). l.name))) (slice_get_within (outputs_of (ports_in mt)) k shown.0 shown.1) in
+          let here : is_one_of (all_shown m.drivers) k ≡ true =
+          one_of_number (all_shown m.drivers) k (undriven_at (all_shown m.drivers) 0 (map (λ (l : Line). l.name) (outputs_of (ports_in mt))) c.all_shown_hold k below) in
+          shown_are m place k (input_wires mt) mt.items ∙ shown_once [] m.drivers k (shown_apart [] (flat_map shows m.drivers) c.shown_hold) here
+          ∙ ap (λ (v : WireId). v ∷ []) is;
     }
   where
     shown_wire_is : (drivers : List Driver) (k : ℕ) (o : WireId) → shown_wire drivers (0 + k) ≡ o → shown_wire drivers k ≡ o
     shown_wire_is drivers k o is = let none : 0 + k ≡ k = omega arith in rw none at is
+
     one_of_number : (ns : List ℕ) (k : ℕ) → is_one_of ns (0 + k) ≡ true → is_one_of ns k ≡ true
     one_of_number ns k is = let none : 0 + k ≡ k = omega arith in rw none at is

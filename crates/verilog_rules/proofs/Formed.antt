@@ -1,21 +1,18 @@
 -- The literals of a tree have their form, since they were tokens.
-use Rattle.std.proofs.Common.{◌≡◌, ℕ, zero, suc, Bool, List, [], ◌∷◌, ◌++◌, map, Option, Some, None, refl, sym, subst}
+use Rattle.std.proofs.Common.{◌≡◌, ℕ, List, [], ◌∷◌, ◌++◌, Option, Some, None, refl, subst}
 use Rattle.std.specs.Prelude.{codes, slice_get}
 use Rattle.std.specs.List.{AllByRecursion, flat_map}
 use Rattle.verilog_text.specs.VForms.{HasForm, Token}
 use Rattle.verilog_text.specs.VTokens.{Placed, TokensFrom}
 use Rattle.verilog_text.specs.VTokens.TokensFrom.{ends, next}
-use Rattle.verilog_tree.specs.Marks.{AreMarked, IsTreeOf, Mark, a_keyword, a_literal, a_sign, anywhere, clock_marks, commas_before, initial_marks, item_marks, module_marks, port_marks, ram_marks, show_marks, tree_marks, word_marks, write_marks}
+use Rattle.verilog_tree.specs.Marks.{AreMarked, IsTreeOf, Mark, a_keyword, a_literal, a_sign, clock_marks, commas_before, initial_marks, item_marks, module_marks, port_marks, show_marks, tree_marks, word_marks, write_marks}
 use Rattle.verilog_tree.specs.declared.item.FirstWord.{FirstWord}
-use Rattle.verilog_tree.specs.declared.item.Edge.{Edge}
 use Rattle.verilog_tree.specs.declared.item.Ram.{Ram}
 use Rattle.verilog_tree.specs.declared.item.Reset.{Reset}
 use Rattle.verilog_tree.specs.declared.item.Item.{Item}
 use Rattle.verilog_tree.specs.declared.item.Item.TheVariants as item
 use Rattle.verilog_tree.specs.declared.module.Module.{Module}
-use Rattle.verilog_tree.specs.declared.module.Port.{Port}
 use Rattle.verilog_tree.specs.declared.module.Tree.{Tree}
-use Rattle.verilog_tree.specs.declared.right.Right.{Right}
 use Rattle.verilog_tree.specs.declared.right.Right.TheVariants as right
 use Rattle.verilog_tree.specs.declared.word.Word.{Word}
 use Rattle.verilog_tree.specs.Sources.{bytes_of}
@@ -48,9 +45,10 @@ literal_at marks n w all found = each_at MarkFormed marks n (a_literal w) all fo
 
 words_formed : (words : List FirstWord) → AllByRecursion MarkFormed (flat_map word_marks words) → AllByRecursion (λ (word : FirstWord). IsLiteral (bytes_of word.literal)) words
 words_formed [] all = tt
-words_formed (word ∷ words) all =
-    (literal_at (word_marks word) 5 word.literal (all_front MarkFormed (word_marks word) (flat_map word_marks words) all) refl,
-     words_formed words (all_back MarkFormed (word_marks word) (flat_map word_marks words) all))
+words_formed (word ∷ words) all = (
+  literal_at (word_marks word) 5 word.literal (all_front MarkFormed (word_marks word) (flat_map word_marks words) all) refl,
+  words_formed words (all_back MarkFormed (word_marks word) (flat_map word_marks words) all),
+)
 
 -- the marks of a RAM behind its words
 abbrev drop_first : Ram → List Mark
@@ -80,8 +78,10 @@ item_formed (item.Ram ram) all =
     let front : AllByRecursion MarkFormed first = all_front MarkFormed first rest all in
     let back : AllByRecursion MarkFormed rest = all_back MarkFormed first rest all in
     record {
-      words = (literal_at first 7 ram.first.literal front refl,
-        words_formed ram.others (all_front MarkFormed (flat_map word_marks ram.others) _ front.1.1.1.1.1.1.1.1.1));
+      words = (
+        literal_at first 7 ram.first.literal front refl,
+        words_formed ram.others (all_front MarkFormed (flat_map word_marks ram.others) _ front.1.1.1.1.1.1.1.1.1),
+      );
       write = literal_at rest 14 ram.write.count back refl;
       read = literal_at rest 29 ram.read.count back refl;
       zeros = literal_at rest 37 ram.zeros back refl;

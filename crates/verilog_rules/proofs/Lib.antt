@@ -24,3 +24,4 @@ pub mod Texts
 pub mod Wells
 pub mod ModulesWell
 pub mod TextWell
+pub mod WholeText

@@ -1,25 +1,22 @@
 -- The modules of a checked text are well formed.
-use Rattle.std.proofs.Common.{◌≡◌, ℕ, zero, suc, ◌+◌, ◌-◌, ◌<◌, ◌≤◌, Bool, true, false, not, cond, eqb, ◌||◌, List, [], ◌∷◌, ◌++◌, length, map, take, drop, Option, Some, None, refl, sym, ap, ◌∙◌, subst, append_assoc, arith, inl, inr}
+use Rattle.std.proofs.Common.{◌≡◌, ℕ, zero, suc, ◌+◌, ◌-◌, ◌<◌, ◌≤◌, Bool, true, false, not, cond, eqb, ◌||◌, List, [], ◌∷◌, ◌++◌, length, map, take, drop, Some, refl, sym, ap, ◌∙◌, subst, append_assoc, arith}
 use Rattle.std.specs.Prelude.{slice_get, slice_index}
 use Rattle.std.specs.List.{AllByRecursion, flat_map}
-use Rattle.std.proofs.lemmas.Bool.{eqb-false, eqb-true, false≢true, not-true, or_cases}
+use Rattle.std.proofs.lemmas.Bool.{eqb-true, false≢true}
 use Rattle.std.proofs.lemmas.List.{append-nil, length-append, length-drop, length-map, map-append}
 use Rattle.std.proofs.lemmas.List.Concat.{flat_map-append}
 use Rattle.std.proofs.lemmas.Option.{same_Some, slice_get_within}
 use Rattle.chw_base.specs.declared.index.WireId.{WireId}
-use Rattle.chw_base.specs.declared.limits.TheConstants.{MODULES, WIRE_BITS}
 use Rattle.chw_clock.specs.declared.event.Ports.{Ports}
-use Rattle.net_rules.specs.WellFormed.{HasFewWords, NamesExist, WidthsAgree, wire_driven_at}
+use Rattle.net_rules.specs.WellFormed.{wire_driven_at}
 use Rattle.netlist.specs.Sound.{EachOnce, HasWidth, IsWire, IsWireWidth}
 use Rattle.netlist.specs.Wires.{driven}
-use Rattle.netlist.specs.declared.net.Cell.{Cell}
 use Rattle.netlist.specs.declared.net.Module.{Module as NetModule}
 use Rattle.verilog_tree.specs.declared.item.Item.{Item}
 use Rattle.verilog_tree.specs.declared.module.Module.{Module}
 use Rattle.verilog_tree.specs.declared.word.Line.{Line}
-use Rattle.verilog_tree.specs.declared.word.Word.{Word}
-use Rattle.verilog_rules.specs.Declarations.{input_wire, input_wires, inputs_of, line_name, outputs_of, ports_in, wires_by, wires_of}
-use Rattle.verilog_rules.specs.DriverRules.{all_shown, drivers_from, drives, is_one_of, module_driver_checks, own_names, shows, some_output, wire_number}
+use Rattle.verilog_rules.specs.Declarations.{input_wire, input_wires, inputs_of, outputs_of, ports_in, wires_by}
+use Rattle.verilog_rules.specs.DriverRules.{all_shown, drivers_from, drives, is_one_of, module_driver_checks, own_names}
 use Rattle.verilog_rules.specs.NameRules.{Place, item_checks, items_checks}
 use Rattle.verilog_rules.specs.NetOf.{cells_by, net_module, shown_wire, shown_wires, wire}
 use Rattle.verilog_rules.specs.Resolving.{driver_of, drivers_of, resolved_modules}
@@ -59,13 +56,13 @@ drivers_well ports earl er m ws (it ∷ items) around fits full formed names wid
     let more : m.wires ≡ (ws ++ wires_by it) ++ flat_map wires_by items = full ∙ sym (append_assoc ws (wires_by it) (flat_map wires_by items)) in
     all_both (DriverWell (length ports.domains) (map net_module er) m) here later
     (item_well ports earl er m ws it around fits (extends_by ws (wires_by it ++ flat_map wires_by items) m.wires full) formed.0
-       (first_part (item_checks p (output_names m) ws it) (items_checks p (output_names m) (ws ++ wires_by it) items) names)
-       (first_part (flat_map (driver_width_checks er m) here) (flat_map (driver_width_checks er m) later) all)
-       (all_front (NoInput m.wires) (flat_map drives here) (flat_map drives later) no_input))
+    (first_part (item_checks p (output_names m) ws it) (items_checks p (output_names m) (ws ++ wires_by it) items) names)
+    (first_part (flat_map (driver_width_checks er m) here) (flat_map (driver_width_checks er m) later) all)
+    (all_front (NoInput m.wires) (flat_map drives here) (flat_map drives later) no_input))
     (drivers_well ports earl er m (ws ++ wires_by it) items around fits more formed.1
-       (second_part (item_checks p (output_names m) ws it) (items_checks p (output_names m) (ws ++ wires_by it) items) names)
-       (second_part (flat_map (driver_width_checks er m) here) (flat_map (driver_width_checks er m) later) all)
-       (all_back (NoInput m.wires) (flat_map drives here) (flat_map drives later) no_input))
+    (second_part (item_checks p (output_names m) ws it) (items_checks p (output_names m) (ws ++ wires_by it) items) names)
+    (second_part (flat_map (driver_width_checks er m) here) (flat_map (driver_width_checks er m) later) all)
+    (all_back (NoInput m.wires) (flat_map drives here) (flat_map drives later) no_input))
 
 cells_well : (domains : ℕ) (earlier : List NetModule) (m : ResolvedModule) (ds : List Driver) → AllByRecursion (DriverWell domains earlier m) ds
     → AllByRecursion (CellWell domains earlier (wire_widths m)) (flat_map (cells_by m) ds)
@@ -109,9 +106,10 @@ outputs_exist : (widths : List ℕ) (drivers : List Driver) (from : ℕ) (ls : L
     → AllByRecursion (IsWire widths) (shown_wires drivers from ls)
 outputs_exist widths drivers from [] all = tt
 outputs_exist widths drivers from (l ∷ ls) all =
-    let none : from + 0 ≡ from = omega arith in
-    (is_wire widths (shown_wire drivers from) (width l.range) (rw none at (all 0 l refl)),
-     outputs_exist widths drivers (from + 1) ls (λ k n found. next k n (all (suc k) n found)))
+    let none : from + 0 ≡ from = omega arith in (
+      is_wire widths (shown_wire drivers from) (width l.range) (rw none at (all 0 l refl)),
+      outputs_exist widths drivers (from + 1) ls (λ k n found. next k n (all (suc k) n found)),
+    )
   where
     next : (k : ℕ) (n : Line) → HasWidth widths (shown_wire drivers (from + suc k)) (width n.range) → HasWidth widths (shown_wire drivers (from + 1 + k)) (width n.range)
     next k n has = let same : from + suc k ≡ from + 1 + k = omega arith in rw same at has
@@ -129,18 +127,20 @@ module_fits ports earl er mt c fits =
     let m : ResolvedModule = made ports earl mt in
     let no_input : AllByRecursion (NoInput m.wires) (flat_map drives m.drivers) = no_inputs_driven mt (flat_map drives m.drivers) (driven_apart m.inputs [] (flat_map drives m.drivers) c.driven_hold).1 in
     let well : AllByRecursion (DriverWell (length ports.domains) (map net_module er) m) m.drivers =
-        drivers_well ports earl er m (input_wires mt) mt.items (around ports earl er mt c) fits refl c.formed c.items c.widths no_input in
-    (well, record {
-      inputs = refl;
-      outputs = refl;
-      wide_outputs = λ k l found.
-        let below : k < length (map (λ (l : Line). l.name) (outputs_of (ports_in mt))) =
+    drivers_well ports earl er m (input_wires mt) mt.items (around ports earl er mt c) fits refl c.formed c.items c.widths no_input in (
+      well,
+      record {
+        inputs = refl;
+        outputs = refl;
+        wide_outputs = λ k l found.
+            let below : k < length (map (λ (l : Line). l.name) (outputs_of (ports_in mt))) =
             subst (λ (n : ℕ). k < n) (sym (length-map (outputs_of (ports_in mt)) (λ (l : Line). l.name))) (slice_get_within (outputs_of (ports_in mt)) k l found) in
-        let here : is_one_of (all_shown m.drivers) k ≡ true =
+            let here : is_one_of (all_shown m.drivers) k ≡ true =
             from_zero (all_shown m.drivers) k (undriven_at (all_shown m.drivers) 0 (map (λ (l : Line). l.name) (outputs_of (ports_in mt))) c.all_shown_hold k below) in
-        subst (λ (n : ℕ). HasWidth (wire_widths m) (shown_wire m.drivers k) n) (width_at (outputs_of (ports_in mt)) k l found)
-        (shown_wide (length ports.domains) (map net_module er) m m.drivers k well here);
-    })
+            subst (λ (n : ℕ). HasWidth (wire_widths m) (shown_wire m.drivers k) n) (width_at (outputs_of (ports_in mt)) k l found)
+            (shown_wide (length ports.domains) (map net_module er) m m.drivers k well here);
+      },
+    )
   where
     from_zero : (ns : List ℕ) (k : ℕ) → is_one_of ns (0 + k) ≡ true → is_one_of ns k ≡ true
     from_zero ns k is = let none : 0 + k ≡ k = omega arith in rw none at is
@@ -152,11 +152,11 @@ module_well ports earl er mt c fits =
     let both = module_fits ports earl er mt c fits in
     let ops : List Operand = flat_map drives m.drivers in
     let count : length (own_names m) ≡ length (wire_widths m) - m.inputs =
-        length-map (drop m.inputs m.wires) (λ (w : Wire). w.line.name) ∙ length-drop m.inputs m.wires ∙ ap (λ (n : ℕ). n - m.inputs) (sym (length-map m.wires (λ (w : Wire). width w.line.range))) in
+    length-map (drop m.inputs m.wires) (λ (w : Wire). w.line.name) ∙ length-drop m.inputs m.wires ∙ ap (λ (n : ℕ). n - m.inputs) (sym (length-map m.wires (λ (w : Wire). width w.line.range))) in
     let once : EachOnce m.inputs (length (wire_widths m)) (wire_driven_at (map wire ops)) = each_once m.inputs (length (wire_widths m)) ops (own_names m) count c.driven_hold c.all_driven_hold in
     let long : length (wire_widths m) ≡ length (inputs_of (ports_in mt)) + length (flat_map wires_by mt.items) =
-        length-map m.wires (λ (w : Wire). width w.line.range) ∙ length-append (input_wires mt) (flat_map wires_by mt.items)
-        ∙ ap (λ (n : ℕ). n + length (flat_map wires_by mt.items)) (length-map (inputs_of (ports_in mt)) input_wire) in
+    length-map m.wires (λ (w : Wire). width w.line.range) ∙ length-append (input_wires mt) (flat_map wires_by mt.items)
+    ∙ ap (λ (n : ℕ). n + length (flat_map wires_by mt.items)) (length-map (inputs_of (ports_in mt)) input_wire) in
     record {
       cells = cells_well (length ports.domains) (map net_module er) m m.drivers both.0;
       outputs = outputs_exist (wire_widths m) m.drivers 0 (outputs_of (ports_in mt)) (λ k l found. from_zero m k (width l.range) (both.1.wide_outputs k l found));
@@ -167,6 +167,7 @@ module_well ports earl er mt c fits =
   where
     from_zero : (m : ResolvedModule) (k n : ℕ) → HasWidth (wire_widths m) (shown_wire m.drivers k) n → HasWidth (wire_widths m) (shown_wire m.drivers (0 + k)) n
     from_zero m k n has = let none : 0 + k ≡ k = omega arith in rw none has
+
     within : (all inputs more : ℕ) → all ≡ inputs + more → inputs ≤ all
     within all inputs more is = omega arith
 
@@ -216,9 +217,11 @@ last_checked ports earl er [] last all fits =
     (er, subst (λ (e : List Module). ModuleChecked ports e er last) (sym (append-nil earl)) all.0, subst (λ (e : List Module). Fits e er) (sym (append-nil earl)) fits)
 last_checked ports earl er (mt ∷ ms) last all fits =
     let new : ModuleFits mt (made ports earl mt) = (module_fits ports earl er mt all.0 (earlier_fit earl er fits)).1 in
-    let later = last_checked ports (earl ++ mt ∷ []) (er ++ made ports earl mt ∷ []) ms last all.3 (fits_more earl er mt (made ports earl mt) fits new) in
-    (later.0, subst (λ (e : List Module). ModuleChecked ports e later.0 last) (append_assoc earl (mt ∷ []) ms) later.1,
-     subst (λ (e : List Module). Fits e later.0) (append_assoc earl (mt ∷ []) ms) later.2)
+    let later = last_checked ports (earl ++ mt ∷ []) (er ++ made ports earl mt ∷ []) ms last all.3 (fits_more earl er mt (made ports earl mt) fits new) in (
+      later.0,
+      subst (λ (e : List Module). ModuleChecked ports e later.0 last) (append_assoc earl (mt ∷ []) ms) later.1,
+      subst (λ (e : List Module). Fits e later.0) (append_assoc earl (mt ∷ []) ms) later.2,
+    )
 
 pub last_fits : (ports : Ports) (earl : List Module) (er : List ResolvedModule) (last : Module) → ModuleChecked ports earl er last → Fits earl er → ModuleFits last (made ports earl last)
 last_fits ports earl er last c fits = (module_fits ports earl er last c (earlier_fit earl er fits)).1
@@ -231,6 +234,7 @@ last_is ports earl (mt ∷ ms) last zero m found is = absurd (too_short (net_mod
   where
     too_short : (xs : List NetModule) → 1 ≤ length xs → 0 + 1 ≡ suc (length xs) → ⊥
     too_short xs least same = omega arith
+
     some : (ms e : List Module) → 1 ≤ length (net_modules ports e (ms ++ last ∷ []))
     some [] e = omega arith
     some (n ∷ ms) e = omega arith

@@ -1,5 +1,5 @@
 -- The clocks and resets of a module, and the domains that they make.
-use Rattle.std.proofs.Common.{◌≡◌, ℕ, zero, suc, ◌+◌, ◌-◌, ◌<◌, ◌≤◌, Bool, true, false, cond, eqb, ◌&&◌, ◌||◌, List, [], ◌∷◌, ◌++◌, length, map, take, drop, Option, Some, None, refl, sym, ap, ◌∙◌, subst, arith, inl, inr}
+use Rattle.std.proofs.Common.{◌≡◌, ℕ, zero, suc, ◌+◌, ◌-◌, ◌<◌, ◌≤◌, Bool, true, false, cond, eqb, ◌&&◌, ◌||◌, List, [], ◌∷◌, ◌++◌, length, take, drop, Option, Some, None, refl, sym, ap, ◌∙◌, subst, arith, inl, inr}
 use Rattle.std.specs.Prelude.{codes}
 use Rattle.std.specs.List.{AllByRecursion, list_all}
 use Rattle.std.specs.Str.{bytes_eq}
@@ -82,21 +82,22 @@ first_is_clock (Some b) name no_clock is = by_case (is_clock b) no_clock is
         → (is_clock name ≡ true) × (is_upper (signal_domain name) ≡ true)
     by_case true never so = absurd (false≢true (sym never))
     by_case false never so = elim (or_cases (is_clock name && is_upper (signal_domain name)) false so) as (λ _. (is_clock name ≡ true) × (is_upper (signal_domain name) ≡ true)) [
-        | inl clock ↦ and_parts (is_clock name) (is_upper (signal_domain name)) clock
-        | inr other ↦ absurd (false≢true other)
-      ]
+      | inl clock ↦ and_parts (is_clock name) (is_upper (signal_domain name)) clock
+      | inr other ↦ absurd (false≢true other)
+    ]
 
 -- behind a clock stands a clock, or its reset
 behind_clock : (b name : List ℕ) → is_signal_behind (Some b) name ≡ true → (c : Bool) → is_clock name ≡ c
     → cond c (is_signal_behind None name ≡ true) (name ≡ reset_name (signal_domain b))
 behind_clock b name is c clock = elim (or_cases (is_clock name && is_upper (signal_domain name)) (is_clock b && bytes_eq name (reset_name (signal_domain b))) is) [
-    | inl first ↦ at_clock c clock first
-    | inr second ↦ at_reset c clock ((bytes_eq-Decides name (reset_name (signal_domain b))).0 (and_parts (is_clock b) (bytes_eq name (reset_name (signal_domain b))) second).1)
-  ]
+  | inl first ↦ at_clock c clock first
+  | inr second ↦ at_reset c clock ((bytes_eq-Decides name (reset_name (signal_domain b))).0 (and_parts (is_clock b) (bytes_eq name (reset_name (signal_domain b))) second).1)
+]
   where
     at_clock : (c : Bool) → is_clock name ≡ c → (is_clock name && is_upper (signal_domain name)) ≡ true → cond c (is_signal_behind None name ≡ true) (name ≡ reset_name (signal_domain b))
     at_clock true so first = first
     at_clock false so first = absurd (false≢true (sym so ∙ (and_parts (is_clock name) (is_upper (signal_domain name)) first).0))
+
     at_reset : (c : Bool) → is_clock name ≡ c → name ≡ reset_name (signal_domain b) → cond c (is_signal_behind None name ≡ true) (name ≡ reset_name (signal_domain b))
     at_reset true so reset = absurd (false≢true (sym (no_reset_clock name (signal_domain b) reset) ∙ so))
     at_reset false so reset = reset
@@ -115,23 +116,24 @@ alone k s rest clock upper later =
     let ends : k + suc (length (domains_of rest)) ≡ k + 1 + length (domains_of rest) = omega arith in
     record {
       names = λ given agree.
-        let none : is_one_of given (dom k) ≡ false =
-            agree k (omega arith) ∙ ap (λ (ds : List DomId). is_one_of ds (dom k)) resets ∙ none_below (k + 1) (k + 1 + length (domains_of rest)) k (resets_of (k + 1) rest) later.rise (omega arith) in
-        let more : texts rest ≡ clock_names given (k + 1) (domains_of rest) =
-            later.names given (λ j from. agree j (weaker j from) ∙ ap (λ (ds : List DomId). is_one_of ds (dom j)) resets) in
-        let first : domain_names given k (signal_domain (bytes_of s)) ≡ clock_name (signal_domain (bytes_of s)) ∷ [] =
-            ap (λ (b : Bool). clock_name (signal_domain (bytes_of s)) ∷ cond b (reset_name (signal_domain (bytes_of s)) ∷ []) []) none in
-        both (bytes_of s) (texts rest) (clock_name (signal_domain (bytes_of s))) (clock_names given (k + 1) (domains_of rest)) (clock_text (bytes_of s) clock) more
-        ∙ sym (ap (λ (front : List (List ℕ)). front ++ clock_names given (k + 1) (domains_of rest)) first)
-        ∙ sym (ap (clock_names given k) domains);
+          let none : is_one_of given (dom k) ≡ false =
+          agree k (omega arith) ∙ ap (λ (ds : List DomId). is_one_of ds (dom k)) resets ∙ none_below (k + 1) (k + 1 + length (domains_of rest)) k (resets_of (k + 1) rest) later.rise (omega arith) in
+          let more : texts rest ≡ clock_names given (k + 1) (domains_of rest) =
+          later.names given (λ j from. agree j (weaker j from) ∙ ap (λ (ds : List DomId). is_one_of ds (dom j)) resets) in
+          let first : domain_names given k (signal_domain (bytes_of s)) ≡ clock_name (signal_domain (bytes_of s)) ∷ [] =
+          ap (λ (b : Bool). clock_name (signal_domain (bytes_of s)) ∷ cond b (reset_name (signal_domain (bytes_of s)) ∷ []) []) none in
+          both (bytes_of s) (texts rest) (clock_name (signal_domain (bytes_of s))) (clock_names given (k + 1) (domains_of rest)) (clock_text (bytes_of s) clock) more
+          ∙ sym (ap (λ (front : List (List ℕ)). front ++ clock_names given (k + 1) (domains_of rest)) first)
+          ∙ sym (ap (clock_names given k) domains);
       uppers = subst (AllByRecursion IsUpper) (sym domains) (upper_so (signal_domain (bytes_of s)) upper, later.uppers);
       rise = subst (λ (ds : List DomId). RiseWithin k (k + length (domains_of (s ∷ rest))) ds) (sym resets)
-        (subst (λ (ds : List (List ℕ)). RiseWithin k (k + length ds) (resets_of (k + 1) rest)) (sym domains)
-        (rw ends (rise_from k (k + 1) (k + 1 + length (domains_of rest)) (resets_of (k + 1) rest) (omega arith) later.rise)));
+          (subst (λ (ds : List (List ℕ)). RiseWithin k (k + length ds) (resets_of (k + 1) rest)) (sym domains)
+          (rw ends (rise_from k (k + 1) (k + 1 + length (domains_of rest)) (resets_of (k + 1) rest) (omega arith) later.rise)));
     }
   where
     weaker : (j : ℕ) → k + 1 ≤ j → k ≤ j
     weaker j from = omega arith
+
     both : (x : List ℕ) (xs : List (List ℕ)) (y : List ℕ) (ys : List (List ℕ)) → x ≡ y → xs ≡ ys → x ∷ xs ≡ y ∷ ys
     both x xs y ys p q = λ i. p i ∷ q i
 
@@ -145,29 +147,33 @@ with_reset k s r rest clock upper no_clock reset later =
     let ends : k + suc (length (domains_of rest)) ≡ k + 1 + length (domains_of rest) = omega arith in
     record {
       names = λ given agree.
-        let is : is_one_of given (dom k) ≡ true =
-            agree k (omega arith) ∙ ap (λ (ds : List DomId). is_one_of ds (dom k)) resets ∙ ap (λ b. b || is_one_of (resets_of (k + 1) rest) (dom k)) (eq-eqb k k refl) in
-        let more : texts rest ≡ clock_names given (k + 1) (domains_of rest) =
-            later.names given (λ j from. agree j (weaker j from) ∙ ap (λ (ds : List DomId). is_one_of ds (dom j)) resets
-              ∙ ap (λ b. b || is_one_of (resets_of (k + 1) rest) (dom j)) (ne_eqb k j (λ same. above j from same))) in
-        let first : domain_names given k d ≡ clock_name d ∷ reset_name d ∷ [] = ap (λ (b : Bool). clock_name d ∷ cond b (reset_name d ∷ []) []) is in
-        three (bytes_of s) (bytes_of r) (texts rest) (clock_name d) (reset_name d) (clock_names given (k + 1) (domains_of rest)) (clock_text (bytes_of s) clock) reset more
-        ∙ sym (ap (λ (front : List (List ℕ)). front ++ clock_names given (k + 1) (domains_of rest)) first)
-        ∙ sym (ap (clock_names given k) domains);
+          let is : is_one_of given (dom k) ≡ true =
+          agree k (omega arith) ∙ ap (λ (ds : List DomId). is_one_of ds (dom k)) resets ∙ ap (λ b. b || is_one_of (resets_of (k + 1) rest) (dom k)) (eq-eqb k k refl) in
+          let more : texts rest ≡ clock_names given (k + 1) (domains_of rest) =
+          later.names given (λ j from. agree j (weaker j from) ∙ ap (λ (ds : List DomId). is_one_of ds (dom j)) resets
+          ∙ ap (λ b. b || is_one_of (resets_of (k + 1) rest) (dom j)) (ne_eqb k j (λ same. above j from same))) in
+          let first : domain_names given k d ≡ clock_name d ∷ reset_name d ∷ [] = ap (λ (b : Bool). clock_name d ∷ cond b (reset_name d ∷ []) []) is in
+          three (bytes_of s) (bytes_of r) (texts rest) (clock_name d) (reset_name d) (clock_names given (k + 1) (domains_of rest)) (clock_text (bytes_of s) clock) reset more
+          ∙ sym (ap (λ (front : List (List ℕ)). front ++ clock_names given (k + 1) (domains_of rest)) first)
+          ∙ sym (ap (clock_names given k) domains);
       uppers = subst (AllByRecursion IsUpper) (sym domains) (upper_so d upper, later.uppers);
       rise = subst (λ (ds : List DomId). RiseWithin k (k + length (domains_of (s ∷ r ∷ rest))) ds) (sym resets)
-        (subst (λ (ds : List (List ℕ)). RiseWithin k (k + length ds) (dom k ∷ resets_of (k + 1) rest)) (sym domains)
-        (omega arith, omega arith, rw ends later.rise));
+          (subst (λ (ds : List (List ℕ)). RiseWithin k (k + length ds) (dom k ∷ resets_of (k + 1) rest)) (sym domains)
+          (omega arith, omega arith, rw ends later.rise));
     }
   where
     weaker : (j : ℕ) → k + 1 ≤ j → k ≤ j
     weaker j from = omega arith
+
     above : (j : ℕ) → k + 1 ≤ j → k ≡ j → ⊥
     above j from same = omega arith
+
     three : (x y : List ℕ) (xs : List (List ℕ)) (u v : List ℕ) (us : List (List ℕ)) → x ≡ u → y ≡ v → xs ≡ us → x ∷ y ∷ xs ≡ u ∷ v ∷ us
     three x y xs u v us p q t = λ i. p i ∷ q i ∷ t i
+
     reset_domains : (r : Word) (rest : List Word) → is_clock (bytes_of r) ≡ false → domains_of (r ∷ rest) ≡ domains_of rest
     reset_domains r rest is = rw is refl
+
     reset_resets : (k : ℕ) (r : Word) (rest : List Word) → is_clock (bytes_of r) ≡ false → resets_of (k + 1) (r ∷ rest) ≡ dom k ∷ resets_of (k + 1) rest
     reset_resets k r rest is = let back : k + 1 - 1 ≡ k = omega arith in rw (is, back) refl
 

@@ -1,26 +1,13 @@
 -- The net of a checked text is well formed.
-use Rattle.std.proofs.Common.{◌≡◌, ℕ, zero, suc, ◌+◌, ◌<◌, ◌≤◌, Bool, true, false, cond, List, [], ◌∷◌, ◌++◌, length, map, take, Option, Some, None, refl, sym, ap, ◌∙◌, subst, arith}
-use Rattle.std.specs.Prelude.{codes, slice_get}
+use Rattle.std.proofs.Common.{◌≡◌, ℕ, ◌+◌, ◌≤◌, Bool, true, false, cond, List, [], ◌∷◌, ◌++◌, length, map, refl, sym, ap, ◌∙◌, subst, arith}
+use Rattle.std.specs.Prelude.{codes}
 use Rattle.std.specs.List.{AllByRecursion, flat_map}
 use Rattle.std.specs.Str.{bytes_eq}
-use Rattle.std.proofs.lemmas.Bool.{ltb-true}
-use Rattle.std.proofs.lemmas.List.{length-map, map-append}
-use Rattle.std.proofs.lemmas.Option.{same_Some, slice_get_within}
+use Rattle.std.proofs.lemmas.List.{map-append}
 use Rattle.std.proofs.lemmas.Slice.Eq.{bytes_eq-Decides}
 use Rattle.chw_base.specs.declared.index.DomId.{DomId}
-use Rattle.chw_base.specs.declared.index.WireId.{WireId}
-use Rattle.chw_base.specs.declared.limits.TheConstants.{MODULES}
 use Rattle.chw_clock.specs.Histories.{is_one_of}
-use Rattle.chw_clock.specs.declared.event.Port.{Port as NetPort}
-use Rattle.chw_clock.specs.declared.event.Ports.{Ports}
-use Rattle.name_tables.specs.Names.{AreDistinct}
-use Rattle.net_rules.specs.PortsHold.{DomainsHold, FitPorts, FitsPort, PortsHold, RiseWithin, full_name}
-use Rattle.net_rules.specs.WellFormed.{DriversHold, EachRuleHolds, HasFewWords, Holds, LimitsHold, NamesExist, NamesHold, TopNamesHold, TopWidthsHold, WellFormed, WidthsAgree, WidthsHold}
-use Rattle.net_rules.specs.declared.well_formed.NetCode.TheVariants.{Driver, Limit, Name, Width}
-use Rattle.netlist.specs.Sound.{HasWidth, IsWire}
-use Rattle.netlist.specs.declared.net.Cell.{Cell}
-use Rattle.netlist.specs.declared.net.Module.{Module as NetModule}
-use Rattle.netlist.specs.declared.net.Net.{Net}
+use Rattle.net_rules.specs.PortsHold.{FitPorts, FitsPort, PortsHold, RiseWithin, full_name}
 use Rattle.verilog_text.specs.Names.{clock_name, domain_name, reset_name}
 use Rattle.verilog_text.specs.Text.{clock_names}
 use Rattle.verilog_tree.specs.Sources.{bytes_of}
@@ -30,26 +17,12 @@ use Rattle.verilog_tree.specs.declared.module.Port.TheVariants.{Input, Output, S
 use Rattle.verilog_tree.specs.declared.module.Tree.{Tree}
 use Rattle.verilog_tree.specs.declared.word.Line.{Line}
 use Rattle.verilog_tree.specs.declared.word.Word.{Word}
-use Rattle.verilog_rules.specs.Declarations.{declared_words, domains_of, input_wire, inputs_of, line_name, modules_of, outputs_of, port_of, port_word, ports_in, ports_of, signals_of, wires_by, words_by}
-use Rattle.verilog_rules.specs.DriverRules.{drivers_from}
-use Rattle.verilog_rules.specs.Limits.{limits_from, module_limits}
+use Rattle.verilog_rules.specs.Declarations.{declared_words, inputs_of, line_name, outputs_of, port_of, port_word, ports_in, ports_of, signals_of, words_by}
 use Rattle.verilog_rules.specs.NameRules.{port_form, texts}
-use Rattle.verilog_rules.specs.NetOf.{net_module, net_of, shown_wire, shown_wires}
-use Rattle.verilog_rules.specs.Resolving.{resolved, resolved_modules}
-use Rattle.verilog_rules.specs.Texts.{width}
-use Rattle.verilog_rules.specs.WidthRules.{wire_widths}
-use Rattle.verilog_rules.specs.declared.resolved.ResolvedModule.{ResolvedModule}
-use Rattle.verilog_rules.specs.declared.resolved.Driver.{Driver as ItsDriver}
-use Rattle.verilog_rules.specs.declared.resolved.Wire.{Wire}
-use Rattle.verilog_rules.proofs.Denoting.{ModuleChecked, made}
-use Rattle.verilog_rules.proofs.Distinct.{Once, count, count_both, distinct_once, names_once, one_if}
-use Rattle.verilog_rules.proofs.Holding.{AllTrue, first_part, second_part}
-use Rattle.verilog_rules.proofs.ModulesWell.{ModuleWell, last_checked, last_fits, last_is, net_modules, outputs_some, well_at}
-use Rattle.verilog_rules.proofs.Signals.{SignalsAre}
+use Rattle.verilog_rules.proofs.Distinct.{Once, count, count_both, distinct_once, one_if}
+use Rattle.verilog_rules.proofs.Holding.{AllTrue}
 use Rattle.verilog_rules.proofs.Texts.{TextChecked}
 use Rattle.verilog_rules.proofs.Tops.{TopPort, input_ports, output_ports}
-use Rattle.verilog_rules.proofs.Used.{ModuleFits, got_net, got_shown}
-use Rattle.verilog_rules.proofs.Wells.{CellWell}
 
 -- COUNTS OF PORTS
 
@@ -81,7 +54,7 @@ ports_once m all = record {
         let ports : List Port = ports_in m in
         let items : List Word = flat_map words_by m.items in
         let sum : count name (texts (map port_word ports ++ items)) ≡ count name (texts (map port_word ports)) + count name (texts items) =
-            ap (count name) (map-append bytes_of (map port_word ports) items) ∙ count_both name (texts (map port_word ports)) (texts items) in
+        ap (count name) (map-append bytes_of (map port_word ports) items) ∙ count_both name (texts (map port_word ports)) (texts items) in
         let few : count name (texts (map port_word ports ++ items)) ≤ 1 = all name in
         let by_ports : count name (texts (map port_word ports)) ≡ count name (texts (signals_of ports)) + (count name (map line_name (outputs_of ports)) + count name (map line_name (inputs_of ports))) = port_counts name ports in
         (omega arith, omega arith, omega arith)
@@ -93,7 +66,7 @@ domain_counts resets k name (d ∷ domains) =
     let more : count name domains ≤ count (clock_name name) (clock_names resets (k + 1) domains) = domain_counts resets (k + 1) name domains in
     let behind : List (List ℕ) = cond (is_one_of resets (record { number = k })) (reset_name d ∷ []) [] in
     let sum : count (clock_name name) (behind ++ clock_names resets (k + 1) domains) ≡ count (clock_name name) behind + count (clock_name name) (clock_names resets (k + 1) domains) =
-        count_both (clock_name name) behind (clock_names resets (k + 1) domains) in
+    count_both (clock_name name) behind (clock_names resets (k + 1) domains) in
     omega arith
 
 -- the names of ports by their full names
@@ -107,7 +80,7 @@ full_counts domains front full [] all = omega arith
 full_counts domains front full (l ∷ ls) all =
     let more : count full (map full_name (map (port_of domains) ls)) ≤ count (line_of_full domains front full) (map line_name ls) = full_counts domains front full ls all.1 in
     let here : one_if (bytes_eq full (full_name (port_of domains l))) ≤ one_if (bytes_eq (line_of_full domains front full) (line_name l)) =
-        by_case (bytes_eq full (full_name (port_of domains l))) refl in
+    by_case (bytes_eq full (full_name (port_of domains l))) refl in
     omega arith
   where
     by_case : (b : Bool) → bytes_eq full (full_name (port_of domains l)) ≡ b → one_if b ≤ one_if (bytes_eq (line_of_full domains front full) (line_name l))
@@ -119,11 +92,12 @@ full_counts domains front full (l ∷ ls) all =
         omega arith
 
 fit_ports : (domains : List (List ℕ)) (front : List ℕ) (ls : List Line) → AllByRecursion (TopPort domains front) ls → Once (map line_name ls) → FitPorts (length domains) (map (port_of domains) ls)
-fit_ports domains front ls all once =
-    (each ls all,
-     distinct_once (map full_name (map (port_of domains) ls)) (λ full.
-       let fewer = full_counts domains front full ls all in
-       let few = once (line_of_full domains front full) in omega arith))
+fit_ports domains front ls all once = (
+  each ls all,
+  distinct_once (map full_name (map (port_of domains) ls)) (λ full.
+      let fewer = full_counts domains front full ls all in
+      let few = once (line_of_full domains front full) in omega arith),
+)
   where
     each : (ls : List Line) → AllByRecursion (TopPort domains front) ls → AllByRecursion (FitsPort (length domains)) (map (port_of domains) ls)
     each [] all = tt
@@ -152,7 +126,7 @@ ports_hold tree c once =
         some = some_domain domains resets tree.last.others tree.last.first names c.ports;
         names = c.signals.uppers;
         differ = distinct_once domains (λ name. fewer (count name domains) (count (clock_name name) (clock_names resets 0 domains)) (domain_counts resets 0 name domains)
-          (subst (λ (ns : List (List ℕ)). count (clock_name name) ns ≤ 1) names (stand.signals (clock_name name))));
+            (subst (λ (ns : List (List ℕ)). count (clock_name name) ns ≤ 1) names (stand.signals (clock_name name))));
         rise = subst (λ (n : ℕ). RiseWithin 0 n resets) none c.signals.rise;
       };
       inputs = fit_ports domains (codes "i_") (inputs_of ports) (input_ports domains ports c.ports) stand.inputs;

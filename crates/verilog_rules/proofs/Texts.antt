@@ -1,5 +1,5 @@
 -- A text that passes its checks denotes its net.
-use Rattle.std.proofs.Common.{◌≡◌, ℕ, zero, suc, ◌+◌, ◌<◌, ◌≤◌, Bool, true, false, not, ◌&&◌, List, [], ◌∷◌, ◌++◌, length, map, Option, Some, None, refl, sym, ap, ◌∙◌, subst, append_assoc, arith}
+use Rattle.std.proofs.Common.{◌≡◌, ℕ, ◌+◌, true, not, List, [], ◌∷◌, ◌++◌, map, None, refl, sym, ap, ◌∙◌, subst, append_assoc, arith}
 use Rattle.std.specs.List.{AllByRecursion, flat_map}
 use Rattle.std.specs.Cmp.Lexicographic.{pointwise}
 use Rattle.std.specs.Str.{bytes_eq}
@@ -7,9 +7,8 @@ use Rattle.std.proofs.lemmas.Bool.{and_parts, false≢true}
 use Rattle.std.proofs.lemmas.List.{append-nil, map-append}
 use Rattle.std.proofs.lemmas.Slice.Eq.{bytes_eq-Decides}
 use Rattle.chw_clock.specs.declared.event.Ports.{Ports}
-use Rattle.name_tables.specs.Names.{AreDistinct, is_among}
-use Rattle.netlist.specs.declared.net.Module.{Module as NetModule}
-use Rattle.verilog_text.specs.Denotes.{ArePorts, DenoteModules, Denotes, DenotesModule}
+use Rattle.name_tables.specs.Names.{AreDistinct}
+use Rattle.verilog_text.specs.Denotes.{ArePorts, DenoteModules, Denotes}
 use Rattle.verilog_text.specs.Names.{input_name, output_name, top_name}
 use Rattle.verilog_text.specs.Source.{Line as LineItem, ModuleItem}
 use Rattle.verilog_text.specs.Source.{modules_of as said_modules}
@@ -17,12 +16,12 @@ use Rattle.verilog_text.specs.Text.{clock_names}
 use Rattle.verilog_tree.specs.Sources.{bytes_of, module_of, source_of}
 use Rattle.verilog_tree.specs.declared.module.Module.{Module}
 use Rattle.verilog_tree.specs.declared.module.Tree.{Tree}
-use Rattle.verilog_rules.specs.Checks.{Check, check}
-use Rattle.verilog_rules.specs.Declarations.{declared_words, input_wires, inputs_of, line_name, modules_of, outputs_of, ports_by, ports_in, ports_of, signals_of}
+use Rattle.verilog_rules.specs.Checks.{Check}
+use Rattle.verilog_rules.specs.Declarations.{declared_words, input_wires, inputs_of, line_name, modules_of, outputs_of, ports_in, ports_of, signals_of}
 use Rattle.verilog_rules.specs.DriverRules.{driver_checks, drivers_from, module_driver_checks, some_output}
 use Rattle.verilog_rules.specs.Faults.{AllHold}
 use Rattle.verilog_rules.specs.Limits.{limit_checks, limits_from, module_limits}
-use Rattle.verilog_rules.specs.NameRules.{earlier_checks, items_checks, last_checks, module_checks, module_names, name_checks, once_checks, order_checks, port_form, same_signals, signal_checks, texts}
+use Rattle.verilog_rules.specs.NameRules.{earlier_checks, items_checks, last_checks, module_checks, module_names, name_checks, once_checks, order_checks, port_form, signal_checks, texts}
 use Rattle.verilog_rules.specs.NetOf.{net_module, net_of}
 use Rattle.verilog_rules.specs.Resolving.{resolved, resolved_modules}
 use Rattle.verilog_rules.specs.WidthRules.{module_width_checks, width_checks, widths_from}
@@ -59,9 +58,11 @@ drivers_split : (ports : Ports) (x : ResolvedModule) (earl ms : List Module) (la
     → ((some_output x).holds ≡ true) × AllTrue (module_driver_checks x) × AllTrue (drivers_from (resolved_modules ports earl (ms ++ last ∷ [])))
 drivers_split ports x earl [] last all =
     (all.0, first_part (module_driver_checks x) (drivers_from (resolved_modules ports earl (last ∷ []))) all.1, second_part (module_driver_checks x) (drivers_from (resolved_modules ports earl (last ∷ []))) all.1)
-drivers_split ports x earl (m ∷ ms) last all =
-    (all.0, first_part (module_driver_checks x) (drivers_from (resolved_modules ports earl (m ∷ (ms ++ last ∷ [])))) all.1,
-     second_part (module_driver_checks x) (drivers_from (resolved_modules ports earl (m ∷ (ms ++ last ∷ [])))) all.1)
+drivers_split ports x earl (m ∷ ms) last all = (
+  all.0,
+  first_part (module_driver_checks x) (drivers_from (resolved_modules ports earl (m ∷ (ms ++ last ∷ [])))) all.1,
+  second_part (module_driver_checks x) (drivers_from (resolved_modules ports earl (m ∷ (ms ++ last ∷ [])))) all.1,
+)
 
 abbrev AreOrdered : List Module → Type 0
 AreOrdered earl = AllByRecursion (λ (n : Module). Ordered 0 (ports_in n)) earl
@@ -73,35 +74,42 @@ pub all_checked : (ports : Ports) (last : Module) (k : ℕ) (earl : List Module)
     → texts (signals_of (ports_in last)) ≡ clock_names ports.resets 0 ports.domains
     → AllChecked ports earl er (ms ++ last ∷ [])
 all_checked ports last k earl er [] formed ordered limits names lasts widths drivers signals =
-    let lasts_so : AllTrue (last_checks ports earl last) = subst (λ (e : List Module). AllTrue (last_checks ports e last)) (append-nil earl) lasts in
-    (module_checked ports earl er k last formed.0 ordered
-       (first_part (module_limits k last) [] limits)
-       (second_part (flat_map (port_form ports.domains) (ports_in last)) (module_checks (place_in ports earl) last) lasts_so.1)
-       (first_part (module_width_checks er (made ports earl last)) [] widths) drivers,
-     signals, (λ none. tt), tt)
+    let lasts_so : AllTrue (last_checks ports earl last) = subst (λ (e : List Module). AllTrue (last_checks ports e last)) (append-nil earl) lasts in (
+      module_checked ports earl er k last formed.0 ordered
+          (first_part (module_limits k last) [] limits)
+          (second_part (flat_map (port_form ports.domains) (ports_in last)) (module_checks (place_in ports earl) last) lasts_so.1)
+          (first_part (module_width_checks er (made ports earl last)) [] widths) drivers,
+      signals,
+      (λ none. tt),
+      tt,
+    )
 all_checked ports last k earl er (m ∷ ms) formed ordered limits names lasts widths drivers signals =
     let split = drivers_split ports (made ports earl m) (earl ++ m ∷ []) ms last drivers in
     let rest : List Module = ms ++ last ∷ [] in
     let more_names : AllTrue (earlier_checks ports last (earl ++ m ∷ []) ms) = second_part (module_checks (place_in ports earl) m) (earlier_checks ports last (earl ++ m ∷ []) ms) names.1 in
     let mine : ModuleChecked ports earl er m =
-        module_checked ports earl er k m formed.0 ordered
-        (first_part (module_limits k m) (limits_from (k + 1) rest) limits)
-        (first_part (module_checks (place_in ports earl) m) (earlier_checks ports last (earl ++ m ∷ []) ms) names.1)
-        (first_part (module_width_checks er (made ports earl m)) (widths_from (er ++ made ports earl m ∷ []) (resolved_modules ports (earl ++ m ∷ []) rest)) widths) split.1 in
-    (mine, same_names (texts (signals_of (ports_in m))) (texts (signals_of (ports_in last))) names.0 ∙ signals, (λ none. tt),
-     all_checked ports last (k + 1) (earl ++ m ∷ []) (er ++ made ports earl m ∷ []) ms formed.1
-       (all_both (λ (n : Module). Ordered 0 (ports_in n)) earl (m ∷ []) ordered (mine.order, tt))
-       (second_part (module_limits k m) (limits_from (k + 1) rest) limits) more_names
-       (subst (λ (e : List Module). AllTrue (last_checks ports e last)) (sym (append_assoc earl (m ∷ []) ms)) lasts)
-       (second_part (module_width_checks er (made ports earl m)) (widths_from (er ++ made ports earl m ∷ []) (resolved_modules ports (earl ++ m ∷ []) rest)) widths) split.2 signals)
+    module_checked ports earl er k m formed.0 ordered
+    (first_part (module_limits k m) (limits_from (k + 1) rest) limits)
+    (first_part (module_checks (place_in ports earl) m) (earlier_checks ports last (earl ++ m ∷ []) ms) names.1)
+    (first_part (module_width_checks er (made ports earl m)) (widths_from (er ++ made ports earl m ∷ []) (resolved_modules ports (earl ++ m ∷ []) rest)) widths) split.1 in (
+      mine,
+      same_names (texts (signals_of (ports_in m))) (texts (signals_of (ports_in last))) names.0 ∙ signals,
+      (λ none. tt),
+      all_checked ports last (k + 1) (earl ++ m ∷ []) (er ++ made ports earl m ∷ []) ms formed.1
+          (all_both (λ (n : Module). Ordered 0 (ports_in n)) earl (m ∷ []) ordered (mine.order, tt))
+          (second_part (module_limits k m) (limits_from (k + 1) rest) limits) more_names
+          (subst (λ (e : List Module). AllTrue (last_checks ports e last)) (sym (append_assoc earl (m ∷ []) ms)) lasts)
+          (second_part (module_width_checks er (made ports earl m)) (widths_from (er ++ made ports earl m ∷ []) (resolved_modules ports (earl ++ m ∷ []) rest)) widths) split.2 signals,
+    )
 
 pub modules_denote : (ports : Ports) (earl : List Module) (er : List ResolvedModule) (ms : List Module) → AllChecked ports earl er ms
     → DenoteModules ports (map module_of earl) (map module_of ms) (map net_module (resolved_modules ports earl ms))
 modules_denote ports earl er [] all = tt
-modules_denote ports earl er (mt ∷ ms) all =
-    (module_denotes ports earl er mt all.0 all.1,
-     subst (λ (e : List ModuleItem). DenoteModules ports e (map module_of ms) (map net_module (resolved_modules ports (earl ++ mt ∷ []) ms))) (map-append module_of earl (mt ∷ []))
-       (modules_denote ports (earl ++ mt ∷ []) (er ++ made ports earl mt ∷ []) ms all.3))
+modules_denote ports earl er (mt ∷ ms) all = (
+  module_denotes ports earl er mt all.0 all.1,
+  subst (λ (e : List ModuleItem). DenoteModules ports e (map module_of ms) (map net_module (resolved_modules ports (earl ++ mt ∷ []) ms))) (map-append module_of earl (mt ∷ []))
+      (modules_denote ports (earl ++ mt ∷ []) (er ++ made ports earl mt ∷ []) ms all.3),
+)
 
 -- THE TEXT
 
@@ -144,10 +152,11 @@ text_checked tree formed holds =
 
 all_new : (ports : Ports) (earl : List Module) (er : List ResolvedModule) (ms : List Module) → AllChecked ports earl er ms → AllTrue (once_checks (module_names earl) (map (λ (m : Module). m.name) ms))
 all_new ports earl er [] all = tt
-all_new ports earl er (m ∷ ms) all =
-    (ap not all.0.new,
-     subst (λ (ns : List (List ℕ)). AllTrue (once_checks ns (map (λ (m : Module). m.name) ms))) (map-append (λ (m : Module). bytes_of m.name) earl (m ∷ []))
-       (all_new ports (earl ++ m ∷ []) (er ++ made ports earl m ∷ []) ms all.3))
+all_new ports earl er (m ∷ ms) all = (
+  ap not all.0.new,
+  subst (λ (ns : List (List ℕ)). AllTrue (once_checks ns (map (λ (m : Module). m.name) ms))) (map-append (λ (m : Module). bytes_of m.name) earl (m ∷ []))
+      (all_new ports (earl ++ m ∷ []) (er ++ made ports earl m ∷ []) ms all.3),
+)
 
 module_texts : (ms : List Module) → texts (map (λ (m : Module). m.name) ms) ≡ map (λ (m : ModuleItem). m.name) (map module_of ms)
 module_texts [] = refl
@@ -160,15 +169,15 @@ text_denotes tree c =
     let all_modules : said_modules (source_of tree) ≡ map module_of (modules_of tree) = sym (map-append module_of tree.earlier (tree.last ∷ [])) in
     let new : AllTrue (once_checks [] (map (λ (m : Module). m.name) (modules_of tree))) = all_new ports [] [] (modules_of tree) c.modules in
     let distinct : AreDistinct (map (λ (m : ModuleItem). m.name) (map module_of (modules_of tree))) =
-        subst AreDistinct (module_texts (modules_of tree))
-        (distinct_once (texts (map (λ (m : Module). m.name) (modules_of tree))) (names_once [] (map (λ (m : Module). m.name) (modules_of tree)) (λ name. omega arith) new)) in
+    subst AreDistinct (module_texts (modules_of tree))
+    (distinct_once (texts (map (λ (m : Module). m.name) (modules_of tree))) (names_once [] (map (λ (m : Module). m.name) (modules_of tree)) (λ name. omega arith) new)) in
     record {
       last = c.top;
       names = subst (λ (ms : List ModuleItem). AreDistinct (map (λ (m : ModuleItem). m.name) ms)) (sym all_modules) distinct;
       inputs = subst (λ (ls : List LineItem). ArePorts (input_name domains) ls ports.inputs) (sym (inputs_said (ports_in tree.last)))
-        (are_inputs domains (inputs_of (ports_in tree.last)) (input_ports domains (ports_in tree.last) c.ports));
+          (are_inputs domains (inputs_of (ports_in tree.last)) (input_ports domains (ports_in tree.last) c.ports));
       outputs = subst (λ (ls : List LineItem). ArePorts (output_name domains) ls ports.outputs) (sym (outputs_said (ports_in tree.last)))
-        (are_outputs domains (outputs_of (ports_in tree.last)) (output_ports domains (ports_in tree.last) c.ports));
+          (are_outputs domains (outputs_of (ports_in tree.last)) (output_ports domains (ports_in tree.last) c.ports));
       modules = subst (λ (ms : List ModuleItem). DenoteModules ports [] ms (map net_module (resolved_modules ports [] (modules_of tree)))) (sym all_modules)
-        (modules_denote ports [] [] (modules_of tree) c.modules);
+          (modules_denote ports [] [] (modules_of tree) c.modules);
     }

@@ -1,22 +1,17 @@
 -- The ports of the last module.
-use Rattle.std.proofs.Common.{◌≡◌, ℕ, zero, suc, ◌+◌, ◌<◌, ◌≤◌, Bool, true, false, not, cond, eqb, ◌&&◌, List, [], ◌∷◌, ◌++◌, length, map, take, drop, Option, Some, None, refl, sym, ap, ◌∙◌, subst, append_assoc, arith}
-use Rattle.std.specs.Prelude.{codes, is_some, slice_get, slice_index_or, option_map}
+use Rattle.std.proofs.Common.{◌≡◌, ℕ, suc, ◌+◌, ◌<◌, Bool, true, false, not, cond, eqb, ◌&&◌, List, [], ◌∷◌, ◌++◌, length, map, take, drop, Option, Some, None, refl, sym, ap, ◌∙◌, subst, append_assoc, arith}
+use Rattle.std.specs.Prelude.{codes, is_some, slice_index_or, option_map}
 use Rattle.std.specs.Option.{unwrap_or}
-use Rattle.std.specs.List.{AllByRecursion, after_first, before_first, flat_map, position_or_len}
+use Rattle.std.specs.List.{AllByRecursion, flat_map, position_or_len}
 use Rattle.std.specs.Str.{bytes_eq}
 use Rattle.std.proofs.lemmas.Bool.{and_parts, eqb-true, false≢true}
 use Rattle.std.proofs.lemmas.Option.{same_Some}
 use Rattle.std.proofs.lemmas.Slice.Eq.{bytes_eq-Decides}
-use Rattle.chw_base.specs.Names.{IsLowerWord}
-use Rattle.chw_base.specs.declared.index.DomId.{DomId}
-use Rattle.chw_clock.specs.declared.event.Port.{Port as NetPort}
 use Rattle.name_tables.specs.Names.{is_among, place_of}
 use Rattle.net_rules.specs.PortsHold.{FitsPort}
 use Rattle.verilog_text.specs.Denotes.{ArePorts}
-use Rattle.verilog_text.specs.Declared.{inputs_of as said_inputs, outputs_of as said_outputs, width_of}
 use Rattle.verilog_text.specs.Names.{domain_name, input_name, output_name}
-use Rattle.verilog_text.specs.Source.{Line as LineItem}
-use Rattle.verilog_tree.specs.Sources.{bytes_of, line_of}
+use Rattle.verilog_tree.specs.Sources.{line_of}
 use Rattle.verilog_tree.specs.declared.module.Port.{Port}
 use Rattle.verilog_tree.specs.declared.module.Port.TheVariants.{Input, Output, Signal}
 use Rattle.verilog_tree.specs.declared.word.Line.{Line}
@@ -33,6 +28,7 @@ split_at_line (b ∷ bs) is = by_case (eqb b 95) refl is (split_at_line bs)
   where
     place : List ℕ → ℕ
     place xs = position_or_len (λ (x : ℕ). eqb x 95) xs
+
     by_case : (c : Bool) → eqb b 95 ≡ c → is_lower_word (drop (cond (not c) (1 + position_or_len (λ (x : ℕ). eqb x 95) bs) 0 + 1) (b ∷ bs)) ≡ true
         → (is_lower_word (behind_line bs) ≡ true → bs ≡ before_line bs ++ (95 ∷ behind_line bs))
         → b ∷ bs ≡ take (cond (not c) (1 + position_or_len (λ (x : ℕ). eqb x 95) bs) 0) (b ∷ bs) ++ (95 ∷ drop (cond (not c) (1 + position_or_len (λ (x : ℕ). eqb x 95) bs) 0 + 1) (b ∷ bs))

@@ -1,24 +1,19 @@
 -- The cells of a checked module are well formed.
-use Rattle.std.proofs.Common.{◌≡◌, ℕ, zero, suc, ◌+◌, ◌<◌, ◌≤◌, Bool, true, false, cond, eqb, ◌&&◌, ◌||◌, List, [], ◌∷◌, ◌++◌, length, map, take, Option, Some, None, refl, sym, ap, ◌∙◌, subst, append_assoc, arith, inl, inr}
-use Rattle.std.specs.Prelude.{is_some, slice_get, slice_index, option_map, MatchOption, ⊤}
+use Rattle.std.proofs.Common.{◌≡◌, ℕ, zero, suc, ◌+◌, ◌<◌, Bool, true, false, ◌&&◌, ◌||◌, List, [], ◌∷◌, ◌++◌, length, map, Option, Some, None, refl, sym, ap, ◌∙◌, subst, arith}
+use Rattle.std.specs.Prelude.{is_some, slice_get, slice_index, MatchOption, ⊤}
 use Rattle.std.specs.List.{AllByRecursion, flat_map}
-use Rattle.std.proofs.lemmas.Bool.{eqb-true, false≢true, or_cases}
+use Rattle.std.proofs.lemmas.Bool.{false≢true}
 use Rattle.std.proofs.lemmas.List.{length-map}
-use Rattle.std.proofs.lemmas.List.Concat.{flat_map-append}
-use Rattle.std.proofs.lemmas.Option.{get_or_from_slice_get, same_Some, slice_get_within}
-use Rattle.chw_base.specs.declared.index.DomId.{DomId}
+use Rattle.std.proofs.lemmas.Option.{get_or_from_slice_get}
 use Rattle.chw_base.specs.declared.index.WireId.{WireId}
 use Rattle.chw_clock.specs.declared.event.Ports.{Ports}
-use Rattle.name_tables.specs.Names.{is_among, place_of}
-use Rattle.net_rules.specs.WellFormed.{AgreesUse, HasFewWords, NamesExist, UseExists, WidthsAgree}
+use Rattle.name_tables.specs.Names.{place_of}
+use Rattle.net_rules.specs.WellFormed.{AgreesUse, HasFewWords, NamesExist, WidthsAgree}
 use Rattle.netlist.specs.Sound.{HasWidth, IsWire}
-use Rattle.netlist.specs.Wires.{driven, read_by}
 use Rattle.netlist.specs.declared.net.Cell.{Cell}
-use Rattle.netlist.specs.declared.net.Cell.TheVariants as cell
 use Rattle.netlist.specs.declared.net.Module.{Module as NetModule}
-use Rattle.verilog_text.specs.Declared.{AreNamesOf, name_of}
+use Rattle.verilog_text.specs.Declared.{AreNamesOf}
 use Rattle.verilog_text.specs.Names.{clock_name}
-use Rattle.verilog_text.specs.Source.{Line as LineItem}
 use Rattle.verilog_tree.specs.Sources.{bytes_of, line_of}
 use Rattle.verilog_tree.specs.declared.item.Item.{Item}
 use Rattle.verilog_tree.specs.declared.item.Item.TheVariants as item
@@ -27,23 +22,22 @@ use Rattle.verilog_tree.specs.declared.right.Right.{Right}
 use Rattle.verilog_tree.specs.declared.right.Right.TheVariants as right
 use Rattle.verilog_tree.specs.declared.word.Line.{Line}
 use Rattle.verilog_tree.specs.declared.word.Word.{Word}
-use Rattle.verilog_rules.specs.Declarations.{inputs_of as inputs_among, line_name, outputs_of as outputs_among, ports_in, wire_name, wires_by}
-use Rattle.verilog_rules.specs.DriverRules.{all_shown, drives, is_one_of}
-use Rattle.verilog_rules.specs.NameRules.{Place, is_copy, item_checks, items_checks, kind_of, may_be_driven, operand_check, operands_of}
-use Rattle.verilog_rules.specs.NetOf.{cells_by, first_bits, inputs_of, net_module, shown_wire, shown_wires, value_cell, wire, words_of}
-use Rattle.verilog_rules.specs.Resolving.{assigned, assigned_at, clocked, driver_of, drivers_of, drives_of, edge_driver, operand, ram_of, reads_of, value_of}
+use Rattle.verilog_rules.specs.Declarations.{wire_name}
+use Rattle.verilog_rules.specs.DriverRules.{drives}
+use Rattle.verilog_rules.specs.NameRules.{is_copy, item_checks, kind_of, may_be_driven, operand_check, operands_of}
+use Rattle.verilog_rules.specs.NetOf.{cells_by, first_bits, net_module, shown_wires, value_cell, wire}
+use Rattle.verilog_rules.specs.Resolving.{assigned, assigned_at, clocked, driver_of, drives_of, edge_driver, operand, ram_of, reads_of, value_of}
 use Rattle.verilog_rules.specs.Texts.{width}
-use Rattle.verilog_rules.specs.WidthRules.{driver_width_checks, joined_checks, kind_at, literal_of, value_checks, wide, widths_of, wire_widths}
+use Rattle.verilog_rules.specs.WidthRules.{driver_width_checks, joined_checks, kind_at, literal_of, wide, widths_of, wire_widths}
 use Rattle.verilog_rules.specs.declared.resolved.Driver.{Driver}
 use Rattle.verilog_rules.specs.declared.resolved.Driver.TheVariants as driver
 use Rattle.verilog_rules.specs.declared.resolved.Operand.{Operand}
 use Rattle.verilog_rules.specs.declared.resolved.ResolvedModule.{ResolvedModule}
 use Rattle.verilog_rules.specs.declared.resolved.Wire.{Wire}
 use Rattle.verilog_rules.proofs.Connections.{NoInput}
-use Rattle.verilog_rules.proofs.Holding.{AllTrue, first_part, second_part}
+use Rattle.verilog_rules.proofs.Holding.{AllTrue, first_part}
 use Rattle.verilog_rules.proofs.Items.{Around, ItemFormed, output_names, place_in, scene_in}
-use Rattle.verilog_rules.proofs.Operands.{Fit, Known, has_width, known, known_as, names_said, said}
-use Rattle.verilog_rules.proofs.Parts.{all_back, all_both, all_front, extends_by}
+use Rattle.verilog_rules.proofs.Operands.{Known, has_width, known, known_as, names_said, said}
 use Rattle.verilog_rules.proofs.Rams.{ram_is}
 use Rattle.verilog_rules.proofs.Registers.{clock_is, register_is}
 use Rattle.verilog_rules.proofs.Tops.{place_got}
@@ -117,12 +111,14 @@ wire_well : (domains : ℕ) (er : List ResolvedModule) (m : ResolvedModule) (ws 
 wire_well domains er m ws name r extends may names widths =
     let kind_is = driven_kind (kind_of ws (bytes_of name)) may in
     let k : Known ws name = known_as ws name kind_is.0 kind_is.1 in
-    let has : HasWidth (wire_widths m) (operand ws name).wire (wide (wire_widths m) (operand ws name)) = has_width ws (wire_widths m) name (fit ws m.wires extends) k in
-    (record {
-       exist = value_exists domains (map net_module er) ws m.wires (operand ws name).wire r extends (is_wire (wire_widths m) (operand ws name).wire (wide (wire_widths m) (operand ws name)) has) names;
-       agree = value_agrees (map net_module er) ws (operand ws name).wire r (wire_widths m) (wide (wire_widths m) (operand ws name)) (fit ws m.wires extends) has names widths;
-       few = value_few (operand ws name).wire ws r;
-     }, tt)
+    let has : HasWidth (wire_widths m) (operand ws name).wire (wide (wire_widths m) (operand ws name)) = has_width ws (wire_widths m) name (fit ws m.wires extends) k in (
+      record {
+        exist = value_exists domains (map net_module er) ws m.wires (operand ws name).wire r extends (is_wire (wire_widths m) (operand ws name).wire (wide (wire_widths m) (operand ws name)) has) names;
+        agree = value_agrees (map net_module er) ws (operand ws name).wire r (wire_widths m) (wide (wire_widths m) (operand ws name)) (fit ws m.wires extends) has names widths;
+        few = value_few (operand ws name).wire ws r;
+      },
+      tt,
+    )
 
 only_first : (a b : Bool) → (b ≡ true → ⊥) → (a || b) ≡ true → a ≡ true
 only_first true b never is = refl
@@ -155,7 +151,7 @@ first_all : {A : Type 0} (P : A → Type 0) (xs : List A) → AllByRecursion P (
 first_all P [] all = tt
 first_all P (x ∷ xs) all = (all.0, first_all P xs all.1)
 
-shown_long : (drivers : List Driver) (k : ℕ) (ls : List Line) → length (shown_wires drivers k ls) ≡ length ls
+pub shown_long : (drivers : List Driver) (k : ℕ) (ls : List Line) → length (shown_wires drivers k ls) ≡ length ls
 shown_long drivers k [] = refl
 shown_long drivers k (l ∷ ls) = ap suc (shown_long drivers (k + 1) ls)
 
@@ -171,30 +167,46 @@ item_well ports earl er m ws (item.Assign name r) around fits extends formed nam
     (assign_well (length ports.domains) er m ws name r (place_of (output_names m) (bytes_of name)) extends names.0 names.1 (first_part (driver_width_checks er m d) [] widths), tt)
 item_well ports earl er m ws (item.Edge edge) around fits extends formed names widths none =
     let holds = register_is (scene_in ports earl m) ws m.wires edge extends around.holds formed names (first_part (driver_width_checks er m (edge_driver ports ws edge)) [] widths) in
-    let n : ℕ = length (first_bits (literal_of (kind_at m.wires (operand ws edge.register)))) in
-    ((record {
-        exist = record {
-          driven = (is_wire (wire_widths m) (operand ws edge.register).wire n holds.agrees.0, tt);
-          read = (is_wire (wire_widths m) (operand ws edge.a).wire n holds.agrees.1, tt);
-          part = domain_below ports edge.clock (clocked ports edge.clock).number (clock_is ports edge.clock names.0);
-        };
-        agree = holds.agrees;
-        few = tt;
-      }, tt), tt)
+    let n : ℕ = length (first_bits (literal_of (kind_at m.wires (operand ws edge.register)))) in (
+      (
+        record {
+          exist = record {
+            driven = (is_wire (wire_widths m) (operand ws edge.register).wire n holds.agrees.0, tt);
+            read = (is_wire (wire_widths m) (operand ws edge.a).wire n holds.agrees.1, tt);
+            part = domain_below ports edge.clock (clocked ports edge.clock).number (clock_is ports edge.clock names.0);
+          };
+          agree = holds.agrees;
+          few = tt;
+        },
+        tt,
+      ),
+      tt,
+    )
 item_well ports earl er m ws (item.Ram ram) around fits extends formed names widths none =
-    let holds = ram_is (scene_in ports earl m) ws m.wires ram extends around.holds formed names (first_part (driver_width_checks er m (driver.Ram (ram_of ports ws ram))) [] widths) in
-    ((record {
-        exist = record {
-          driven = (is_wire (wire_widths m) (operand ws ram.register).wire holds.agrees.width holds.agrees.shown, tt);
-          read = (is_wire (wire_widths m) (operand ws ram.read.address).wire 12 holds.agrees.read,
-            (is_wire (wire_widths m) (operand ws ram.enable).wire 1 holds.agrees.enable,
-            (is_wire (wire_widths m) (operand ws ram.write.address).wire 12 holds.agrees.place,
-            (is_wire (wire_widths m) (operand ws ram.value).wire holds.agrees.width holds.agrees.value, tt))));
-          part = domain_below ports ram.clock (clocked ports ram.clock).number holds.is.clock;
-        };
-        agree = holds.agrees;
-        few = (holds.some, holds.few);
-      }, tt), tt)
+    let holds = ram_is (scene_in ports earl m) ws m.wires ram extends around.holds formed names (first_part (driver_width_checks er m (driver.Ram (ram_of ports ws ram))) [] widths) in (
+      (
+        record {
+          exist = record {
+            driven = (is_wire (wire_widths m) (operand ws ram.register).wire holds.agrees.width holds.agrees.shown, tt);
+            read = (
+              is_wire (wire_widths m) (operand ws ram.read.address).wire 12 holds.agrees.read,
+              (
+                is_wire (wire_widths m) (operand ws ram.enable).wire 1 holds.agrees.enable,
+                (
+                  is_wire (wire_widths m) (operand ws ram.write.address).wire 12 holds.agrees.place,
+                  (is_wire (wire_widths m) (operand ws ram.value).wire holds.agrees.width holds.agrees.value, tt),
+                ),
+              ),
+            );
+            part = domain_below ports ram.clock (clocked ports ram.clock).number holds.is.clock;
+          };
+          agree = holds.agrees;
+          few = (holds.some, holds.few);
+        },
+        tt,
+      ),
+      tt,
+    )
 item_well ports earl er m ws (item.Use u) around fits extends formed names widths none =
     let its_reads : List Operand = reads_of ws (used_ports earl u) (connections u) in
     let its_drives : List Operand = drives_of ws (used_ports earl u) (connections u) in
@@ -205,21 +217,26 @@ item_well ports earl er m ws (item.Use u) around fits extends formed names width
     let drives_have : AllByRecursion (HasOwnWidth (wire_widths m)) its_drives = named_have ws m.wires holds.is.driven_names its_drives extends holds.is.drives_are in
     let d : Driver = driver.Use (used_number earl (bytes_of u.used)) its_reads its_drives in
     let checks : AllTrue (joined_checks (wire_widths m) (Some ur) its_reads its_drives) =
-        subst (λ (o : Option ResolvedModule). AllTrue (joined_checks (wire_widths m) o its_reads its_drives)) so.1 (first_part (driver_width_checks er m d) [] widths) in
+    subst (λ (o : Option ResolvedModule). AllTrue (joined_checks (wire_widths m) o its_reads its_drives)) so.1 (first_part (driver_width_checks er m d) [] widths) in
     let agrees : AgreesUse (wire_widths m) (net_module ur) (map wire its_reads) (map wire its_drives) =
-        use_agrees holds.used ur (wire_widths m) its_reads its_drives so.2 holds.inputs reads_have drives_have checks in
-    let there : slice_get (map net_module er) (used_number earl (bytes_of u.used)).number ≡ Some (net_module ur) = got_net er (used_number earl (bytes_of u.used)).number ur so.1 in
-    ((record {
-        exist = record {
-          driven = have_wires (wire_widths m) its_drives drives_have;
-          read = have_wires (wire_widths m) its_reads reads_have;
-          part = record {
-            used = net_module ur;
-            found = there;
-            inputs = length-map its_reads wire ∙ holds.inputs ∙ sym so.2.inputs;
-            outputs = length-map its_drives wire ∙ holds.outputs ∙ sym (ap (λ (ls : List Line). length ls) so.2.outputs) ∙ sym (shown_long ur.drivers 0 ur.outputs);
+    use_agrees holds.used ur (wire_widths m) its_reads its_drives so.2 holds.inputs reads_have drives_have checks in
+    let there : slice_get (map net_module er) (used_number earl (bytes_of u.used)).number ≡ Some (net_module ur) = got_net er (used_number earl (bytes_of u.used)).number ur so.1 in (
+      (
+        record {
+          exist = record {
+            driven = have_wires (wire_widths m) its_drives drives_have;
+            read = have_wires (wire_widths m) its_reads reads_have;
+            part = record {
+              used = net_module ur;
+              found = there;
+              inputs = length-map its_reads wire ∙ holds.inputs ∙ sym so.2.inputs;
+              outputs = length-map its_drives wire ∙ holds.outputs ∙ sym (ap (λ (ls : List Line). length ls) so.2.outputs) ∙ sym (shown_long ur.drivers 0 ur.outputs);
+            };
           };
-        };
-        agree = subst (λ (o : Option NetModule). MatchOption o ⊤ (λ used. AgreesUse (wire_widths m) used (map wire its_reads) (map wire its_drives))) (sym there) agrees;
-        few = tt;
-      }, tt), tt)
+          agree = subst (λ (o : Option NetModule). MatchOption o ⊤ (λ used. AgreesUse (wire_widths m) used (map wire its_reads) (map wire its_drives))) (sym there) agrees;
+          few = tt;
+        },
+        tt,
+      ),
+      tt,
+    )

@@ -1,5 +1,5 @@
 -- What the checks say of the wires of a module.
-use Rattle.std.proofs.Common.{◌≡◌, ℕ, zero, suc, ◌+◌, ◌<◌, ◌≤◌, Bool, true, false, List, [], ◌∷◌, ◌++◌, length, map, Option, Some, None, refl, sym, ap, ◌∙◌, subst, arith}
+use Rattle.std.proofs.Common.{◌≡◌, ℕ, zero, suc, ◌≤◌, List, [], ◌∷◌, ◌++◌, length, map, Option, Some, None, refl, sym, ap, ◌∙◌, arith}
 use Rattle.std.specs.Prelude.{option_map, slice_get}
 use Rattle.std.specs.List.{AllByRecursion, flat_map}
 use Rattle.std.proofs.lemmas.Bool.{leb-true, ltb-true}
@@ -7,16 +7,14 @@ use Rattle.std.proofs.lemmas.Option.{same_Some}
 use Rattle.chw_base.specs.declared.limits.TheConstants.{WIRE_BITS}
 use Rattle.verilog_tree.specs.declared.item.Item.{Item}
 use Rattle.verilog_tree.specs.declared.item.Item.TheVariants as item
-use Rattle.verilog_tree.specs.declared.item.Memory.{Memory}
 use Rattle.verilog_tree.specs.declared.module.Module.{Module}
 use Rattle.verilog_tree.specs.declared.module.Port.{Port}
 use Rattle.verilog_tree.specs.declared.module.Port.TheVariants.{Input, Output, Signal}
 use Rattle.verilog_tree.specs.declared.word.Line.{Line}
-use Rattle.verilog_rules.specs.Declarations.{input_wire, input_wires, inputs_of, outputs_of, ports_in, wires_by, wires_of}
+use Rattle.verilog_rules.specs.Declarations.{input_wire, input_wires, inputs_of, ports_in, wires_by, wires_of}
 use Rattle.verilog_rules.specs.Limits.{item_limits, port_limits}
 use Rattle.verilog_rules.specs.Texts.{number, width}
 use Rattle.verilog_rules.specs.WidthRules.{kind_at, wire_checks}
-use Rattle.verilog_rules.specs.declared.resolved.Kind.{Kind}
 use Rattle.verilog_rules.specs.declared.resolved.Kind.TheVariants as kind
 use Rattle.verilog_rules.specs.declared.resolved.Operand.{Operand}
 use Rattle.verilog_rules.specs.declared.resolved.Wire.{Wire}
