@@ -7,7 +7,7 @@ use Rattle.chw_types.specs.declared.kind.Kind.{Kind}
 use Rattle.chw_types.specs.declared.kind.Kind.TheVariants.{Nat}
 use Rattle.chw_types.specs.declared.kind.Scalar.{Scalar}
 use Rattle.chw_types.specs.TypeTree.{TypeTree, ty_var, nat_lit, nat_sum, nat_product, domain, scalar, vector, data_of, fun, signal, for_all, TypeTrees}
-use Rattle.chw_types.specs.TypeMoves.{Renaming, lift_by, sub, sub_all}
+use Rattle.chw_types.specs.TypeMoves.{sub, sub_all}
 use Rattle.chw_types.specs.Arguments.{arguments}
 use Rattle.chw_types.specs.Kinds.{KindsOf}
 use Rattle.chw_types.specs.Polynomials.{is_natural}
@@ -16,23 +16,21 @@ use Rattle.chw_terms.specs.declared.program.Program.{Program}
 use Rattle.chw_terms.specs.declared.term.Pattern.{Pattern}
 use Rattle.chw_terms.specs.declared.term.Pattern.TheVariants.{OfCon, OfLit, Default}
 use Rattle.chw_terms.specs.Constructors.{Constructor, con_at}
-use Rattle.chw_terms.specs.TermTree.{binders}
 use Rattle.type_laws.specs.Standing.{InSums}
 use Rattle.type_laws.proofs.OneKind.{nat_natural, sums_kind}
 use Rattle.type_laws.proofs.PutSame.{same_put}
-use Rattle.chw_typing.specs.Scopes.{HasKind, IsTermType, AreTermTypes, AreSame, with_more}
+use Rattle.chw_typing.specs.Scopes.{HasKind, IsTermType, AreTermTypes, AreSame}
 use Rattle.chw_typing.specs.HeadTypes.{IsLookedAt, fields_at, PatternOf, of_con, of_lit, of_any}
 use Rattle.chw_typing.specs.Programs.{IsSound, setting_of}
 use Rattle.chw_typing.proofs.Lists.{map_reverse}
 use Rattle.chw_typing.proofs.Patterns.{are_of_terms, fields_typed, constructor_arguments, AllSumsAreNat, pattern_sums}
 use Rattle.chw_typing.proofs.PutAgreeing.{field_put}
-use Rattle.chw_typing.proofs.SameScopes.{are_same_length}
-use Rattle.chw_meaning.specs.Values.{Value, bits, con_of, Thunk, field, Thunks, none, type_at, closed_type, joined, fields_from}
+use Rattle.chw_meaning.specs.Values.{Value, bits, con_of, Thunk, field, Thunks, none, type_at, closed_type, fields_from}
 use Rattle.chw_meaning.specs.Eval.{matches, bound}
 use Rattle.chw_meaning.proofs.Once.{same_some}
 use Rattle.acts.specs.Levels.{Levels, ThunksAct}
 use Rattle.acts.specs.Acts.{AllAct, act_step}
-use Rattle.acts.specs.Terms.{TiedBy, Kinded}
+use Rattle.acts.specs.Terms.{Kinded}
 use Rattle.acts.proofs.Closing.{puts_closed, closed_kind}
 use Rattle.acts.proofs.Fields.{field_acts}
 use Rattle.acts.proofs.Levels.{IsLevels}

@@ -1,10 +1,9 @@
 -- A function with its first parameters written out acts as the function.
-use Rattle.std.specs.Prelude.{slice_get}
 use Rattle.std.proofs.Common.{◌≡◌, ◌+◌, ℕ, suc, zero, List, [], ◌∷◌, length, map, Some, refl, sym, ap, ◌∙◌, subst, arith}
 use Rattle.std.proofs.lemmas.List.{length-map}
 use Rattle.chw_types.specs.declared.kind.Kind.{Kind}
 use Rattle.chw_types.specs.TypeTree.{TypeTree, fun, TypeTrees}
-use Rattle.chw_types.specs.TypeMoves.{Renaming, raised, sub}
+use Rattle.chw_types.specs.TypeMoves.{Renaming, raised}
 use Rattle.chw_types.proofs.TypeLaws.{same as same_function}
 use Rattle.chw_terms.specs.declared.program.Program.{Program}
 use Rattle.chw_terms.specs.TermMoves.{rename, shift}
@@ -17,7 +16,7 @@ use Rattle.chw_typing.specs.Typing.{HasType}
 use Rattle.chw_meaning.specs.Values.{History, Value, closure, Thunk, closed, Thunks, thunk_and, thunk_at, closed_type}
 use Rattle.chw_meaning.specs.Eval.{plus, Evals, e_var, e_lam, e_app, Forces, f_closed, Applies, a_closure}
 use Rattle.chw_meaning.proofs.Once.{same_some}
-use Rattle.acts.specs.Levels.{Levels, later, Alike, First, RunsAct, term_runs, term_has, thunk_runs, thunk_has, ThunksAct}
+use Rattle.acts.specs.Levels.{Levels, later, Alike, RunsAct, term_runs, term_has, thunk_runs, thunk_has, ThunksAct}
 use Rattle.acts.specs.Acts.{acts_from}
 use Rattle.acts.specs.Terms.{TiedBy, Kinded, OriginsAct, with_origins, setting_with, on_variables, under_each, eta_expanded}
 use Rattle.acts.proofs.Forms.{TermsAct, called, call_acts}
@@ -130,8 +129,8 @@ module _ (p : Program) (vars : List TypeTree) (t : TypeTree) (total : ℕ) (firs
       let body = under_each binders (on_variables first zero total) in
       let set = values_on p (term_has p second γ δ h) args in
       let calls : CallActs p q a b body (with_args args γ') δ set =
-        λ i x' x xs h2' h2 m2 u al d. eta_from rest r (record { first = x'; second = x; of = a; result = b; at = h2 } ∷ args) (omega (arith, n)) (later i q) (at_later i l)
-          (tied_under (later i q) (length args) x' (with_args args γ') (tied_later l i vars (by_many (length args)) (λ x. x) δ (with_args args γ') γ tied)) (is, chains) (xs, args_later l i args acts) refl h h2' m2 u al binders (cc) d in
+      λ i x' x xs h2' h2 m2 u al d. eta_from rest r (record { first = x'; second = x; of = a; result = b; at = h2 } ∷ args) (omega (arith, n)) (later i q) (at_later i l)
+      (tied_under (later i q) (length args) x' (with_args args γ') (tied_later l i vars (by_many (length args)) (λ x. x) δ (with_args args γ') γ tied)) (is, chains) (xs, args_later l i args acts) refl h h2' m2 u al binders (cc) d in
       subst (λ t. later (suc zero) q zero t (closure body (with_args args γ') δ) set) (sym is)
       (at_levels l (λ q. CallActs p q a b body (with_args args γ') δ set → later (suc zero) q zero (fun a b) (closure body (with_args args γ') δ) set) (λ k. closure_value p a b body (with_args args γ') δ set k) calls)
   eta_from [] r args n q l tied chains acts is h h' m w beside (c ∷ binders) size d = cc

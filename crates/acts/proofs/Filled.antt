@@ -1,6 +1,6 @@
 -- A term as one side has it: with terms put for its variables, types for its type variables, and closed terms for its made definitions.
 use Rattle.std.specs.Prelude.{slice_get}
-use Rattle.std.proofs.Common.{◌≡◌, ℕ, suc, zero, List, [], ◌∷◌, length, Some, refl, sym, ap, ◌∙◌}
+use Rattle.std.proofs.Common.{◌≡◌, ℕ, suc, zero, List, ◌∷◌, length, Some, refl, sym, ap, ◌∙◌}
 use Rattle.chw_types.specs.declared.kind.Kind.{Kind}
 use Rattle.chw_types.specs.TypeTree.{TypeTree, ty_var, TypeTrees, type_and}
 use Rattle.chw_types.specs.TypeMoves.{Renaming, lift, lift_by, rename as rename_type, Substitution as TypeSubstitution, up as up_type, sub as sub_type}

@@ -1,6 +1,6 @@
 -- A typed term with terms put for its variables acts as the term whose variables have their thunks.
 use Rattle.std.specs.Prelude.{slice_get}
-use Rattle.std.proofs.Common.{◌≡◌, ◌⊎◌, inl, inr, ℕ, suc, List, [], ◌∷◌, Some, refl, sym, ap, ◌∙◌, subst}
+use Rattle.std.proofs.Common.{◌≡◌, ◌⊎◌, inl, inr, ℕ, suc, List, Some, refl, sym, ap, ◌∙◌, subst}
 use Rattle.chw_types.specs.declared.kind.Kind.{Kind}
 use Rattle.chw_types.specs.TypeTree.{TypeTree, ty_var, TypeTrees, type_and}
 use Rattle.chw_types.specs.TypeMoves.{Renaming, sub as sub_type}
@@ -57,19 +57,54 @@ module _ (p : Program) (sound : IsSound (setting_of p)) (typed : IsTyped p) (typ
   stands_later : (r : Levels) → IsLevels p r → (i : ℕ) (t : TypeTree) (e' e : TermTree) (δ' δ : TypeTrees) (γ' γ : Thunks) → Stands r t e' e δ' δ γ' γ → Stands (later i r) t e' e δ' δ γ' γ
   stands_later r l i t e' e δ' δ γ' γ s =
       record {
-        kinds = s.kinds; vars = s.vars; body = s.body; type = s.type; first = s.first; second = s.second; type_variables = s.type_variables; type_env = s.type_env;
-        is_first = s.is_first; variable = s.variable; is_second = s.is_second; in_scope = s.in_scope; has_type = s.has_type; same = s.same; known = s.known;
-        carries = s.carries; thunk = s.thunk; held = s.held; env = s.env; names = tied_later l i s.vars s.first s.second s.type_env γ' s.env s.names; has = s.has;
+        kinds = s.kinds;
+        vars = s.vars;
+        body = s.body;
+        type = s.type;
+        first = s.first;
+        second = s.second;
+        type_variables = s.type_variables;
+        type_env = s.type_env;
+        is_first = s.is_first;
+        variable = s.variable;
+        is_second = s.is_second;
+        in_scope = s.in_scope;
+        has_type = s.has_type;
+        same = s.same;
+        known = s.known;
+        carries = s.carries;
+        thunk = s.thunk;
+        held = s.held;
+        env = s.env;
+        names = tied_later l i s.vars s.first s.second s.type_env γ' s.env s.names;
+        has = s.has;
       }
 
   stands_under : (r : Levels) (t : TypeTree) (e' e : TermTree) (δ' δ : TypeTrees) (γ' γ : Thunks) (x' x : Thunk) → Stands r t e' e δ' δ γ' γ → Stands r t (rename e' suc) (rename e suc) δ' δ (thunk_and x' γ') (thunk_and x γ)
   unfolding rename
   stands_under r t e' e δ' δ γ' γ x' x s =
       record {
-        kinds = s.kinds; vars = s.vars; body = s.body; type = s.type; first = λ y. suc (s.first y); second = s.second; type_variables = s.type_variables; type_env = s.type_env;
+        kinds = s.kinds;
+        vars = s.vars;
+        body = s.body;
+        type = s.type;
+        first = λ y. suc (s.first y);
+        second = s.second;
+        type_variables = s.type_variables;
+        type_env = s.type_env;
         is_first = ap (λ e. rename e suc) s.is_first ∙ sym (types_after_rename (rename s.body s.first) suc s.type_variables) ∙ ap (λ e. rename_types e s.type_variables) (rename_rename s.body s.first suc);
-        variable = suc s.variable; is_second = ap (λ e. rename e suc) s.is_second; in_scope = s.in_scope; has_type = s.has_type; same = s.same; known = s.known;
-        carries = s.carries; thunk = s.thunk; held = s.held; env = s.env; names = deeper; has = s.has;
+        variable = suc s.variable;
+        is_second = ap (λ e. rename e suc) s.is_second;
+        in_scope = s.in_scope;
+        has_type = s.has_type;
+        same = s.same;
+        known = s.known;
+        carries = s.carries;
+        thunk = s.thunk;
+        held = s.held;
+        env = s.env;
+        names = deeper;
+        has = s.has;
       }
     where
       deeper : TiedBy p r s.vars (λ y. suc (s.first y)) s.second s.type_env (thunk_and x' γ') s.env
@@ -79,10 +114,27 @@ module _ (p : Program) (sound : IsSound (setting_of p)) (typed : IsTyped p) (typ
   unfolding rename_types sub_type
   stands_under_type r t e' e δ' δ γ' γ c s =
       record {
-        kinds = s.kinds; vars = s.vars; body = s.body; type = s.type; first = s.first; second = s.second; type_variables = λ y. suc (s.type_variables y); type_env = s.type_env;
+        kinds = s.kinds;
+        vars = s.vars;
+        body = s.body;
+        type = s.type;
+        first = s.first;
+        second = s.second;
+        type_variables = λ y. suc (s.type_variables y);
+        type_env = s.type_env;
         is_first = ap (λ e. rename_types e suc) s.is_first ∙ types_types (rename s.body s.first) s.type_variables suc;
-        variable = s.variable; is_second = ap (λ e. rename_types e suc) s.is_second; in_scope = s.in_scope; has_type = s.has_type; same = s.same; known = s.known;
-        carries = λ y k i. s.carries y k i; thunk = s.thunk; held = s.held; env = s.env; names = s.names; has = s.has;
+        variable = s.variable;
+        is_second = ap (λ e. rename_types e suc) s.is_second;
+        in_scope = s.in_scope;
+        has_type = s.has_type;
+        same = s.same;
+        known = s.known;
+        carries = λ y k i. s.carries y k i;
+        thunk = s.thunk;
+        held = s.held;
+        env = s.env;
+        names = s.names;
+        has = s.has;
       }
 
   stands_lasts : Lasts p Stands
@@ -109,7 +161,7 @@ module _ (p : Program) (sound : IsSound (setting_of p)) (typed : IsTyped p) (typ
   put_terms_act {kinds} {vars} {e} {t} σ ρ g d n δ γ' γ known put =
       let full = sound_with p types sound closed in
       let acts = typed_acts p types full o o (λ t. t) (λ t. t) itself_keeps itself_keeps Any (λ c δ' δ h. tt) (made_typed p sound typed types o closed has_types) (heads_act p sound) Stands stands_lasts stands_acts d g (acts_from p n) (from_turns p n) σ (variables_by ρ) ty_var ty_var δ δ δ γ' γ
-        (record { known = known; first = evaluated_at p kinds δ known; second = evaluated_at p kinds δ known; types = tt; names = λ x u i. name x u i (put x u i); globals = globals_from p sound typed n }) in
+      (record { known = known; first = evaluated_at p kinds δ known; second = evaluated_at p kinds δ known; types = tt; names = λ x u i. name x u i (put x u i); globals = globals_from p sound typed n }) in
       subst (λ a. TermsAct p (acts_from p n) (closed_type t δ) a γ' δ (with_origins o (rename e ρ)) γ δ) (filled_put o e σ)
       (subst (λ a. TermsAct p (acts_from p n) (closed_type t δ) (filled o (λ t. t) e σ ty_var) γ' δ a γ δ) (filled_renamed o e ρ) acts)
     where
@@ -118,8 +170,25 @@ module _ (p : Program) (sound : IsSound (setting_of p)) (typed : IsTyped p) (typ
       name x u i (inr s) =
           let kind = typed_at (setting_with p types) kinds vars x u g i in
           inr (record {
-            kinds = kinds; vars = s.vars; body = s.body; type = s.type; first = s.first; second = s.second; type_variables = λ y. y; type_env = δ;
-            is_first = s.is ∙ sym (types_ids (rename s.body s.first)); variable = ρ x; is_second = refl; in_scope = s.in_scope; has_type = s.typed;
-            same = closed_same p sound δ known (type_kinded s.typed (sound_with p types sound closed) s.in_scope).has kind.has s.same; known = known;
-            carries = evaluated_at p kinds δ known; thunk = s.thunk; held = s.held; env = s.env; names = s.names; has = s.has;
+            kinds = kinds;
+            vars = s.vars;
+            body = s.body;
+            type = s.type;
+            first = s.first;
+            second = s.second;
+            type_variables = λ y. y;
+            type_env = δ;
+            is_first = s.is ∙ sym (types_ids (rename s.body s.first));
+            variable = ρ x;
+            is_second = refl;
+            in_scope = s.in_scope;
+            has_type = s.typed;
+            same = closed_same p sound δ known (type_kinded s.typed (sound_with p types sound closed) s.in_scope).has kind.has s.same;
+            known = known;
+            carries = evaluated_at p kinds δ known;
+            thunk = s.thunk;
+            held = s.held;
+            env = s.env;
+            names = s.names;
+            has = s.has;
           })

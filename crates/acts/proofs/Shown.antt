@@ -1,15 +1,15 @@
 -- The examples.
-use Rattle.std.proofs.Common.{◌≡◌, ◌<◌, ℕ, suc, zero, Bool, List, [], ◌∷◌, Some, refl, sym, subst, arith}
+use Rattle.std.proofs.Common.{◌≡◌, ℕ, suc, zero, Bool, List, [], Some, refl, sym, subst, arith}
 use Rattle.chw_bits.specs.Bits.{bits_of}
 use Rattle.chw_types.specs.declared.kind.Scalar.{Scalar}
-use Rattle.chw_types.specs.TypeTree.{TypeTree, scalar, fun, signal, no_types}
+use Rattle.chw_types.specs.TypeTree.{TypeTree, scalar, signal, no_types}
 use Rattle.chw_types.specs.TypeMoves.{rename, up, sub}
 use Rattle.chw_types.specs.SamePromises.{natural_value}
 use Rattle.chw_terms.specs.declared.program.Program.{Program}
 use Rattle.chw_terms.specs.Evaluated.{evaluated}
 use Rattle.chw_terms.specs.TermTree.{TermTree, var, lam, app}
-use Rattle.chw_meaning.specs.Values.{History, Value, bits, none}
-use Rattle.chw_meaning.specs.Eval.{Evals, e_var, e_lam, e_app, e_lit, f_closed, a_closure}
+use Rattle.chw_meaning.specs.Values.{History, bits, none}
+use Rattle.chw_meaning.specs.Eval.{e_var, e_lam, e_app, e_lit, f_closed, a_closure}
 use Rattle.chw_meaning.specs.Run.{zero_by, eval}
 use Rattle.chw_meaning.specs.Writing.{bare, here, ticks, shown, number, pure}
 use Rattle.chw_meaning.specs.Designs.{byte, a_clock, counter}

@@ -1,18 +1,14 @@
 -- Environments that act so stay so under binders, and with fewer turns.
 use Rattle.std.specs.Prelude.{slice_get}
-use Rattle.std.proofs.Common.{◌≡◌, ℕ, suc, zero, List, [], ◌∷◌, ◌++◌, length, map, reverse, Some, refl, sym, ap, ◌∙◌, subst}
-use Rattle.chw_types.specs.TypeTree.{TypeTree, TypeTrees, type_and}
-use Rattle.chw_types.specs.TypeMoves.{Renaming, lift, lift_by, shift}
+use Rattle.std.proofs.Common.{◌≡◌, ℕ, suc, zero, List, [], ◌∷◌, length, Some, refl, sym, ap, subst}
+use Rattle.chw_types.specs.TypeTree.{TypeTree, TypeTrees}
+use Rattle.chw_types.specs.TypeMoves.{Renaming}
 use Rattle.chw_terms.specs.declared.program.Program.{Program}
-use Rattle.chw_terms.specs.TermTree.{Group, no_bindings, bind, size_of}
-use Rattle.chw_typing.specs.Scopes.{under_binder, with_more}
-use Rattle.chw_typing.proofs.Lists.{found_before_map, turned_onto}
-use Rattle.chw_meaning.specs.Values.{Thunk, field, member, Thunks, none, thunk_and, thunk_at, closed_type, joined, members, in_group, fields_from}
+use Rattle.chw_meaning.specs.Values.{Thunk, field, Thunks, none, thunk_and, thunk_at, closed_type, joined, fields_from}
 use Rattle.chw_meaning.specs.Eval.{plus}
 use Rattle.acts.specs.Levels.{Levels, later, thunk_runs, thunk_has, ThunksAct}
 use Rattle.acts.specs.Acts.{AllAct}
 use Rattle.acts.specs.Terms.{TiedBy}
-use Rattle.acts.proofs.Closing.{closed_shift}
 use Rattle.acts.proofs.Levels.{IsLevels, runs_later}
 
 pub tied_later : {p : Program} {r : Levels} → IsLevels p r → (i : ℕ) (vars : List TypeTree) (ρ' ρ : Renaming) (δ : TypeTrees) (γ' γ : Thunks) → TiedBy p r vars ρ' ρ δ γ' γ → TiedBy p (later i r) vars ρ' ρ δ γ' γ

@@ -76,13 +76,13 @@ MadeAct p types o' o R =
 pub record Tied
     (p : Program) (R : TypeTrees → TypeTrees → Type 0) (related : Relation) (kinds : List Kind) (vars : List TypeTree) (σ' σ : Substitution)
     (τ' τ : TypeSubstitution) (r : Levels) (δ0 δ' δ : TypeTrees) (γ' γ : Thunks) : Type 0
-    where
-  pub known : Kinded p kinds δ0
-  pub first : Carries kinds τ' δ' δ0
-  pub second : Carries kinds τ δ δ0
-  pub types : R δ' δ
-  pub names : Named p related r vars σ' σ δ0 δ' δ γ' γ
-  pub globals : GlobalsAct p r
+  where
+    pub known : Kinded p kinds δ0
+    pub first : Carries kinds τ' δ' δ0
+    pub second : Carries kinds τ δ δ0
+    pub types : R δ' δ
+    pub names : Named p related r vars σ' σ δ0 δ' δ γ' γ
+    pub globals : GlobalsAct p r
 
 looked_closed : (u : TypeTree) (δ : TypeTrees) → IsLookedAt u → IsLookedAt (closed_type u δ)
 unfolding sub
@@ -267,9 +267,9 @@ module _ (p : Program) (made_types : List TypeTree) (sound : IsSound (setting_wi
         (λ i v set arm asked found.
         let s = seen u δ0 v set looked asked in
         let one = alt_acts (closed_type t δ0) q (filled o' f' a (up_by n σ') τ') (filled o f a (up_by n σ) τ) (filled_alts o' f' more σ' τ') (filled_alts o f more σ τ) γ' γ δ' δ v s.0 (matches_same s.2 q)
-          (λ hit. typed_acts da inner (later (suc i) r) (at_later (suc i) l) (up_by n σ') (up_by n σ) τ' τ δ0 δ' δ (joined (bound v q) γ') (joined (bound s.0 q) γ)
-          (beside_bound l (suc i) h q bnd bs (bound v q) (bound s.0 q) (pattern_acts (at_later (suc i) l) base kinds δ0 h.known bs.pattern j ku bnd bs.same bnd_typed s.2 refl hit)))
-          (alts_act alts j ku k kt g (later (suc i) r) (at_later (suc i) l) σ' σ τ' τ δ0 δ' δ γ' γ (tied_falls l (suc i) h) v s.0 s.2) arm found in
+        (λ hit. typed_acts da inner (later (suc i) r) (at_later (suc i) l) (up_by n σ') (up_by n σ) τ' τ δ0 δ' δ (joined (bound v q) γ') (joined (bound s.0 q) γ)
+        (beside_bound l (suc i) h q bnd bs (bound v q) (bound s.0 q) (pattern_acts (at_later (suc i) l) base kinds δ0 h.known bs.pattern j ku bnd bs.same bnd_typed s.2 refl hit)))
+        (alts_act alts j ku k kt g (later (suc i) r) (at_later (suc i) l) σ' σ τ' τ δ0 δ' δ γ' γ (tied_falls l (suc i) h) v s.0 s.2) arm found in
         record { value = s.0; has_value = s.1; second = one.second; is_arm = one.is_arm; acts = one.acts })
 
     bound_acts : {kinds : List Kind} {vars : List TypeTree} {k : Kind} {b : Group} → AreBound (setting_with p made_types) kinds vars k b → AreTermTypes (setting_with p made_types) kinds vars → (r : Levels) → IsLevels p r → (σ' σ : Substitution) (τ' τ : TypeSubstitution) (δ0 δ' δ : TypeTrees) (γ' γ : Thunks) → Tied p R related kinds vars σ' σ τ' τ r δ0 δ' δ γ' γ → (i : ℕ) (u : TypeTree) → slice_get (map (λ t. closed_type t δ0) (declared b)) i ≡ Some u → SideOf p r i u (filled_group o' f' b σ' τ') γ' δ' (filled_group o f b σ τ) γ δ

@@ -20,8 +20,8 @@ use Rattle.chw_meaning.specs.Values.{Thunk, stream, known, Thunks, closed_type}
 use Rattle.chw_meaning.specs.Gives.{Input, Given, Better}
 use Rattle.acts.specs.Levels.{RunsAct, term_runs, term_has, ThunksAct}
 use Rattle.acts.specs.Acts.{acts_from}
-use Rattle.acts.specs.Terms.{TiedBy, Kinded, ActsAs, Chain, with_argument, with_origins}
-use Rattle.acts.specs.Terms.{ActsUnder, OriginsAct, OriginsTyped, ArePut, setting_with, eta_expanded}
+use Rattle.acts.specs.Terms.{TiedBy, Kinded, ActsUnder, ActsAs, Chain, OriginsAct, OriginsTyped}
+use Rattle.acts.specs.Terms.{ArePut, with_argument, with_origins, setting_with, eta_expanded}
 
 -- thunks that act so for a number of turns do so for one less
 abbrev pub FewerTurnsAskLess : Type 0
@@ -105,8 +105,8 @@ PutTermsAct =
     → (n : ℕ) (δ : TypeTrees) (γ' γ : Thunks)
     → Kinded p kinds δ → ArePut p types o kinds (acts_from p n) vars σ ρ δ γ' γ
     → RunsAct (acts_from p n) (closed_type t δ)
-      (term_runs p (with_origins o (sub e σ)) γ' δ)
-      (term_has p (with_origins o (rename e ρ)) γ δ)
+    (term_runs p (with_origins o (sub e σ)) γ' δ)
+    (term_has p (with_origins o (rename e ρ)) γ δ)
 
 -- a typed function acts as itself with its first parameters written out
 abbrev pub EtaActs : Type 0
@@ -118,7 +118,7 @@ EtaActs =
     → AreTermTypes (setting_with p types) kinds vars
     → HasType (setting_with p types) kinds vars e (from_each args r)
     → ActsUnder p kinds vars
-      (with_origins o' (eta_expanded args e)) (with_origins o e) (from_each args r)
+    (with_origins o' (eta_expanded args e)) (with_origins o e) (from_each args r)
 
 -- a closed term that acts as another gives nothing that the other doesn't
 abbrev pub ActsGives : Type 0

@@ -120,22 +120,22 @@ OriginsTyped p types o =
 pub record StandsFor
     (p : Program) (types : List TypeTree) (o : ℕ → TermTree) (kinds : List Kind) (r : Levels)
     (t : TypeTree) (e' : TermTree) (x : ℕ) (δ : TypeTrees) (γ' γ : Thunks) : Type 0
-    where
-  pub vars : List TypeTree
-  pub body : TermTree
-  pub type : TypeTree
-  pub first : Renaming
-  pub second : Renaming
-  pub is : e' ≡ rename body first
-  pub in_scope : AreTermTypes (setting_with p types) kinds vars
-  pub typed : HasType (setting_with p types) kinds vars body type
-  pub same : SameTypes type t
-  pub thunk : Thunk
-  pub held : thunk_at γ x ≡ Some thunk
-  pub env : Thunks
-  pub names : TiedBy p r vars first second δ γ' env
-  pub has : (h : History) (v : Value)
-      → term_has p (with_origins o (rename body second)) env δ h v → thunk_has p thunk h v
+  where
+    pub vars : List TypeTree
+    pub body : TermTree
+    pub type : TypeTree
+    pub first : Renaming
+    pub second : Renaming
+    pub is : e' ≡ rename body first
+    pub in_scope : AreTermTypes (setting_with p types) kinds vars
+    pub typed : HasType (setting_with p types) kinds vars body type
+    pub same : SameTypes type t
+    pub thunk : Thunk
+    pub held : thunk_at γ x ≡ Some thunk
+    pub env : Thunks
+    pub names : TiedBy p r vars first second δ γ' env
+    pub has : (h : History) (v : Value)
+        → term_has p (with_origins o (rename body second)) env δ h v → thunk_has p thunk h v
 
 -- for each variable of these types a variable is put, and both look alike; or a term stands for it
 abbrev pub ArePut :
@@ -144,7 +144,7 @@ abbrev pub ArePut :
 ArePut p types o kinds r vars σ ρ δ γ' γ =
     (x : ℕ) (t : TypeTree) → slice_get vars x ≡ Some t
     → ((y : ℕ) × (σ x ≡ var y) × LooksAlike p r (closed_type t δ) y (ρ x) γ' γ)
-      ⊎ StandsFor p types o kinds r t (σ x) (ρ x) δ γ' γ
+    ⊎ StandsFor p types o kinds r t (σ x) (ρ x) δ γ' γ
 
 -- a term on so many variables, the last of which has this number
 abbrev pub on_variables : TermTree → ℕ → ℕ → TermTree
