@@ -44,6 +44,19 @@ def definition_named_often(leaves, count):
             f"def h : Bool = {bindings(count, 'g f')};\n") + TOP
 
 
+def definitions_in_turn(definitions, leaves, count):
+    t = pairs(leaves)
+    lets = "".join(f"b{i} : Bool = g f{i % definitions};\n" for i in range(count))
+    return ("".join(f"def f{k} : {t} -> Bool = \\(x : {t}) . True;\n" for k in range(definitions))
+            + f"def g : ({t} -> Bool) -> Bool = \\(h : {t} -> Bool) . True;\ndef h : Bool = letrec {{\n{lets}}} in True;\n") + TOP
+
+
+def variable_given_often(leaves, count):
+    t = pairs(leaves)
+    return (f"def g : {t} -> Bool = \\(x : {t}) . True;\n"
+            f"def h : {t} -> Bool = \\(y : {t}) . {bindings(count, 'g y')};\n") + TOP
+
+
 def constructor_named_often(fields, leaves, count):
     t = pairs(leaves)
     whole = f"{t} -> " * fields + "D"
@@ -108,6 +121,8 @@ SHAPES = {
     "a variable of 8,191 parts, named 8,000 times": lambda: variable_named_often(4096, 8000),
     "a definition of 18,000 parts, named 18,000 times": lambda: definition_named_often(9000, 18000),
     "a constructor of 170 great fields, named 18,000 times": lambda: constructor_named_often(170, 40, 18000),
+    "three definitions of 8,000 parts, named in turn 18,000 times": lambda: definitions_in_turn(3, 4000, 18000),
+    "a variable of 18,000 parts, given 18,000 times": lambda: variable_given_often(9000, 18000),
     "9,000 alternatives whose field is the argument": lambda: alternatives_with_fields(9000, 20000),
     "400 times 150 type arguments to a great type": lambda: type_arguments(150, 20000, 400),
     "4 million parts by one type argument": lambda: put_for_many(2000, 2000),
@@ -142,7 +157,7 @@ def run(path, stack=None):
     return os.waitstatus_to_exitcode(status), seconds, used.ru_maxrss / 1024
 
 
-print(f"{'shape':54} {'bytes':>9} {'status':>6} {'ms':>8} {'MiB':>6}")
+print(f"{'shape':62} {'bytes':>9} {'status':>6} {'ms':>8} {'MiB':>6}")
 for name, make in SHAPES.items():
     path = os.path.join(FOLDER, "hard.chw")
     with open(path, "w") as it:
@@ -152,4 +167,4 @@ for name, make in SHAPES.items():
     runs += [run(path) for _ in range(2) if runs[0][1] < 2]
     small = run(path, 4 << 20) if runs[0][1] < 2 else runs[0]
     status = str(runs[0][0]) if small[0] == runs[0][0] else f"{runs[0][0]}/{small[0]}"
-    print(f"{name:54} {os.path.getsize(path):9,} {status:>6} {min(r[1] for r in runs) * 1000:8,.0f} {max(r[2] for r in runs):6,.0f}")
+    print(f"{name:62} {os.path.getsize(path):9,} {status:>6} {min(r[1] for r in runs) * 1000:8,.0f} {max(r[2] for r in runs):6,.0f}")

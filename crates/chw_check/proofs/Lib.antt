@@ -4,7 +4,6 @@ pub mod CaseLists
 pub mod CaseSpines
 pub mod Complete
 pub mod Covered
-pub mod DataOrder
 pub mod EachItem
 pub mod FittingPrograms
 pub mod Handled
@@ -17,8 +16,6 @@ pub mod NotKept
 pub mod Numbered
 pub mod PartsFit
 pub mod PortsLead
-pub mod Reaching
-pub mod TestCounts
 pub mod Told
 pub mod TopsTold
 pub mod TypedFits

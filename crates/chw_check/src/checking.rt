@@ -20,6 +20,7 @@ use chw_base::{Name, NoMemory, Or};
 use chw_terms::Program;
 use chw_types::type_text;
 use con_places::Constructors;
+use named_types::laws::data_types_in_order;
 use std::alloc::Global;
 use std::marker::Model;
 use term_types::Signature;
@@ -151,6 +152,7 @@ fn check_top(alloc: Global, program: &Program) -> Result<(), Or<TypeFault>>
     ensures ok { OnOk result (TopIsOfPorts program.now) }
     ensures fault { IfFault result (IsTypeFault program.now) }
 {
+    data_types_in_order();
     let datas = program.datas.as_slice();
     let top = &program.top;
     let ty = &program.defs.as_slice()[top.def.number as usize].ty;

@@ -38,12 +38,12 @@ pub declared_length : (g : Group) → length (declared g) ≡ size_of g
 declared_length no_bindings = refl
 declared_length (bind t e g) = ap suc (declared_length g)
 
-declared_renamed : (g : Group) (ρ : Renaming) → declared (rename_group g ρ) ≡ declared g
+pub declared_renamed : (g : Group) (ρ : Renaming) → declared (rename_group g ρ) ≡ declared g
 unfolding rename_group
 declared_renamed no_bindings ρ = refl
 declared_renamed (bind t e g) ρ = ap (λ ts. t ∷ ts) (declared_renamed g ρ)
 
-count_renamed : (es : Terms) (ρ : Renaming) → count (rename_all es ρ) ≡ count es
+pub count_renamed : (es : Terms) (ρ : Renaming) → count (rename_all es ρ) ≡ count es
 unfolding rename_all
 count_renamed no_terms ρ = refl
 count_renamed (term_and e es) ρ = ap suc (count_renamed es ρ)

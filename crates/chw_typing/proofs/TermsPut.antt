@@ -67,12 +67,12 @@ puts_under_type s kinds σ vars vars' j h g p x t e =
     let at = found_before_map (λ t. shift t 0 1) vars x t e in
     subst (HasTypeUpTo s (j ∷ kinds) (under_binder vars') (rename_types (σ x) suc)) at.2 (one_type_outside s kinds vars' j (σ x) at.0 h g (p x at.0 at.1))
 
-declared_put : (g : Group) (σ : Substitution) → declared (sub_group g σ) ≡ declared g
+pub declared_put : (g : Group) (σ : Substitution) → declared (sub_group g σ) ≡ declared g
 unfolding sub
 declared_put no_bindings σ = refl
 declared_put (bind t e g) σ = ap (λ ts. t ∷ ts) (declared_put g σ)
 
-count_put : (es : Terms) (σ : Substitution) → count (sub_all es σ) ≡ count es
+pub count_put : (es : Terms) (σ : Substitution) → count (sub_all es σ) ≡ count es
 unfolding sub
 count_put no_terms σ = refl
 count_put (term_and e es) σ = ap suc (count_put es σ)

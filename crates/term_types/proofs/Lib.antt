@@ -9,6 +9,7 @@ pub mod Keyed
 pub mod Lambdas
 pub mod Lets
 pub mod Matched
+pub mod Numbered
 pub mod PatternKeys
 pub mod Plain
 pub mod PutClosed

@@ -11,6 +11,7 @@ pub mod Keeping
 pub mod Keying
 pub mod Kinding
 pub mod SeenView
+pub mod Numbers
 pub mod Signatures
 pub mod Spines
 pub mod VarsView

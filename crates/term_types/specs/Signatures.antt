@@ -9,6 +9,7 @@ use Rattle.chw_prims.specs.Schemas.{schema_type}
 use Rattle.chw_terms.specs.Constructors.{Constructor, con_at}
 use Rattle.chw_terms.specs.declared.program.Program.{Program}
 use Rattle.chw_typing.specs.HeadTypes.{con_type}
+use Rattle.term_types.specs.Numbers.{IsNumbering}
 use Rattle.term_types.specs.declared.signature.HeadType.{HeadType}
 use Rattle.term_types.specs.declared.signature.Signature.{Signature}
 
@@ -34,10 +35,11 @@ abbrev pub AreOfConstructors : Program → List (Option HeadType) → Type 0
 AreOfConstructors p ts =
     (n : ℕ) (t : Option HeadType) → slice_get ts n ≡ Some t → IfSome t (IsOfConstructor p n)
 
--- the table has the program's constructors, the kinds are those of its definitions, and the types
--- those of constructors and of the primitives
+-- the table has the program's constructors, the kinds are those of its definitions, the types those
+-- of constructors and of the primitives, and the numbers those of these types
 pub record IsSignature (p : Program) (s : Signature) : Type 0 where
   pub constructors : s.constructors ≡ p.datas
   pub kinds : s.kinds.items ≡ kinds_declared p
   pub kept : AreOfConstructors p s.kept.items
   pub primitives : s.primitives.items ≡ primitive_types p
+  pub numbering : IsNumbering p s.kept.items s.numbering

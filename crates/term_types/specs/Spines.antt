@@ -8,6 +8,7 @@ use Rattle.chw_types.specs.Kinds.{degree}
 use Rattle.chw_terms.specs.TermTree.{TermTree}
 use Rattle.chw_typing.specs.Scopes.{Setting, HasKind}
 use Rattle.term_types.specs.Answers.{HasNoType, IsTyped}
+use Rattle.term_types.specs.Numbers.{IsNumberOf}
 use Rattle.term_types.specs.Forms.{Takes, TakesNot, TakesType, TakesTypeNot}
 use Rattle.term_types.specs.declared.found.Found.{Found}
 use Rattle.term_types.specs.declared.spines.Spine.{Spine}
@@ -15,6 +16,10 @@ use Rattle.term_types.specs.declared.spines.Spine.{Spine}
 -- what waits, for the variables of the binders that were passed
 abbrev pub put_for : Spine → Substitution
 put_for p = given (reverse p.waiting.items)
+
+-- the number of the type, where it is known, is that in the table
+abbrev pub IsNumbered : List TypeTree → Spine → Type 0
+IsNumbered ts p = IsNumberOf ts p.number p.body.ty
 
 -- what is found for the term: the type with what waits put into it, with its kind
 abbrev pub spine_found : Spine → Found

@@ -12,6 +12,7 @@ mod found;
 mod groups;
 mod heads;
 mod kept;
+mod numbering;
 mod patterns;
 mod seen;
 pub mod signature;

@@ -9,6 +9,7 @@ ghost use Rattle.con_places.specs.Constructing.{constructor_of};
 ghost use Rattle.term_types.specs.Signatures.{IsSignature, kinds_declared, head_type, primitive_types, AreOfConstructors};
 
 use crate::constructors::{con_type, parts_left_after};
+use crate::numbering::Numbering;
 use chw_base::limits::TYPE_PARTS;
 use chw_base::{ConId, NoMemory};
 use chw_prims::{ALL, Prim, schema};
@@ -24,8 +25,8 @@ pub struct HeadType {
     pub kind: Option<Kind>,
 }
 
-/// A program's constructors in a table, the kinds of its definitions' types, and the types of
-/// constructors and primitives.
+/// A program's constructors in a table, the kinds of its definitions' types, the types of
+/// constructors and primitives, and numbers of types.
 #[derive(Drop)]
 pub struct Signature<'p> {
     pub constructors: Constructors<'p>,
@@ -35,6 +36,8 @@ pub struct Signature<'p> {
     pub kept: Vec<Option<HeadType>>,
     /// The type of each primitive, in the order of `ALL`.
     pub primitives: Vec<HeadType>,
+    /// The numbers of the types of definitions and of the constructors' types that are kept.
+    pub numbering: Numbering,
 }
 
 impl<'p> Signature<'p> {
@@ -48,11 +51,13 @@ impl<'p> Signature<'p> {
         let kinds = declared_kinds(alloc, program)?;
         let kept = kept_types(alloc, program, &constructors)?;
         let primitives = primitive_types(alloc, program)?;
+        let numbering = Numbering::of(alloc, program, kept.as_slice())?;
         Ok(Signature {
             constructors,
             kinds,
             kept,
             primitives,
+            numbering,
         })
     }
 

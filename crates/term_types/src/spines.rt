@@ -1,21 +1,24 @@
 //! Terms at arguments: the type of a term at the arguments so far.
-ghost use Rattle.std.specs.Prelude.{◌≡◌, reverse, IfOk, IsTrue, MatchOption};
+ghost use Rattle.std.specs.Prelude.{◌≡◌, reverse, None, IfOk, IfSome, IsTrue, MatchOption};
 ghost use Rattle.chw_types.specs.Arguments.{given};
 ghost use Rattle.chw_types.specs.SameFound.{same_kind};
 ghost use Rattle.chw_types.specs.TypeMoves.{sub};
 ghost use Rattle.chw_types.specs.TypeTree.{for_all};
 ghost use Rattle.chw_typing.specs.Scopes.{setting_in};
 ghost use Rattle.term_types.specs.Forms.{Takes, TakesNot, TakesType, TakesTypeNot};
-ghost use Rattle.term_types.specs.Spines.{spine_found, AtTerm, AtType, CanWait, IsFunction, IsStarted};
+ghost use Rattle.term_types.specs.Numbers.{IsNumberOf};
+ghost use Rattle.term_types.specs.Spines.{spine_found, AtTerm, AtType, CanWait, IsFunction, IsNumbered, IsStarted};
 
 use crate::closed::has_no_variables;
 use crate::found::{Found, kind_in, settled};
 use crate::kept::degree;
+use crate::numbering::{filled_number, part_numbers, same_numbered};
 use crate::seen::Seen;
 use chw_base::{NoMemory, TyIx};
 use chw_terms::Scene;
 use chw_types::{Kind, Ty, TyNode, put_arguments, put_type, same};
 use std::alloc::Global;
+use type_numbers::TypeTable;
 
 /// A term at the arguments so far. Type arguments may wait, so that a run of them is put into a type
 /// at once, and only into what is looked at.
@@ -26,26 +29,32 @@ use std::alloc::Global;
 pub(crate) struct Spine<'t> {
     // the type under the binders of those that wait, with its kind
     body: Found<'t>,
+    // the number of that type, where it is known
+    number: Option<u32>,
     // those that wait, the first one first
     waiting: Vec<Ty>,
 }
 
-/// A term of which no argument waits.
-pub(crate) fn started<'t>(alloc: Global, found: Found<'t>) -> Spine<'t>
-    ensures { spine_found result ≡ found.entry }
+/// A term of which no argument waits, with the number of its type, where it is known.
+pub(crate) fn started<'t>(alloc: Global, found: Found<'t>, number: Option<u32>) -> Spine<'t>
+    ensures is { spine_found result ≡ found.entry }
+    ensures body { result.body ≡ found.entry }
+    ensures number { result.number ≡ number }
 {
     Spine {
         body: found,
+        number,
         waiting: Vec::new(alloc),
     }
 }
 
 // The same, where the term has a type.
 fn started_again<'t>(alloc: Global, found: Option<Found<'t>>) -> Option<Spine<'t>>
-    ensures { IsStarted found.entry result }
+    ensures is { IsStarted found.entry result }
+    ensures number { IfSome result (λ p. p.number ≡ None) }
 {
     match found {
-        Some(found) => Some(started(alloc, found)),
+        Some(found) => Some(started(alloc, found, None)),
         None => None,
     }
 }
@@ -57,7 +66,7 @@ fn started_again<'t>(alloc: Global, found: Option<Found<'t>>) -> Option<Spine<'t
 pub(crate) fn finished<'t>(alloc: Global, spine: Spine<'t>) -> Result<Found<'t>, NoMemory>
     ensures { IfOk result (λ f. f ≡ spine_found spine.entry) }
 {
-    let Spine { body, waiting } = spine;
+    let Spine { body, waiting, .. } = spine;
     let kind = body.kind;
     let ty = filled(alloc, body.ty, waiting.as_slice())?;
     Ok(Found { ty, kind })
@@ -159,10 +168,15 @@ fn wait<'t>(
     arg: &Ty,
 ) -> Result<Option<Spine<'t>>, NoMemory>
     requires { CanWait spine.body.ty arg.now }
-    ensures { IfOk result
+    ensures is { IfOk result
         (AtType (setting_in scene.now) (reverse kinds.now) (spine_found spine.entry) arg.now) }
+    ensures number { IfOk result (λ r. IfSome r (λ p. p.number ≡ None)) }
 {
-    let Spine { body, mut waiting } = spine;
+    let Spine {
+        body,
+        mut waiting,
+        ..
+    } = spine;
     let Some(of_arg) = kind_in(scene, kinds, arg) else {
         return Ok(None);
     };
@@ -175,7 +189,11 @@ fn wait<'t>(
     waiting.push(arg.copy(alloc)?)?;
     let kind = body.kind;
     let body = Found { ty, kind };
-    Ok(Some(Spine { body, waiting }))
+    Ok(Some(Spine {
+        body,
+        number: None,
+        waiting,
+    }))
 }
 
 /// A term at one more type argument, where it takes one and some type with a kind is the same as
@@ -187,8 +205,9 @@ pub(crate) fn at_type<'t>(
     spine: Spine<'t>,
     arg: &Ty,
 ) -> Result<Option<Spine<'t>>, NoMemory>
-    ensures { IfOk result
+    ensures is { IfOk result
         (AtType (setting_in scene.now) (reverse kinds.now) (spine_found spine.entry) arg.now) }
+    ensures number { IfOk result (λ r. IfSome r (λ p. p.number ≡ None)) }
 {
     if can_wait(spine.body.ty.ty(), arg) {
         return wait(alloc, scene, kinds, spine, arg);
@@ -207,35 +226,59 @@ fn is_function(ty: &Ty) -> bool
     }
 }
 
-// A function at one more term of this type: what waits is put into the parameter's type, and goes on
-// waiting for the result's.
-fn take<'t>(alloc: Global, spine: Spine<'t>, arg: Found) -> Result<Option<Spine<'t>>, NoMemory>
-    requires { IsFunction spine.body.ty }
-    ensures { IfOk result (AtTerm (spine_found spine.entry) arg.entry.ty) }
+// A function at one more term of this type, whose number this is, where it is known: what waits is put
+// into the parameter's type, and goes on waiting for the result's.
+fn take<'t>(
+    alloc: Global,
+    types: &TypeTable,
+    spine: Spine<'t>,
+    arg: Found,
+    number: Option<u32>,
+) -> Result<Option<Spine<'t>>, NoMemory>
+    requires function { IsFunction spine.body.ty }
+    requires spine { IsNumbered types.now spine }
+    requires arg { IsNumberOf types.now number arg.ty }
+    ensures is { IfOk result (AtTerm (spine_found spine.entry) arg.entry.ty) }
+    ensures numbered { IfOk result (λ r. IfSome r (λ p. IsNumbered types.now p)) }
 {
-    let Spine { body, waiting } = spine;
+    let Spine {
+        body,
+        number: of,
+        waiting,
+    } = spine;
+    let (of_from, of_to) = part_numbers(types, of);
     let Some((from, to)) = body.ty.into_function() else {
         return Ok(None);
     };
     let from = filled(alloc, from, waiting.as_slice())?;
-    if !same(alloc, from.ty(), arg.ty.ty())? {
+    let of_from = filled_number(of_from, waiting.as_slice());
+    if !same_numbered(alloc, from.ty(), of_from, arg.ty.ty(), number)? {
         return Ok(None);
     }
     let kind = body.kind;
     let body = Found { ty: to, kind };
-    Ok(Some(Spine { body, waiting }))
+    Ok(Some(Spine {
+        body,
+        number: of_to,
+        waiting,
+    }))
 }
 
-/// A term at one more term of this type, where it takes one.
+/// A term at one more term of this type, whose number this is, where it is known, if it takes one.
 pub(crate) fn at_term<'t>(
     alloc: Global,
+    types: &TypeTable,
     spine: Spine<'t>,
     arg: Found,
+    number: Option<u32>,
 ) -> Result<Option<Spine<'t>>, NoMemory>
-    ensures { IfOk result (AtTerm (spine_found spine.entry) arg.entry.ty) }
+    requires spine { IsNumbered types.now spine }
+    requires arg { IsNumberOf types.now number arg.ty }
+    ensures is { IfOk result (AtTerm (spine_found spine.entry) arg.entry.ty) }
+    ensures numbered { IfOk result (λ r. IfSome r (λ p. IsNumbered types.now p)) }
 {
     if is_function(spine.body.ty.ty()) {
-        return take(alloc, spine, arg);
+        return take(alloc, types, spine, arg, number);
     }
     let fun = finished(alloc, spine)?;
     Ok(started_again(alloc, apply(alloc, fun, arg)?))

@@ -1,5 +1,5 @@
 //! The walk over a term.
-ghost use Rattle.std.specs.Prelude.{◌≡◌, reverse, IfOk, IsTrue, ◌↔◌, MatchOption};
+ghost use Rattle.std.specs.Prelude.{◌≡◌, reverse, IfOk, IfSome, IsTrue, ◌↔◌, MatchOption};
 ghost use Rattle.chw_terms.specs.TermTree.{TermTree, app, lam, ty_lam, letrec, vec_lit, case_of};
 ghost use Rattle.chw_terms.specs.TermView.{tree_of, applied_to, applied, terms_of, group_of, alts_of};
 ghost use Rattle.chw_typing.specs.Alternatives.{NoneHidden};
@@ -10,12 +10,13 @@ ghost use Rattle.term_types.specs.Answers.{IsAnswer, IsSet, IsTyped};
 ghost use Rattle.term_types.specs.Cases.{Gives, GivesNothing};
 ghost use Rattle.term_types.specs.Groups.{HaveTheirTypes};
 ghost use Rattle.term_types.specs.Signatures.{IsSignature};
-ghost use Rattle.term_types.specs.Spines.{spine_found, IsSpineOf};
+ghost use Rattle.term_types.specs.Spines.{spine_found, IsNumbered, IsSpineOf};
 
 use crate::alternatives::{joined, none_hidden};
 use crate::found::{Found, has_functions, kind_of_terms};
 use crate::groups::group_types;
 use crate::heads::{definition, literal, made_definition, of_constructor, primitive, variable};
+use crate::numbering::{number_of_head, number_of_term};
 use crate::patterns::{bound_types, is_looked_at};
 use crate::seen::{for_all, function, vector};
 use crate::signature::Signature;
@@ -43,10 +44,11 @@ pub(crate) fn infer<'t>(
     let Some(head) = infer_head(alloc, scene, signature, kinds, vars, &term.head)? else {
         return Ok(None);
     };
-    infer_args(alloc, scene, signature, kinds, vars, head, &term.args)
+    let spine = started(alloc, head, number_of_head(signature, &term.head));
+    infer_args(alloc, scene, signature, kinds, vars, spine, &term.args)
 }
 
-// The type of a term of this type at these arguments.
+// The type of a term at these arguments.
 #[cycle(infer)]
 fn infer_args<'t>(
     alloc: Global,
@@ -54,15 +56,17 @@ fn infer_args<'t>(
     signature: &'t Signature,
     kinds: &[Kind],
     vars: &Vars<'_, 't>,
-    head: Found<'t>,
+    head: Spine<'t>,
     args: &'t [Arg],
 ) -> Result<Option<Found<'t>>, NoMemory>
     requires ready { IsSet (setting_in scene.now) (reverse kinds.now) vars.now }
     requires table { IsSignature scene.now.program.now signature.now }
-    ensures { IfOk result (λ r. (e : TermTree) → IsTyped (setting_in scene.now) (reverse kinds.now) vars.now.vars e head.entry
+    requires number { IsNumbered signature.now.numbering.types head }
+    ensures { IfOk result (λ r. (e : TermTree)
+        → IsTyped (setting_in scene.now) (reverse kinds.now) vars.now.vars e (spine_found head.entry)
         → IsAnswer (setting_in scene.now) (reverse kinds.now) vars.now.vars (applied e args.now) r) }
 {
-    let mut spine = started(alloc, head);
+    let mut spine = head;
     for arg in args {
         match infer_applied(alloc, scene, signature, kinds, vars, spine, arg)? {
             Some(next) => spine = next,
@@ -85,9 +89,11 @@ fn infer_applied<'t>(
 ) -> Result<Option<Spine<'t>>, NoMemory>
     requires ready { IsSet (setting_in scene.now) (reverse kinds.now) vars.now }
     requires table { IsSignature scene.now.program.now signature.now }
-    ensures { IfOk result (λ r. (e : TermTree)
+    requires number { IsNumbered signature.now.numbering.types spine }
+    ensures is { IfOk result (λ r. (e : TermTree)
         → IsTyped (setting_in scene.now) (reverse kinds.now) vars.now.vars e (spine_found spine.entry)
         → IsSpineOf (setting_in scene.now) (reverse kinds.now) vars.now.vars (applied_to e arg.now) r) }
+    ensures number { IfOk result (λ r. IfSome r (λ p. IsNumbered signature.now.numbering.types p)) }
 {
     match arg {
         Arg::OfTerm(e) => infer_at_term(alloc, scene, signature, kinds, vars, spine, e),
@@ -108,14 +114,17 @@ fn infer_at_term<'t>(
 ) -> Result<Option<Spine<'t>>, NoMemory>
     requires ready { IsSet (setting_in scene.now) (reverse kinds.now) vars.now }
     requires table { IsSignature scene.now.program.now signature.now }
-    ensures { IfOk result (λ r. (e : TermTree)
+    requires number { IsNumbered signature.now.numbering.types spine }
+    ensures is { IfOk result (λ r. (e : TermTree)
         → IsTyped (setting_in scene.now) (reverse kinds.now) vars.now.vars e (spine_found spine.entry)
         → IsSpineOf (setting_in scene.now) (reverse kinds.now) vars.now.vars (app e term.now) r) }
+    ensures number { IfOk result (λ r. IfSome r (λ p. IsNumbered signature.now.numbering.types p)) }
 {
     let Some(found) = infer(alloc, scene, signature, kinds, vars, term)? else {
         return Ok(None);
     };
-    at_term(alloc, spine, found)
+    let number = number_of_term(signature, term);
+    at_term(alloc, &signature.numbering.types, spine, found, number)
 }
 
 // The type of a head.

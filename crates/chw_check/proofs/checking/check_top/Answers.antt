@@ -1,11 +1,10 @@
 use Rattle.std.proofs.Common.{sym, subst}
-use Rattle.chw_check.proofs.DataOrder.{has_order}
 use Rattle.chw_check.proofs.TopsTold.{top_led, top_told}
 use Rattle.chw_check.proofs.checking.check_top.Goals as goal
 use Rattle.chw_types.specs.References.{HasNoCycle}
 
 pub leads_to_port-requires : goal.leads_to_port-requires
-leads_to_port-requires c = subst HasNoCycle (sym c.as_slice-datas.ensures) (has_order c.args.program.now.datas c.requires.tidy.data_acyclic)
+leads_to_port-requires c = subst HasNoCycle (sym c.as_slice-datas.ensures) ((c.data_types_in_order.ensures c.args.program.now.datas).0 c.requires.tidy.data_acyclic)
 
 pub returns-then-branch-clause-ok : goal.returns-then-branch-clause-ok
 returns-then-branch-clause-ok c =

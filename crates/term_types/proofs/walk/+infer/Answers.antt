@@ -1,5 +1,5 @@
 use Rattle.std.proofs.Common.{◌≡◌, ◌↔◌, IsTrue, ◌+◌, ◌∷◌, ◌++◌, [], length, take, refl, sym, ap, ◌∙◌, subst, arith}
-use Rattle.std.specs.Prelude.{IfOk, MatchOption, reverse}
+use Rattle.std.specs.Prelude.{Option, None, IfOk, IfSome, MatchOption, reverse}
 use Rattle.std.proofs.lemmas.Bool.{false≢true}
 use Rattle.chw_types.specs.SameTypes.{SameTypes}
 use Rattle.chw_types.specs.TypeTree.{TypeTree}
@@ -17,10 +17,11 @@ use Rattle.term_types.specs.Answers.{HasNoType, IsTyped, IsAnswer}
 use Rattle.term_types.specs.Binding.{BindsKinded, BindsNothing, is_looked_at}
 use Rattle.term_types.specs.Cases.{Gives, GivesNothing, IsJoined}
 use Rattle.term_types.specs.Groups.{HaveTheirTypes, NotAllOfTerms, IsGroup}
-use Rattle.term_types.specs.Spines.{spine_found, AtTerm, AtType, IsSpineOf}
+use Rattle.term_types.specs.Spines.{spine_found, AtTerm, AtType, IsNumbered, IsSpineOf}
 use Rattle.term_types.specs.VarsView.{bound_types}
 use Rattle.term_types.specs.declared.fields.Bound.{Bound}
 use Rattle.term_types.specs.declared.groups.Group.{Group}
+use Rattle.term_types.specs.declared.spines.Spine.{Spine}
 use Rattle.term_types.proofs.Applied.{applied_none, app_argument_untyped}
 use Rattle.term_types.proofs.Bound.{looked_found, looked_none}
 use Rattle.term_types.proofs.Cased.{case_on, case_looked, case_hidden, case_alt, gives_told, joined_next, joined_none, nothing_joined, together_told}
@@ -28,6 +29,7 @@ use Rattle.term_types.proofs.EachItem.{each_next, each_all, each_at}
 use Rattle.term_types.proofs.HeadsApplied.{spine_next, spine_none, spine_all}
 use Rattle.term_types.proofs.Lambdas.{lam_ready, lam_typed, lam_parameter, lam_body, lam_kinds, ty_lam_typed, ty_lam_body}
 use Rattle.term_types.proofs.Lets.{let_typed, let_group, let_body, let_kind, let_types, vec_element, vec_elements, vec_typed}
+use Rattle.term_types.proofs.Numbered.{numbered_start, unnumbered}
 use Rattle.term_types.proofs.Matched.{of_some, of_none, ok_more, not_true}
 use Rattle.term_types.proofs.Ready.{inner_kinds, ready_more, ready_under}
 use Rattle.term_types.proofs.Scoped.{lam_set, set_under, group_inside, fields_inside}
@@ -56,7 +58,12 @@ infer-infer_args-requires t c =
     let h = tree_of c.term.inside.head in
     let whole : tree_size (applied h c.term.inside.args.items) ≡ tree_size c.args.term.now = ap tree_size c.term.view_is in
     let all : args_size c.deref.result.now ≡ args_size c.term.inside.args.items = ap args_size c.deref.ensures.value in
-    (omega (arith, c.decreases, whole, all, applied_size h c.term.inside.args.items), (c.requires.ready, c.requires.table))
+    let typed = answer_some (setting_in c.args.scene.now) (reverse c.args.kinds.now) c.args.vars.now.vars h c.in_ok-head.field-0 c.in-Some.head c.in-Some.is c.in_ok-head.ensures in
+    let found = c.number_of_head.ensures c.args.scene.now c.requires.table (reverse c.args.kinds.now) c.args.vars.now.vars c.in-Some.head.ty typed.0 in
+    let spine = c.started-spine.result in
+    let started = c.started-spine.ensures in
+    let number = numbered_start c.args.signature.now.numbering.types spine c.in-Some.head c.number_of_head.result started.body started.number found in
+    (omega (arith, c.decreases, whole, all, applied_size h c.term.inside.args.items), (c.requires.ready, (c.requires.table, number)))
 
 pub infer-returns : goal.infer-returns
 infer-returns t c =
@@ -66,26 +73,29 @@ infer-returns t c =
     let h = tree_of c.term.inside.head in
     let typed = answer_some s kinds vars h c.in_ok-head.field-0 c.in-Some.head c.in-Some.is c.in_ok-head.ensures in
     let is = ap (applied h) c.deref.ensures.value ∙ c.term.view_is in
-    ok_more c.infer_args.result (λ r. (e : TermTree) → IsTyped s kinds vars e c.in-Some.head → IsAnswer s kinds vars (applied e c.deref.result.now) r) (IsAnswer s kinds vars c.args.term.now)
-    (λ r g. subst (λ e. IsAnswer s kinds vars e r) is (g h typed)) c.infer_args.ensures
+    let started = subst (IsTyped s kinds vars h) (sym c.started-spine.ensures.is) typed in
+    ok_more c.infer_args.result (λ r. (e : TermTree) → IsTyped s kinds vars e (spine_found c.started-spine.result) → IsAnswer s kinds vars (applied e c.deref.result.now) r) (IsAnswer s kinds vars c.args.term.now)
+    (λ r g. subst (λ e. IsAnswer s kinds vars e r) is (g h started)) c.infer_args.ensures
 
 pub infer_args-infer_applied-requires : goal.infer_args-infer_applied-requires
 infer_args-infer_applied-requires t c =
-    (omega (arith, c.decreases, arg_smaller c.args.args.now c.loop-arg.arg-index c.arg-item.result _ c.loop-arg-test.true c.arg-item.is), (c.requires.ready, c.requires.table))
+    (omega (arith, c.decreases, arg_smaller c.args.args.now c.loop-arg.arg-index c.arg-item.result _ c.loop-arg-test.true c.arg-item.is), (c.requires.ready, (c.requires.table, c.loop-arg.invariant.1)))
 
 pub infer_args-loop-arg-init : goal.infer_args-loop-arg-init
-infer_args-loop-arg-init t c e d = d
+infer_args-loop-arg-init t c = (λ e d. d, c.requires.number)
 
 pub infer_args-loop-arg-preserved : goal.infer_args-loop-arg-preserved
-infer_args-loop-arg-preserved t c e d =
+infer_args-loop-arg-preserved t c =
     let s = setting_in c.args.scene.now in
     let kinds = reverse c.args.kinds.now in
     let vars = c.args.vars.now.vars in
     let items = c.args.args.now in
-    let so_far = applied e (take c.loop-arg.arg-index items) in
-    let next = c.in_ok-next.ensures so_far (c.loop-arg.invariant e d) in
-    spine_next e items c.loop-arg.arg-index c.arg-item.result _ (spine_found c.in-Some.next) c.loop-arg-test.true c.arg-item.is
-    (subst (IsSpineOf s kinds vars (applied_to so_far c.arg-item.result)) c.in-Some.is next)
+    let ts = c.args.signature.now.numbering.types in
+    let so_far = λ (e : TermTree). applied e (take c.loop-arg.arg-index items) in (
+      λ e d. spine_next e items c.loop-arg.arg-index c.arg-item.result _ (spine_found c.in-Some.next) c.loop-arg-test.true c.arg-item.is
+          (subst (IsSpineOf s kinds vars (applied_to (so_far e) c.arg-item.result)) c.in-Some.is (c.in_ok-next.ensures.is (so_far e) (c.loop-arg.invariant.0 e d))),
+      subst (λ (r : Option Spine). IfSome r (λ p. IsNumbered ts p)) c.in-Some.is c.in_ok-next.ensures.number,
+    )
 
 pub infer_args-returns-in-None : goal.infer_args-returns-in-None
 infer_args-returns-in-None t c e d =
@@ -94,8 +104,7 @@ infer_args-returns-in-None t c e d =
     let vars = c.args.vars.now.vars in
     let items = c.args.args.now in
     let so_far = applied e (take c.loop-arg.arg-index items) in
-    let started = subst (IsTyped s kinds vars e) (sym c.started-spine.ensures) d in
-    let none = subst (IsSpineOf s kinds vars (applied_to so_far c.arg-item.result)) c.in-None.is (c.in_ok-next.ensures so_far (c.loop-arg.invariant e started)) in
+    let none = subst (IsSpineOf s kinds vars (applied_to so_far c.arg-item.result)) c.in-None.is (c.in_ok-next.ensures.is so_far (c.loop-arg.invariant.0 e d)) in
     spine_none e items c.loop-arg.arg-index c.arg-item.result _ c.loop-arg-test.true c.arg-item.is none
 
 pub infer_args-returns : goal.infer_args-returns
@@ -103,25 +112,24 @@ infer_args-returns t c e d =
     let s = setting_in c.args.scene.now in
     let kinds = reverse c.args.kinds.now in
     let vars = c.args.vars.now.vars in
-    let started = subst (IsTyped s kinds vars e) (sym c.started-spine.ensures) d in
     subst (IsTyped s kinds vars (applied e c.args.args.now)) (sym c.in_ok-finished.ensures)
-    (spine_all e c.args.args.now c.loop-arg.arg-index (spine_found c.loop-arg.spine) (omega (arith, c.loop-arg-test.false)) (c.loop-arg.invariant e started))
+    (spine_all e c.args.args.now c.loop-arg.arg-index (spine_found c.loop-arg.spine) (omega (arith, c.loop-arg-test.false)) (c.loop-arg.invariant.0 e d))
 
 -- an argument
 pub infer_applied-infer_at_term-requires : goal.infer_applied-infer_at_term-requires
 infer_applied-infer_at_term-requires t c =
     let size : args_size (c.args.arg.now ∷ []) ≡ tree_size c.in-OfTerm.e + 2 = ap (λ a. args_size (a ∷ [])) c.in-OfTerm.is ∙ omega arith in
-    (omega (arith, c.decreases, size), (c.requires.ready, c.requires.table))
+    (omega (arith, c.decreases, size), (c.requires.ready, (c.requires.table, c.requires.number)))
 
-pub infer_applied-returns-in-OfTerm : goal.infer_applied-returns-in-OfTerm
-infer_applied-returns-in-OfTerm t c =
+pub infer_applied-returns-in-OfTerm-clause-is : goal.infer_applied-returns-in-OfTerm-clause-is
+infer_applied-returns-in-OfTerm-clause-is t c =
     let s = setting_in c.args.scene.now in
     let kinds = reverse c.args.kinds.now in
     let vars = c.args.vars.now.vars in
-    subst (λ a. IfOk c.infer_at_term.result (λ r. (e : TermTree) → IsTyped s kinds vars e (spine_found c.args.spine) → IsSpineOf s kinds vars (applied_to e a) r)) (sym c.in-OfTerm.is) c.infer_at_term.ensures
+    subst (λ a. IfOk c.infer_at_term.result (λ r. (e : TermTree) → IsTyped s kinds vars e (spine_found c.args.spine) → IsSpineOf s kinds vars (applied_to e a) r)) (sym c.in-OfTerm.is) c.infer_at_term.ensures.is
 
-pub infer_applied-returns-in-OfType : goal.infer_applied-returns-in-OfType
-infer_applied-returns-in-OfType t c =
+pub infer_applied-returns-in-OfType-clause-is : goal.infer_applied-returns-in-OfType-clause-is
+infer_applied-returns-in-OfType-clause-is t c =
     let s = setting_in c.args.scene.now in
     let kinds = reverse c.args.kinds.now in
     let vars = c.args.vars.now.vars in
@@ -129,19 +137,33 @@ infer_applied-returns-in-OfType t c =
     let t = c.in-OfType.t in
     subst (λ a. IfOk c.at_type.result (λ r. (e : TermTree) → IsTyped s kinds vars e fun → IsSpineOf s kinds vars (applied_to e a) r)) (sym c.in-OfType.is)
     (ok_more c.at_type.result (AtType s kinds fun t) (λ r. (e : TermTree) → IsTyped s kinds vars e fun → IsSpineOf s kinds vars (ty_app e t) r)
-    (λ r at e d. ty_app_told s kinds vars e t fun r c.requires.ready.0 at d) c.at_type.ensures)
+    (λ r at e d. ty_app_told s kinds vars e t fun r c.requires.ready.0 at d) c.at_type.ensures.is)
+
+pub infer_applied-returns-in-OfType-clause-number : goal.infer_applied-returns-in-OfType-clause-number
+infer_applied-returns-in-OfType-clause-number t c =
+    let ts = c.args.signature.now.numbering.types in
+    ok_more c.at_type.result (λ r. IfSome r (λ p. p.number ≡ None)) (λ r. IfSome r (λ p. IsNumbered ts p)) (λ r h. unnumbered ts r h) c.at_type.ensures.number
 
 pub infer_at_term-infer-requires : goal.infer_at_term-infer-requires
 infer_at_term-infer-requires t c = (omega (arith, c.decreases), (c.requires.ready, c.requires.table))
 
-pub infer_at_term-returns-in_default : goal.infer_at_term-returns-in_default
-infer_at_term-returns-in_default t c e d =
+pub infer_at_term-returns-in_default-clause-is : goal.infer_at_term-returns-in_default-clause-is
+infer_at_term-returns-in_default-clause-is t c e d =
     let s = setting_in c.args.scene.now in
     let kinds = reverse c.args.kinds.now in
     app_argument_untyped (answer_none s kinds c.args.vars.now.vars c.args.term.now c.in_ok-found.field-0 c.in_default.not-Some c.in_ok-found.ensures)
 
-pub infer_at_term-returns : goal.infer_at_term-returns
-infer_at_term-returns t c =
+pub infer_at_term-at_term-requires : goal.infer_at_term-at_term-requires
+infer_at_term-at_term-requires t c =
+    let s = setting_in c.args.scene.now in
+    let kinds = reverse c.args.kinds.now in
+    let vars = c.args.vars.now.vars in
+    let found = c.in-Some.found in
+    let typed = answer_some s kinds vars c.args.term.now c.in_ok-found.field-0 found c.in-Some.is c.in_ok-found.ensures in
+    record { spine = c.requires.number; arg = c.number_of_term-number.ensures c.args.scene.now c.requires.table kinds vars found.ty typed.0 }
+
+pub infer_at_term-returns-clause-is : goal.infer_at_term-returns-clause-is
+infer_at_term-returns-clause-is t c =
     let s = setting_in c.args.scene.now in
     let kinds = reverse c.args.kinds.now in
     let vars = c.args.vars.now.vars in
@@ -149,7 +171,7 @@ infer_at_term-returns t c =
     let found = c.in-Some.found in
     let typed = answer_some s kinds vars c.args.term.now c.in_ok-found.field-0 found c.in-Some.is c.in_ok-found.ensures in
     ok_more c.at_term.result (AtTerm fun found.ty) (λ r. (e : TermTree) → IsTyped s kinds vars e fun → IsSpineOf s kinds vars (app e c.args.term.now) r)
-    (λ r at e d. app_told s kinds vars e c.args.term.now fun found r c.requires.ready.0 typed at d) c.at_term.ensures
+    (λ r at e d. app_told s kinds vars e c.args.term.now fun found r c.requires.ready.0 typed at d) c.at_term.ensures.is
 
 -- the forms of heads
 pub infer_head-returns-in-Var : goal.infer_head-returns-in-Var

@@ -8,14 +8,15 @@ use Rattle.term_types.specs.Answers.{IsTyped}
 use Rattle.term_types.specs.Cases.{GiveTogether}
 use Rattle.term_types.specs.Each.{Each}
 use Rattle.term_types.specs.Groups.{HaveTheirTypes}
-use Rattle.term_types.specs.Spines.{spine_found}
+use Rattle.term_types.specs.Spines.{spine_found, IsNumbered}
 use Rattle.chw_typing.specs.Scopes.{setting_in}
 use Rattle.term_types.proofs.walk.+infer.Given as goal
 
--- what has the type of the head has this one at the arguments so far
+-- what has the type of the head has this one at the arguments so far, and its number is the type's
 abbrev pub invariant-infer_args-loop-arg : goal.invariant-infer_args-loop-arg
 invariant-infer_args-loop-arg l =
-    (e : TermTree) → IsTyped (setting_in l.scene) (reverse l.kinds) l.vars.vars e (spine_found l.initial.spine) → IsTyped (setting_in l.scene) (reverse l.kinds) l.vars.vars (applied e (take l.arg-index l.args)) (spine_found l.spine)
+    ((e : TermTree) → IsTyped (setting_in l.scene) (reverse l.kinds) l.vars.vars e (spine_found l.initial.spine) → IsTyped (setting_in l.scene) (reverse l.kinds) l.vars.vars (applied e (take l.arg-index l.args)) (spine_found l.spine))
+    × IsNumbered l.signature.numbering.types l.spine
 
 abbrev pub invariant-have_their_types-loop-b : goal.invariant-have_their_types-loop-b
 invariant-have_their_types-loop-b l = HaveTheirTypes (setting_in l.scene) (reverse l.kinds) l.vars.vars (take l.b-index l.bindings)

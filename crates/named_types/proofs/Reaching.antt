@@ -2,7 +2,7 @@
 use Rattle.std.proofs.Common.{◌≡◌, ℕ, suc, zero, ◌<◌, Bool, true, false, ◌||◌, ◌&&◌, ◌⊎◌, inl, inr, subst, arith}
 use Rattle.std.proofs.lemmas.Bool.{and_from, and_parts, false_from_ne_true, or_cases, or_left, or_right}
 use Rattle.graph_order.specs.References.{Leads, step, step_and, HasNoCycle}
-use Rattle.chw_check.proofs.TestCounts.{count_below, count_misses, count_exceeds, below_or_last}
+use Rattle.named_types.proofs.TestCounts.{count_below, count_misses, count_exceeds, below_or_last}
 
 leads_on : {Step : ℕ → ℕ → Type 0} {a b c : ℕ} → Leads Step a b → Leads Step b c → Leads Step a c
 leads_on (step s) more = step_and s more

@@ -1,5 +1,5 @@
 -- The data types of a program stand in an order in which each refers only to earlier ones.
-use Rattle.std.proofs.Common.{◌≡◌, ℕ, suc, zero, Bool, true, false, ◌||◌, ◌==◌, ◌⊎◌, inl, inr, refl, ap, ◌∙◌, List, [], ◌∷◌, ◌++◌, length, Option, Some, None, eq-eqb}
+use Rattle.std.proofs.Common.{◌≡◌, ℕ, suc, zero, Bool, true, false, ◌||◌, ◌==◌, ◌⊎◌, inl, inr, refl, ap, ◌∙◌, List, [], ◌∷◌, ◌++◌, length, Option, Some, None, eq-eqb, ◌<◌, subst, arith}
 use Rattle.std.specs.List.{slice_get}
 use Rattle.chw_types.specs.declared.declarations.ConDecl.{ConDecl}
 use Rattle.chw_types.specs.declared.declarations.Data.{Data}
@@ -7,14 +7,19 @@ use Rattle.chw_types.specs.TypeTree.{TypeTree, ty_var, nat_lit, nat_sum, nat_pro
 use Rattle.chw_types.specs.Arguments.{all_fields}
 use Rattle.chw_types.specs.References.{Mentions, MentionsAny, MentionedIn, Refers, HasNoCycle as HasOrder}
 use Rattle.chw_terms.specs.References.{names_data, any_names_data, DataRefers}
-use Rattle.graph_order.specs.References.{HasNoCycle}
-use Rattle.std.proofs.lemmas.Bool.{or_cases, or_left, or_right}
-use Rattle.chw_check.proofs.Reaching.{place_of, place_within, place_earlier}
+use Rattle.graph_order.specs.References.{Leads, step, step_and, HasNoCycle}
+use Rattle.std.proofs.lemmas.Bool.{eqb-true, or_cases, or_left, or_right}
+use Rattle.std.proofs.lemmas.Option.{slice_get_within}
+use Rattle.named_types.proofs.Reaching.{place_of, place_within, place_earlier}
 
 -- either of two is named
 either : {A B : Type 0} (a b : Bool) → (A → a ≡ true) → (B → b ≡ true) → A ⊎ B → (a || b) ≡ true
 either a b f g (inl x) = or_left a b (f x)
 either a b f g (inr y) = or_right a b (g y)
+
+-- one of two is mentioned
+one_mentioned : {A B : Type 0} (a b : Bool) → (a ≡ true → A) → (b ≡ true → B) → (a || b) ≡ true → A ⊎ B
+one_mentioned a b f g h = elim (or_cases a b h) [ inl x ↦ inl (f x) | inr y ↦ inr (g y) ]
 
 mutual
   mentioned_named : (t : TypeTree) (e : ℕ) → Mentions t e → names_data t e ≡ true
@@ -118,3 +123,60 @@ module _ (datas : List Data) where
     within = place_within goes (DataRefers datas) to_step none (length datas);
     earlier = λ a b l r. place_earlier goes (DataRefers datas) to_step none (length datas) a b l (from_step a b r);
   }
+
+mutual
+  named_mentioned : (t : TypeTree) (e : ℕ) → names_data t e ≡ true → Mentions t e
+  named_mentioned (ty_var x) e h = absurd (cc)
+  named_mentioned (nat_lit n) e h = absurd (cc)
+  named_mentioned (nat_sum a b) e h = one_mentioned (names_data a e) (names_data b e) (named_mentioned a e) (named_mentioned b e) h
+  named_mentioned (nat_product a b) e h = one_mentioned (names_data a e) (names_data b e) (named_mentioned a e) (named_mentioned b e) h
+  named_mentioned (domain d) e h = absurd (cc)
+  named_mentioned (scalar s w) e h = named_mentioned w e h
+  named_mentioned (vector n t) e h = one_mentioned (names_data n e) (names_data t e) (named_mentioned n e) (named_mentioned t e) h
+  named_mentioned (data_of d ts) e h = one_mentioned (d == e) (any_names_data ts e) (eqb-true d e) (any_named_mentioned ts e) h
+  named_mentioned (fun a b) e h = one_mentioned (names_data a e) (names_data b e) (named_mentioned a e) (named_mentioned b e) h
+  named_mentioned (signal d t) e h = one_mentioned (names_data d e) (names_data t e) (named_mentioned d e) (named_mentioned t e) h
+  named_mentioned (for_all k t) e h = named_mentioned t e h
+
+  any_named_mentioned : (ts : TypeTrees) (e : ℕ) → any_names_data ts e ≡ true → MentionsAny ts e
+  any_named_mentioned no_types e h = absurd (cc)
+  any_named_mentioned (type_and t ts) e h = one_mentioned (names_data t e) (any_names_data ts e) (named_mentioned t e) (any_named_mentioned ts e) h
+
+mentioned_before : (ts us : List TypeTree) (e : ℕ) → MentionedIn ts e → MentionedIn (ts ++ us) e
+mentioned_before [] us e m = absurd m
+mentioned_before (t ∷ ts) us e (inl m) = inl m
+mentioned_before (t ∷ ts) us e (inr m) = inr (mentioned_before ts us e m)
+
+mentioned_behind : (ts us : List TypeTree) (e : ℕ) → MentionedIn us e → MentionedIn (ts ++ us) e
+mentioned_behind [] us e m = m
+mentioned_behind (t ∷ ts) us e m = inr (mentioned_behind ts us e m)
+
+mentioned_at : (ts : List TypeTree) (i : ℕ) (t : TypeTree) (e : ℕ) → slice_get ts i ≡ Some t → Mentions t e → MentionedIn ts e
+mentioned_at [] i t e h m = absurd (cc)
+mentioned_at (u ∷ ts) zero t e h m = let same : t ≡ u = cc in inl (subst (λ v. Mentions v e) same m)
+mentioned_at (u ∷ ts) (suc i) t e h m = inr (mentioned_at ts i t e h m)
+
+mentioned_in_con : (cs : List ConDecl) (i : ℕ) (c : ConDecl) (e : ℕ) → slice_get cs i ≡ Some c → MentionedIn c.fields e → MentionedIn (all_fields cs) e
+mentioned_in_con [] i c e h m = absurd (cc)
+mentioned_in_con (x ∷ cs) zero c e h m = let same : c ≡ x = cc in mentioned_before x.fields (all_fields cs) e (subst (λ (y : ConDecl). MentionedIn y.fields e) same m)
+mentioned_in_con (x ∷ cs) (suc i) c e h m = mentioned_behind x.fields (all_fields cs) e (mentioned_in_con cs i c e h m)
+
+refers_by_fields : (datas : List Data) (a b : ℕ) → DataRefers datas a b → Refers datas a b
+refers_by_fields datas a b r =
+    let field = r.3 in
+    (r.0, r.2, mentioned_in_con r.0.cons field.con field.of b field.is_con (mentioned_at field.of.fields field.at r.1 b field.is_field (named_mentioned r.1 b r.4)))
+
+module _ (datas : List Data) (order : HasOrder datas) where
+  -- what steps lead from is a data type
+  begins : {a b : ℕ} → Leads (DataRefers datas) a b → a < length datas
+  begins {a} (step r) = slice_get_within datas a r.0 r.2
+  begins {a} (step_and r more) = slice_get_within datas a r.0 r.2
+
+  places_fall : {a b : ℕ} → Leads (DataRefers datas) a b → b < length datas → order.place b < order.place a
+  places_fall {a} {b} (step r) l = order.earlier a b l (refers_by_fields datas a b r)
+  places_fall {a} (step_and {b = b} r more) l =
+      let first = order.earlier a b (begins more) (refers_by_fields datas a b r) in omega (arith, places_fall more l)
+
+  -- and data types that have such an order have no cycles of references
+  pub has_no_cycle : HasNoCycle (DataRefers datas)
+  has_no_cycle a l = absurd (let less = places_fall l (begins l) in omega arith)

@@ -1,0 +1,5 @@
+pub mod Exchanged
+pub mod Free
+pub mod Occurrences
+pub mod Parts
+pub mod Shown

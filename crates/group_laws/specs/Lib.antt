@@ -1,0 +1,3 @@
+pub mod Examples
+pub mod Groups
+pub mod Laws

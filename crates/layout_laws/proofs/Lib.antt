@@ -1,0 +1,5 @@
+pub mod FieldsPut
+pub mod LeavesAgree
+pub mod Numbering
+pub mod SameLayout
+pub mod ZeroThere

@@ -1,0 +1,4 @@
+pub mod LeavesAgree
+pub mod Numbering
+pub mod SameLayout
+pub mod ZeroThere

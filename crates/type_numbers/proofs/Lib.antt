@@ -1,0 +1,4 @@
+mod Equal
+mod Forms
+mod Lists
+mod Nodes
