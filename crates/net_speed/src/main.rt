@@ -1,8 +1,8 @@
 //! Makes a large net, goes with it as far as a word says, and writes how many items were made last. It is there to be timed: bench/flat.sh
-//! does.
+//! and bench/read.sh do.
 //!
-//! Its words are a form of net, `chain` or `tower`, how many wires it has, and how far to go: `made`, `judged`, `flat`, `ordered` or
-//! `printed`.
+//! Its words are a form of net, `chain`, `tower` or `ports`, how many wires it has, and how far to go: `made`, `judged`, `flat`, `ordered`,
+//! `printed` or `read`, which reads the printed text. After `text` it writes the printed text itself.
 #![tactic(auto)]
 
 ghost use Rattle.net_rules.specs.WellFormed.{WellFormed};
@@ -14,12 +14,14 @@ use net_flat::flatten::flatten;
 use net_rules::well_formed::well_formed;
 use netlist::Net;
 use netlist::ordering::order;
-use nets::{chain, tower};
+use nets::{chain, ports, tower};
 use std::alloc::Global;
 use std::env;
+use std::io::Print;
 use std::process::ExitCode;
 use std::rt::Env;
 use verilog_print::print;
+use verilog_read::read;
 
 /// Of a tower, how many modules it has.
 const STOREYS: u32 = 1_000;
@@ -32,6 +34,14 @@ enum Stage {
     Flat,
     Ordered,
     Printed,
+    Read,
+    Text,
+}
+
+/// What is written: how many items were made last, or a text.
+enum Made {
+    Count(usize),
+    Text(Vec<u8>),
 }
 
 /// Why nothing was made.
@@ -51,7 +61,11 @@ impl From<NoMemory> for Trouble {
 
 fn main(rt: HostRuntime) -> ExitCode {
     let status = match made(&rt) {
-        Ok(count) => match println!(rt; "{count}") {
+        Ok(Made::Count(count)) => match println!(rt; "{count}") {
+            Ok(()) => return ExitCode::SUCCESS,
+            Err(_) => 4,
+        },
+        Ok(Made::Text(text)) => match rt.write_all(text.as_slice()) {
             Ok(()) => return ExitCode::SUCCESS,
             Err(_) => 4,
         },
@@ -63,7 +77,7 @@ fn main(rt: HostRuntime) -> ExitCode {
 }
 
 // Reads the words and goes as far as they say.
-fn made<R: Env + AllocGlobal>(rt: &R) -> Result<usize, Trouble> {
+fn made<R: Env + AllocGlobal>(rt: &R) -> Result<Made, Trouble> {
     let Ok(words) = env::args(rt) else {
         return Err(Trouble::Memory);
     };
@@ -80,9 +94,13 @@ fn made<R: Env + AllocGlobal>(rt: &R) -> Result<usize, Trouble> {
     let net = match form.as_str() {
         "chain" => chain(rt.alloc(), wires)?,
         "tower" => tower(rt.alloc(), STOREYS, wires / STOREYS)?,
+        "ports" => ports(rt.alloc(), wires)?,
         _ => return Err(Trouble::Words),
     };
-    go(rt.alloc(), &net, stage)
+    if let Stage::Text = stage {
+        return Ok(Made::Text(print(rt.alloc(), &net)?));
+    }
+    Ok(Made::Count(go(rt.alloc(), &net, stage)?))
 }
 
 fn stage_of(word: &str) -> Option<Stage> {
@@ -92,6 +110,8 @@ fn stage_of(word: &str) -> Option<Stage> {
         "flat" => Some(Stage::Flat),
         "ordered" => Some(Stage::Ordered),
         "printed" => Some(Stage::Printed),
+        "read" => Some(Stage::Read),
+        "text" => Some(Stage::Text),
         _ => None,
     }
 }
@@ -120,7 +140,18 @@ fn further(alloc: Global, net: &Net, stage: Stage) -> Result<usize, Trouble>
             Err(Or::Fault(_)) => Err(Trouble::Net),
         },
         Stage::Ordered => cells_ordered(alloc, net),
-        Stage::Printed => Ok(print(alloc, net)?.len()),
+        Stage::Printed | Stage::Text => Ok(print(alloc, net)?.len()),
+        Stage::Read => modules_read(alloc, net),
+    }
+}
+
+// How many modules the net has that is read from the printed text.
+fn modules_read(alloc: Global, net: &Net) -> Result<usize, Trouble> {
+    let text = print(alloc, net)?;
+    match read(alloc, &text) {
+        Ok(net) => Ok(net.modules.len()),
+        Err(Or::Memory) => Err(Trouble::Memory),
+        Err(Or::Fault(_)) => Err(Trouble::Net),
     }
 }
 

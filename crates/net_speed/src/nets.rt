@@ -1,10 +1,12 @@
-//! Large nets: a chain of wires in one module, and modules in one another.
+//! Large nets: a chain of wires in one module, modules in one another, and a module of many ports.
 
 ghost use Rattle.std.specs.Prelude.{◌<◌};
 
-use chw_base::{ModId, NoMemory, Seq, WireId};
+use chw_base::{DomId, ModId, Name, NoMemory, Seq, WireId};
+use chw_clock::Port;
 use netlist::samples::one_input;
 use netlist::{Cell, Module, Net};
+use itoa::Buffer;
 use std::alloc::Global;
 
 // The cell of a chain that drives this wire: it copies the next one, and the last copies the input.
@@ -78,5 +80,60 @@ pub(crate) fn tower(alloc: Global, modules: u32, wires: u32) -> Result<Net, NoMe
     Ok(Net {
         ports,
         modules: Seq::from(storeys),
+    })
+}
+
+// A module of so many inputs of 8 bits, whose output is another wire, which the cell drives.
+fn wide(alloc: Global, inputs: u32, cell: Cell) -> Result<Module, NoMemory> {
+    let wires = inputs.checked_add(1).ok_or(NoMemory)?;
+    let outputs = vec![in alloc; WireId { number: inputs }]?;
+    Ok(Module {
+        inputs,
+        widths: Seq::from(vec![in alloc; 8; wires as usize]?),
+        outputs: Seq::from(outputs),
+        cells: Seq::from(vec![in alloc; cell]?),
+    })
+}
+
+// So many wires, in order.
+fn first_wires(alloc: Global, count: u32) -> Result<Vec<WireId>, NoMemory> {
+    let mut wires = Vec::new(alloc);
+    for number in 0..count {
+        wires.push(WireId { number })?;
+    }
+    Ok(wires)
+}
+
+// So many inputs of the first domain, with the names a0, a1 and so on.
+fn many_inputs(alloc: Global, count: u32) -> Result<Vec<Port>, NoMemory> {
+    let mut inputs = Vec::new(alloc);
+    let mut digits = Buffer::new();
+    for number in 0..count {
+        let mut name = vec![in alloc; b'a']?;
+        name.extend_from_slice(digits.format(number).as_bytes())?;
+        inputs.push(Port {
+            name: Name::from(name),
+            dom: DomId { number: 0 },
+            width: 8,
+        })?;
+    }
+    Ok(inputs)
+}
+
+/// A net of two modules of so many inputs, of which the top uses the other.
+pub(crate) fn ports(alloc: Global, inputs: u32) -> Result<Net, NoMemory> {
+    let last = WireId { number: inputs };
+    let reads = Seq::from(first_wires(alloc, inputs)?);
+    let drives = Seq::from(vec![in alloc; last]?);
+    let inner = wide(alloc, inputs, Cell::Copy(last, WireId { number: 0 }))?;
+    let top = wide(alloc, inputs, Cell::Use(ModId { number: 0 }, reads, drives))?;
+    let mut modules = vec![in alloc; inner]?;
+    modules.push(top)?;
+    let mut ports = one_input(alloc)?;
+    ports.outputs = one_input(alloc)?.inputs;
+    ports.inputs = Seq::from(many_inputs(alloc, inputs)?);
+    Ok(Net {
+        ports,
+        modules: Seq::from(modules),
     })
 }
