@@ -1,0 +1,10 @@
+pub mod Comments
+pub mod Decided
+pub mod Longest
+pub mod Names
+pub mod Numbers
+pub mod Runs
+pub mod Signs
+pub mod Splits
+pub mod Tokens
+pub mod Whole
