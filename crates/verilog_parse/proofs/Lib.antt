@@ -1,0 +1,15 @@
+pub mod Chosen
+pub mod Fitting
+pub mod Forms
+pub mod Going
+pub mod ItemsRead
+pub mod Marked
+pub mod Operators
+pub mod Readings
+pub mod Spread
+pub mod Steps
+pub mod Tables
+pub mod Taken
+pub mod TextsRead
+pub mod WordsFound
+pub mod Wrong
