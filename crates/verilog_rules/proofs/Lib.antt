@@ -25,3 +25,4 @@ pub mod Wells
 pub mod ModulesWell
 pub mod TextWell
 pub mod WholeText
+pub mod WasModules
