@@ -26,3 +26,4 @@ pub mod ModulesWell
 pub mod TextWell
 pub mod WholeText
 pub mod WasModules
+pub mod WasChecked

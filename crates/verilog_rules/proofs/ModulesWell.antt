@@ -89,7 +89,7 @@ shown_wide domains earlier m (driver.Output j at a ∷ ds) k all is = by_case (e
     by_case true same so later = subst (λ (n : ℕ). HasWidth (wire_widths m) a.wire (slice_index (widths_of m.outputs) n)) (eqb-true j k same) all.0
     by_case false other so later = later so
 
-width_at : (ls : List Line) (k : ℕ) (l : Line) → slice_get ls k ≡ Some l → slice_index (widths_of ls) k ≡ width l.range
+pub width_at : (ls : List Line) (k : ℕ) (l : Line) → slice_get ls k ≡ Some l → slice_index (widths_of ls) k ≡ width l.range
 width_at [] k l found = absurd (cc)
 width_at (n ∷ ls) zero l found = ap (λ (x : Line). width x.range) (same_Some n l found)
 width_at (n ∷ ls) (suc k) l found = width_at ls k l found

@@ -111,10 +111,10 @@ narrow_at (w ∷ widths) (suc n) all = narrow_at widths n all.1
 size_limit : (n : ℕ) (literal : Word) → n ≤ WIRE_BITS → size literal ≡ n → (literal_limit literal).holds ≡ true
 size_limit n literal narrow is = le-leb (size literal) WIRE_BITS (rw is narrow)
 
-word_limited : (n : ℕ) (literal : Word) → n ≤ WIRE_BITS → is_word_of n literal ≡ true → (literal_limit literal).holds ≡ true
+pub word_limited : (n : ℕ) (literal : Word) → n ≤ WIRE_BITS → is_word_of n literal ≡ true → (literal_limit literal).holds ≡ true
 word_limited n literal narrow is = size_limit n literal narrow (word_parts n literal is).0
 
-literal_limited : (n k : ℕ) (literal : Word) → n ≤ WIRE_BITS → is_literal_of n k literal ≡ true → (literal_limit literal).holds ≡ true
+pub literal_limited : (n k : ℕ) (literal : Word) → n ≤ WIRE_BITS → is_literal_of n k literal ≡ true → (literal_limit literal).holds ≡ true
 literal_limited n k literal narrow is = size_limit n literal narrow (literal_parts n k literal is).0
 
 right_limited : (widths : List ℕ) (n : ℕ) (ws : List Wire) (r : Right) → n ≤ WIRE_BITS → AllTrue (value_checks widths n (value_of ws r)) → AllTrue (right_limits r)
