@@ -27,3 +27,4 @@ pub mod TextWell
 pub mod WholeText
 pub mod WasModules
 pub mod WasChecked
+pub mod WasModule

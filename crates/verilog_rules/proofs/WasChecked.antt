@@ -68,16 +68,16 @@ use Rattle.verilog_rules.proofs.WasModules.{ItemsWere, Narrow, driver_limited, i
 use Rattle.verilog_rules.proofs.Wires.{HasFewPlaces}
 
 -- what is known of each wire
-record WireFacts (w : Wire) : Type 0 where
+pub record WireFacts (w : Wire) : Type 0 where
   pub checks : AllTrue (wire_checks w)
   pub narrow : width w.line.range ≤ WIRE_BITS
   pub few : HasFewPlaces w.kind
 
-all_from : {A : Type 0} (P : A → Type 0) (xs : List A) → ((k : ℕ) (x : A) → slice_get xs k ≡ Some x → P x) → AllByRecursion P xs
+pub all_from : {A : Type 0} (P : A → Type 0) (xs : List A) → ((k : ℕ) (x : A) → slice_get xs k ≡ Some x → P x) → AllByRecursion P xs
 all_from P [] all = tt
 all_from P (x ∷ xs) all = (all 0 x refl, all_from P xs (λ k y found. all (suc k) y found))
 
-parts_agree : (earlier : List NetModule) (widths : List ℕ) (parts : List Part) → AllByRecursion (WidthsAgree earlier widths) (cells_of parts) → AllByRecursion HasFewWords (cells_of parts)
+pub parts_agree : (earlier : List NetModule) (widths : List ℕ) (parts : List Part) → AllByRecursion (WidthsAgree earlier widths) (cells_of parts) → AllByRecursion HasFewWords (cells_of parts)
     → AllByRecursion (PartAgrees earlier widths) parts
 parts_agree earlier widths [] agree few = tt
 parts_agree earlier widths (declaration ∷ parts) agree few = (tt, parts_agree earlier widths parts agree few)
@@ -97,7 +97,7 @@ register_limited l literal (Some memory) facts =
     same_below : (a b : ℕ) → a ≡ b → b ≤ WIRE_BITS → a ≤ WIRE_BITS
     same_below a b is below = subst (λ (n : ℕ). n ≤ WIRE_BITS) (sym is) below
 
-items_limited : (ports : Ports) (earl : List Module) (er : List ResolvedModule) (m : ResolvedModule) (ws : List Wire) (items : List Item) → m.wires ≡ ws ++ flat_map wires_by items → Narrow (wire_widths m)
+pub items_limited : (ports : Ports) (earl : List Module) (er : List ResolvedModule) (m : ResolvedModule) (ws : List Wire) (items : List Item) → m.wires ≡ ws ++ flat_map wires_by items → Narrow (wire_widths m)
     → AllByRecursion WireFacts (flat_map wires_by items) → AllTrue (items_checks (place_in ports earl) (output_names m) ws items)
     → AllTrue (flat_map (driver_width_checks er m) (drivers_of (place_in ports earl) (output_names m) ws items)) → AllTrue (flat_map item_limits items)
 items_limited ports earl er m ws [] full narrow facts names widths = tt
@@ -123,22 +123,22 @@ items_limited ports earl er m ws (it ∷ items) full narrow facts names widths =
     of_item (item.Ram ram) facts limited = limited _ refl
     of_item (item.Use u) facts limited = tt
 
-abbrev NarrowLine : Line → Type 0
+abbrev pub NarrowLine : Line → Type 0
 NarrowLine l = width l.range ≤ WIRE_BITS
 
-ports_limited : (ports : List Port) → AllByRecursion NarrowLine (inputs_of ports) → AllByRecursion NarrowLine (outputs_of ports) → AllTrue (flat_map port_limits ports)
+pub ports_limited : (ports : List Port) → AllByRecursion NarrowLine (inputs_of ports) → AllByRecursion NarrowLine (outputs_of ports) → AllTrue (flat_map port_limits ports)
 ports_limited [] ins outs = tt
 ports_limited (Signal s ∷ ports) ins outs = ports_limited ports ins outs
 ports_limited (Input l ∷ ports) ins outs = (le-leb (width l.range) WIRE_BITS ins.0, ports_limited ports ins.1 outs)
 ports_limited (Output l ∷ ports) ins outs = (le-leb (width l.range) WIRE_BITS outs.0, ports_limited ports ins outs.1)
 
-inputs_narrow : (ls : List Line) (ws : List Wire) → AllByRecursion WireFacts (map input_wire ls ++ ws) → AllByRecursion NarrowLine ls
+pub inputs_narrow : (ls : List Line) (ws : List Wire) → AllByRecursion WireFacts (map input_wire ls ++ ws) → AllByRecursion NarrowLine ls
 inputs_narrow [] ws facts = tt
 inputs_narrow (l ∷ ls) ws facts = (facts.0.narrow, inputs_narrow ls ws facts.1)
 
 -- OUTPUTS
 
-shown_narrow : (er : List ResolvedModule) (m : ResolvedModule) (ds : List Driver) (k : ℕ) → Narrow (wire_widths m) → AllTrue (flat_map (driver_width_checks er m) ds) → is_one_of (all_shown ds) k ≡ true
+pub shown_narrow : (er : List ResolvedModule) (m : ResolvedModule) (ds : List Driver) (k : ℕ) → Narrow (wire_widths m) → AllTrue (flat_map (driver_width_checks er m) ds) → is_one_of (all_shown ds) k ≡ true
     → slice_index (widths_of m.outputs) k ≤ WIRE_BITS
 shown_narrow er m [] k narrow all is = absurd (false≢true is)
 shown_narrow er m (driver.Assign w value ∷ ds) k narrow all is =
@@ -161,7 +161,7 @@ shown_narrow er m (driver.Output j at a ∷ ds) k narrow all is =
     by_case false other so later = later so
 
 -- an output that has a wire is among those that are assigned
-some_shown : (ds : List Driver) (k : ℕ) (a : WireId) → flat_map (shown_by k) ds ≡ a ∷ [] → is_one_of (all_shown ds) k ≡ true
+pub some_shown : (ds : List Driver) (k : ℕ) (a : WireId) → flat_map (shown_by k) ds ≡ a ∷ [] → is_one_of (all_shown ds) k ≡ true
 some_shown ds k a is = by_case (is_one_of (all_shown ds) k) refl
   where
     by_case : (b : Bool) → is_one_of (all_shown ds) k ≡ b → b ≡ true
@@ -172,7 +172,7 @@ some_shown ds k a is = by_case (is_one_of (all_shown ds) k) refl
         no_list same = cc
 
 -- outputs that are each assigned at most once are apart
-shown_are_apart : (before : List ℕ) (ds : List Driver) → ((k : ℕ) → length (flat_map (shown_by k) ds) ≤ 1) → ((k : ℕ) → is_one_of before k ≡ true → length (flat_map (shown_by k) ds) ≡ 0)
+pub shown_are_apart : (before : List ℕ) (ds : List Driver) → ((k : ℕ) → length (flat_map (shown_by k) ds) ≤ 1) → ((k : ℕ) → is_one_of before k ≡ true → length (flat_map (shown_by k) ds) ≡ 0)
     → Apart before (all_shown ds)
 shown_are_apart before [] few none = tt
 shown_are_apart before (driver.Assign w value ∷ ds) few none = shown_are_apart before ds few none
@@ -203,11 +203,11 @@ shown_are_apart before (driver.Output j at a ∷ ds) few none =
         by_before true here = zeroth here
         by_before false absent = absurd (false≢true (sym (not_one_of_both before (j ∷ []) k absent (neither (eqb j k) false other refl)) ∙ is))
 
-abbrev Below : ℕ → Driver → Type 0
+abbrev pub Below : ℕ → Driver → Type 0
 Below n (driver.Output j at a) = j < n
 Below n _ = Unit {0}
 
-outputs_below : (place : Place) (m : ResolvedModule) (ws : List Wire) (items : List Item) → AllByRecursion (Below (length m.outputs)) (drivers_of place (output_names m) ws items)
+pub outputs_below : (place : Place) (m : ResolvedModule) (ws : List Wire) (items : List Item) → AllByRecursion (Below (length m.outputs)) (drivers_of place (output_names m) ws items)
 outputs_below place m ws [] = tt
 outputs_below place m ws (it ∷ items) =
     all_both (Below (length m.outputs)) (driver_of place (output_names m) ws it) (drivers_of place (output_names m) (ws ++ wires_by it) items) (of_item it) (outputs_below place m (ws ++ wires_by it) items)
@@ -230,7 +230,7 @@ outputs_below place m ws (it ∷ items) =
     of_item (item.Ram ram) = (tt, tt)
     of_item (item.Use u) = (tt, tt)
 
-none_above : (n : ℕ) (ds : List Driver) (k : ℕ) → AllByRecursion (Below n) ds → n ≤ k → flat_map (shown_by k) ds ≡ []
+pub none_above : (n : ℕ) (ds : List Driver) (k : ℕ) → AllByRecursion (Below n) ds → n ≤ k → flat_map (shown_by k) ds ≡ []
 none_above n [] k all least = refl
 none_above n (driver.Assign w value ∷ ds) k all least = none_above n ds k all.1 least
 none_above n (driver.Register w domain reset a ∷ ds) k all least = none_above n ds k all.1 least
@@ -242,7 +242,7 @@ none_above n (driver.Output j at a ∷ ds) k all least =
     ap (λ (b : Bool). cond b (a.wire ∷ []) [] ++ flat_map (shown_by k) ds) other ∙ none_above n ds k all.1 least
 
 -- wires of outputs are those that are shown
-shown_list : (drivers : List Driver) (from : ℕ) (ls : List Line) (xs : List WireId) → length xs ≡ length ls → ((k : ℕ) (a : WireId) → slice_get xs k ≡ Some a → shown_wire drivers (from + k) ≡ a)
+pub shown_list : (drivers : List Driver) (from : ℕ) (ls : List Line) (xs : List WireId) → length xs ≡ length ls → ((k : ℕ) (a : WireId) → slice_get xs k ≡ Some a → shown_wire drivers (from + k) ≡ a)
     → xs ≡ shown_wires drivers from ls
 shown_list drivers from [] [] count all = refl
 shown_list drivers from [] (x ∷ xs) count all = absurd (suc_not (length xs) count)
@@ -274,7 +274,7 @@ kind_among ws name is = by_case (kind_of ws name) refl is
     by_case None at some = absurd (false≢true some)
     by_case (Some k) at some = let known = known_kind ws name k at in ap is_some known.1
 
-no_output : (mt : Module) (m : ResolvedModule) → m.outputs ≡ outputs_of (ports_in mt) → m.wires ≡ wires_of mt → AreDistinct (names_of (module_of mt)) → NoOutput m m.wires
+pub no_output : (mt : Module) (m : ResolvedModule) → m.outputs ≡ outputs_of (ports_in mt) → m.wires ≡ wires_of mt → AreDistinct (names_of (module_of mt)) → NoOutput m m.wires
 no_output mt m outs wires distinct name is = by_case (place_of (output_names m) name) refl
   where
     by_case : (o : Option ℕ) → place_of (output_names m) name ≡ o → o ≡ None
@@ -294,13 +294,13 @@ no_output mt m outs wires distinct name is = by_case (place_of (output_names m) 
 
 -- WIRES
 
-front_input : (ls : List Line) (ws : List Wire) (k : ℕ) (w : Wire) → k < length ls → slice_get (map input_wire ls ++ ws) k ≡ Some w → w.kind ≡ kind.Input
+pub front_input : (ls : List Line) (ws : List Wire) (k : ℕ) (w : Wire) → k < length ls → slice_get (map input_wire ls ++ ws) k ≡ Some w → w.kind ≡ kind.Input
 front_input [] ws k w below found = absurd (omega arith)
 front_input (l ∷ ls) ws zero w below found = ap (λ (x : Wire). x.kind) (sym (same_Some (input_wire l) w found))
 front_input (l ∷ ls) ws (suc k) w below found = front_input ls ws k w (omega arith) found
 
 -- a driven wire fits
-driven_at : (m : ResolvedModule) (ops : List Operand) (p k : ℕ) → AllByRecursion (DrivenFits m) ops → wire_driven_at (map wire ops) p ≡ Some k → (w : Wire) → slice_get m.wires k ≡ Some w → WireFits w
+pub driven_at : (m : ResolvedModule) (ops : List Operand) (p k : ℕ) → AllByRecursion (DrivenFits m) ops → wire_driven_at (map wire ops) p ≡ Some k → (w : Wire) → slice_get m.wires k ≡ Some w → WireFits w
 driven_at m [] p k all at w found = absurd (cc)
 driven_at m (a ∷ ops) zero k all at w found = all.0 w (subst (λ (n : ℕ). slice_get m.wires n ≡ Some w) (sym (same_Some a.wire.number k at)) found)
 driven_at m (a ∷ ops) (suc p) k all at w found = driven_at m ops p k all.1 at w found
