@@ -28,3 +28,4 @@ pub mod WholeText
 pub mod WasModules
 pub mod WasChecked
 pub mod WasModule
+pub mod SignalsBack

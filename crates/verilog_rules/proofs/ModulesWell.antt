@@ -205,7 +205,7 @@ well_at ports earl er (mt ∷ ms) all fits zero m found =
     (module_well ports earl er mt all.0 (earlier_fit earl er fits)))
 well_at ports earl er (mt ∷ ms) all fits (suc i) m found =
     let new : ModuleFits mt (made ports earl mt) = (module_fits ports earl er mt all.0 (earlier_fit earl er fits)).1 in
-    let later = well_at ports (earl ++ mt ∷ []) (er ++ made ports earl mt ∷ []) ms all.3 (fits_more earl er mt (made ports earl mt) fits new) i m found in
+    let later = well_at ports (earl ++ mt ∷ []) (er ++ made ports earl mt ∷ []) ms all.2 (fits_more earl er mt (made ports earl mt) fits new) i m found in
     let split : map net_module (er ++ made ports earl mt ∷ []) ≡ map net_module er ++ net_module (made ports earl mt) ∷ [] = map-append net_module er (made ports earl mt ∷ []) in
     subst (λ (e : List NetModule). ModuleWell (length ports.domains) e m) (append_assoc (map net_module er) (net_module (made ports earl mt) ∷ []) (take i (net_modules ports (earl ++ mt ∷ []) ms)))
     (subst (λ (e : List NetModule). ModuleWell (length ports.domains) (e ++ take i (net_modules ports (earl ++ mt ∷ []) ms)) m) split later)
@@ -217,7 +217,7 @@ last_checked ports earl er [] last all fits =
     (er, subst (λ (e : List Module). ModuleChecked ports e er last) (sym (append-nil earl)) all.0, subst (λ (e : List Module). Fits e er) (sym (append-nil earl)) fits)
 last_checked ports earl er (mt ∷ ms) last all fits =
     let new : ModuleFits mt (made ports earl mt) = (module_fits ports earl er mt all.0 (earlier_fit earl er fits)).1 in
-    let later = last_checked ports (earl ++ mt ∷ []) (er ++ made ports earl mt ∷ []) ms last all.3 (fits_more earl er mt (made ports earl mt) fits new) in (
+    let later = last_checked ports (earl ++ mt ∷ []) (er ++ made ports earl mt ∷ []) ms last all.2 (fits_more earl er mt (made ports earl mt) fits new) in (
       later.0,
       subst (λ (e : List Module). ModuleChecked ports e later.0 last) (append_assoc earl (mt ∷ []) ms) later.1,
       subst (λ (e : List Module). Fits e later.0) (append_assoc earl (mt ∷ []) ms) later.2,
