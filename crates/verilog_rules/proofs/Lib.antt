@@ -29,3 +29,5 @@ pub mod WasModules
 pub mod WasChecked
 pub mod WasModule
 pub mod SignalsBack
+pub mod TopsBack
+pub mod WasText

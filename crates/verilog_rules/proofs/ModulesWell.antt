@@ -179,13 +179,13 @@ Fits [] [] = Unit {0}
 Fits (mt ∷ earl) (ur ∷ er) = ModuleFits mt ur × Fits earl er
 Fits _ _ = ⊥
 
-fits_more : (earl : List Module) (er : List ResolvedModule) (mt : Module) (ur : ResolvedModule) → Fits earl er → ModuleFits mt ur → Fits (earl ++ mt ∷ []) (er ++ ur ∷ [])
+pub fits_more : (earl : List Module) (er : List ResolvedModule) (mt : Module) (ur : ResolvedModule) → Fits earl er → ModuleFits mt ur → Fits (earl ++ mt ∷ []) (er ++ ur ∷ [])
 fits_more [] [] mt ur fits new = (new, tt)
 fits_more [] (u ∷ er) mt ur fits new = absurd fits
 fits_more (n ∷ earl) [] mt ur fits new = absurd fits
 fits_more (n ∷ earl) (u ∷ er) mt ur fits new = (fits.0, fits_more earl er mt ur fits.1 new)
 
-earlier_fit : (earl : List Module) (er : List ResolvedModule) → Fits earl er → EarlierFit earl er
+pub earlier_fit : (earl : List Module) (er : List ResolvedModule) → Fits earl er → EarlierFit earl er
 earlier_fit [] [] fits k used found = absurd (cc)
 earlier_fit [] (u ∷ er) fits k used found = absurd fits
 earlier_fit (n ∷ earl) [] fits k used found = absurd fits

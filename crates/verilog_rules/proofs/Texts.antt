@@ -158,7 +158,7 @@ all_new ports earl er (m ∷ ms) all = (
       (all_new ports (earl ++ m ∷ []) (er ++ made ports earl m ∷ []) ms all.2),
 )
 
-module_texts : (ms : List Module) → texts (map (λ (m : Module). m.name) ms) ≡ map (λ (m : ModuleItem). m.name) (map module_of ms)
+pub module_texts : (ms : List Module) → texts (map (λ (m : Module). m.name) ms) ≡ map (λ (m : ModuleItem). m.name) (map module_of ms)
 module_texts [] = refl
 module_texts (m ∷ ms) = ap (λ (rest : List (List ℕ)). bytes_of m.name ∷ rest) (module_texts ms)
 
