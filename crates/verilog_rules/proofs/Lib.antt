@@ -31,3 +31,4 @@ pub mod WasModule
 pub mod SignalsBack
 pub mod TopsBack
 pub mod WasText
+pub mod WasDenoted

@@ -111,7 +111,6 @@ clock_resets k s rest is = rw is refl
 pub reset_domains : (r : Word) (rest : List Word) → is_clock (bytes_of r) ≡ false → domains_of (r ∷ rest) ≡ domains_of rest
 reset_domains r rest is = rw is refl
 
-
 pub reset_resets : (k : ℕ) (r : Word) (rest : List Word) → is_clock (bytes_of r) ≡ false → resets_of (k + 1) (r ∷ rest) ≡ dom k ∷ resets_of (k + 1) rest
 reset_resets k r rest is = let back : k + 1 - 1 ≡ k = omega arith in rw (is, back) refl
 
@@ -177,7 +176,6 @@ with_reset k s r rest clock upper no_clock reset later =
 
     three : (x y : List ℕ) (xs : List (List ℕ)) (u v : List ℕ) (us : List (List ℕ)) → x ≡ u → y ≡ v → xs ≡ us → x ∷ y ∷ xs ≡ u ∷ v ∷ us
     three x y xs u v us p q t = λ i. p i ∷ q i ∷ t i
-
 
 pub signals_are : (k : ℕ) (before : Option (List ℕ)) (signals : List Word) → NoClock before → AllTrue (signal_checks before signals) → SignalsAre k signals
 signals_are k before [] no_clock all = record { names = λ given agree. refl; uppers = tt; rise = tt }

@@ -1,16 +1,15 @@
 -- Clocks and resets that stand in a text pass their checks, and make the domains of the net.
-use Rattle.std.proofs.Common.{◌≡◌, ℕ, zero, suc, ◌+◌, ◌-◌, ◌<◌, ◌≤◌, Bool, true, false, cond, eqb, ◌&&◌, ◌||◌, List, [], ◌∷◌, ◌++◌, length, map, take, drop, Option, Some, None, refl, sym, ap, ◌∙◌, subst, arith}
-use Rattle.std.specs.Prelude.{codes}
+use Rattle.std.proofs.Common.{◌≡◌, ℕ, suc, ◌+◌, ◌≤◌, Bool, true, false, cond, eqb, ◌&&◌, ◌||◌, List, [], ◌∷◌, ◌++◌, length, Option, Some, None, refl, sym, ap, ◌∙◌, subst, arith}
 use Rattle.std.specs.List.{AllByRecursion, list_all}
 use Rattle.std.specs.Str.{bytes_eq}
-use Rattle.std.proofs.lemmas.Bool.{and_from, eq-eqb, eqb-false, eqb-true, ne_eqb}
+use Rattle.std.proofs.lemmas.Bool.{and_from, eqb-false, eqb-true, ne_eqb}
 use Rattle.std.proofs.lemmas.Slice.Eq.{bytes_eq-Decides}
 use Rattle.chw_base.specs.Names.{AllOf, BeginsThen, IsLowerWord, IsUpper, is_capital, is_letter_or_digit, is_name_byte, is_small_letter}
 use Rattle.chw_base.specs.declared.index.DomId.{DomId}
 use Rattle.chw_clock.specs.Histories.{is_one_of}
 use Rattle.net_rules.specs.PortsHold.{RiseWithin}
 use Rattle.verilog_text.specs.Names.{clock_name, reset_name}
-use Rattle.verilog_text.specs.Text.{clock_names, domain_names}
+use Rattle.verilog_text.specs.Text.{clock_names}
 use Rattle.verilog_tree.specs.Sources.{bytes_of}
 use Rattle.verilog_tree.specs.declared.word.Word.{Word}
 use Rattle.verilog_rules.specs.Declarations.{domains_of, is_clock, resets_of, signal_domain}
@@ -112,10 +111,13 @@ signals_were k (d ∷ domains) (r ∷ resets) (s ∷ signals) uppers rise are =
   where
     ends : k + suc (length domains) ≡ k + 1 + length domains
     ends = omega arith
+
     behind : Bool → List (List ℕ)
     behind b = cond b (reset_name d ∷ []) []
+
     others : r.number ≡ k → (j : ℕ) → k + 1 ≤ j → is_one_of (r ∷ resets) (dom j) ≡ is_one_of resets (dom j)
     others same j from = ap (λ (b : Bool). b || is_one_of resets (dom j)) (ne_eqb r.number j (λ also. omega arith))
+
     with_one : (signals : List Word) → r.number ≡ k → ((rest : List Word) → RiseWithin (k + 1) (k + 1 + length domains) resets → texts rest ≡ clock_names resets (k + 1) domains → SignalsWere (k + 1) domains resets rest)
         → texts (s ∷ signals) ≡ clock_name d ∷ reset_name d ∷ clock_names (r ∷ resets) (k + 1) domains → SignalsWere k (d ∷ domains) (r ∷ resets) (s ∷ signals)
     with_one [] same later names = absurd (cc)
@@ -124,6 +126,7 @@ signals_were k (d ∷ domains) (r ∷ resets) (s ∷ signals) uppers rise are =
         let rising : RiseWithin (k + 1) (k + 1 + length domains) resets = rw ends at (subst (λ (n : ℕ). RiseWithin (n + 1) (k + suc (length domains)) resets) same rise.2) in
         subst (λ (x : DomId). SignalsWere k (d ∷ domains) (x ∷ resets) (s ∷ t ∷ rest)) (λ i. dom (sym same i))
         (reset_back k s t rest d domains resets uppers.0 (first_text names) (first_text (later_texts names)) (later rest rising more))
+
     by_case : (b : Bool) → eqb r.number k ≡ b → ((rest : List Word) → RiseWithin (k + 1) (k + 1 + length domains) resets → texts rest ≡ clock_names resets (k + 1) domains → SignalsWere (k + 1) domains resets rest)
         → (RiseWithin (k + 1) (k + 1 + length domains) (r ∷ resets) → texts signals ≡ clock_names (r ∷ resets) (k + 1) domains → SignalsWere (k + 1) domains (r ∷ resets) signals)
         → SignalsWere k (d ∷ domains) (r ∷ resets) (s ∷ signals)
@@ -136,5 +139,5 @@ signals_were k (d ∷ domains) (r ∷ resets) (s ∷ signals) uppers rise are =
         let rising : RiseWithin (k + 1) (k + 1 + length domains) (r ∷ resets) = (omega arith, rw ends at rise.1, rw ends at rise.2) in
         let none : is_one_of (r ∷ resets) (dom k) ≡ false = none_below (k + 1) (k + 1 + length domains) k (r ∷ resets) rising (omega arith) in
         let names : texts (s ∷ signals) ≡ clock_name d ∷ clock_names (r ∷ resets) (k + 1) domains =
-            are ∙ ap (λ (b : Bool). (clock_name d ∷ cond b (reset_name d ∷ []) []) ++ clock_names (r ∷ resets) (k + 1) domains) none in
+        are ∙ ap (λ (b : Bool). (clock_name d ∷ cond b (reset_name d ∷ []) []) ++ clock_names (r ∷ resets) (k + 1) domains) none in
         alone_back k s signals d domains (r ∷ resets) uppers.0 (first_text names) (other rising (later_texts names))

@@ -80,7 +80,6 @@ all_checked ports last k earl er [] formed ordered limits names lasts widths dri
           (second_part (flat_map (port_form ports.domains) (ports_in last)) (module_checks (place_in ports earl) last) lasts_so.1)
           (first_part (module_width_checks er (made ports earl last)) [] widths) drivers,
       signals,
-      
       tt,
     )
 all_checked ports last k earl er (m ∷ ms) formed ordered limits names lasts widths drivers signals =
@@ -94,7 +93,6 @@ all_checked ports last k earl er (m ∷ ms) formed ordered limits names lasts wi
     (first_part (module_width_checks er (made ports earl m)) (widths_from (er ++ made ports earl m ∷ []) (resolved_modules ports (earl ++ m ∷ []) rest)) widths) split.1 in (
       mine,
       same_names (texts (signals_of (ports_in m))) (texts (signals_of (ports_in last))) names.0 ∙ signals,
-      
       all_checked ports last (k + 1) (earl ++ m ∷ []) (er ++ made ports earl m ∷ []) ms formed.1
           (all_both (λ (n : Module). Ordered 0 (ports_in n)) earl (m ∷ []) ordered (mine.order, tt))
           (second_part (module_limits k m) (limits_from (k + 1) rest) limits) more_names

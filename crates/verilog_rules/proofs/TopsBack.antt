@@ -1,26 +1,24 @@
 -- The ports of a last module that stands in a text are those of the net.
-use Rattle.std.proofs.Common.{◌≡◌, ℕ, zero, suc, ◌+◌, ◌<◌, ◌≤◌, Bool, true, false, not, cond, eqb, get_or, ◌&&◌, List, [], ◌∷◌, ◌++◌, length, map, take, drop, Option, Some, None, refl, sym, ap, ◌∙◌, subst, append_assoc, arith}
-use Rattle.std.specs.Prelude.{codes, is_some, slice_get}
+use Rattle.std.proofs.Common.{◌≡◌, ℕ, suc, ◌+◌, true, false, eqb, ◌&&◌, List, [], ◌∷◌, ◌++◌, length, map, take, drop, Option, Some, refl, ap, ◌∙◌, subst, append_assoc, arith}
+use Rattle.std.specs.Prelude.{codes, is_some}
 use Rattle.std.specs.Option.{unwrap_or}
-use Rattle.std.specs.List.{AllByRecursion, after_first, before_first, position_or_len}
+use Rattle.std.specs.List.{AllByRecursion, position_or_len}
 use Rattle.std.proofs.lemmas.Bool.{and_from, false≢true, ne_eqb}
 use Rattle.std.proofs.lemmas.Option.{slice_get-get_or}
 use Rattle.chw_base.specs.Names.{AllOf, IsUpper, is_capital, is_letter_or_digit}
-use Rattle.chw_base.specs.declared.index.DomId.{DomId}
 use Rattle.chw_clock.specs.declared.event.Port.{Port as NetPort}
 use Rattle.name_tables.specs.Names.{AreDistinct, is_among, place_of}
 use Rattle.net_rules.specs.PortsHold.{FitsPort}
 use Rattle.verilog_text.specs.Names.{domain_name}
-use Rattle.verilog_text.specs.Denotes.{ArePorts}
 use Rattle.verilog_text.specs.Declared.{width_of}
 use Rattle.verilog_text.specs.Source.{Line as LineItem}
 use Rattle.verilog_text.proofs.OnePorts.{upper_at}
 use Rattle.verilog_text.proofs.Places.{place_at}
-use Rattle.verilog_tree.specs.Sources.{bytes_of, line_of}
+use Rattle.verilog_tree.specs.Sources.{line_of}
 use Rattle.verilog_tree.specs.declared.word.Line.{Line}
 use Rattle.verilog_rules.specs.Declarations.{domain_part, line_name, name_part, port_of}
 use Rattle.verilog_rules.specs.NameRules.{is_port_name}
-use Rattle.verilog_rules.specs.Texts.{before_line, begins_with, behind_line, is_lower_word, width}
+use Rattle.verilog_rules.specs.Texts.{before_line, begins_with, behind_line, is_lower_word}
 use Rattle.verilog_rules.proofs.SignalsBack.{lower_back}
 
 -- no byte is `_`
@@ -54,9 +52,10 @@ drop_all (x ∷ xs) y ys = drop_all xs y ys
 parts_back : (bs rest : List ℕ) → NoLine bs → (before_line (bs ++ 95 ∷ rest) ≡ bs) × (behind_line (bs ++ 95 ∷ rest) ≡ rest)
 parts_back bs rest none =
     let at : position_or_len (λ (b : ℕ). eqb b 95) (bs ++ 95 ∷ rest) ≡ length bs = line_at bs rest none in
-    let next : length bs + 1 ≡ suc (length bs) = omega arith in
-    (ap (λ (n : ℕ). take n (bs ++ 95 ∷ rest)) at ∙ take_all bs (95 ∷ rest),
-     ap (λ (n : ℕ). drop (n + 1) (bs ++ 95 ∷ rest)) at ∙ ap (λ (n : ℕ). drop n (bs ++ 95 ∷ rest)) next ∙ drop_all bs 95 rest)
+    let next : length bs + 1 ≡ suc (length bs) = omega arith in (
+      ap (λ (n : ℕ). take n (bs ++ 95 ∷ rest)) at ∙ take_all bs (95 ∷ rest),
+      ap (λ (n : ℕ). drop (n + 1) (bs ++ 95 ∷ rest)) at ∙ ap (λ (n : ℕ). drop n (bs ++ 95 ∷ rest)) next ∙ drop_all bs 95 rest,
+    )
 
 -- a port of the net, by a line of the last module
 record PortWas (domains : List (List ℕ)) (front : List ℕ) (l : Line) (p : NetPort) : Type 0 where
@@ -81,8 +80,8 @@ port_was domains a b l p begins uppers distinct fits name_is width_is =
     let lower : is_lower_word (name_part (line_name l)) ≡ true = ap is_lower_word own_is ∙ lower_back p.name fits.1 in
     record {
       form = and_from (begins_with (a ∷ b ∷ []) (line_name l)) (is_among domains (domain_part (line_name l)) && is_lower_word (name_part (line_name l)))
-        (ap (begins_with (a ∷ b ∷ [])) whole ∙ begins (dn ++ (95 ∷ p.name)))
-        (and_from (is_among domains (domain_part (line_name l))) (is_lower_word (name_part (line_name l))) (ap is_some placed_part) lower);
+          (ap (begins_with (a ∷ b ∷ [])) whole ∙ begins (dn ++ (95 ∷ p.name)))
+          (and_from (is_among domains (domain_part (line_name l))) (is_lower_word (name_part (line_name l))) (ap is_some placed_part) lower);
       port_is = same_port (port_of domains l) p own_is (ap (λ (o : Option ℕ). unwrap_or o 0) placed_part) width_is;
     }
 

@@ -1,29 +1,26 @@
 -- A module that stands in a text that denotes a net passes its checks.
-use Rattle.std.proofs.Common.{◌≡◌, ℕ, zero, suc, ◌+◌, ◌-◌, ◌<◌, ◌≤◌, Bool, true, false, not, cond, eqb, leb, ◌||◌, List, [], ◌∷◌, ◌++◌, length, map, drop, Option, Some, None, refl, sym, ap, ◌∙◌, subst, append_assoc, arith, inl, inr}
-use Rattle.std.specs.Prelude.{is_some, slice_get, slice_index, option_map}
+use Rattle.std.proofs.Common.{◌≡◌, ℕ, zero, suc, ◌+◌, ◌<◌, ◌≤◌, Bool, true, false, cond, eqb, ◌||◌, List, [], ◌∷◌, ◌++◌, length, map, Option, Some, None, refl, sym, ap, ◌∙◌, subst, append_assoc, arith}
+use Rattle.std.specs.Prelude.{is_some, slice_get, slice_index}
 use Rattle.std.specs.List.{AllByRecursion, flat_map}
-use Rattle.std.specs.Str.{bytes_eq}
-use Rattle.std.proofs.lemmas.Bool.{eq-eqb, eqb-true, false≢true, le-leb, lt-ltb, ne_eqb, or_cases}
-use Rattle.std.proofs.lemmas.List.{length-append, length-drop, length-map}
+use Rattle.std.proofs.lemmas.Bool.{eq-eqb, eqb-true, false≢true, le-leb, lt-ltb, ne_eqb}
+use Rattle.std.proofs.lemmas.List.{length-map}
 use Rattle.std.proofs.lemmas.List.Concat.{flat_map-append}
-use Rattle.std.proofs.lemmas.Option.{same_Some, slice_get_within}
+use Rattle.std.proofs.lemmas.Option.{same_Some}
 use Rattle.chw_base.specs.declared.index.WireId.{WireId}
 use Rattle.chw_base.specs.declared.limits.TheConstants.{WIRE_BITS}
 use Rattle.chw_clock.specs.declared.event.Ports.{Ports}
 use Rattle.name_tables.specs.Names.{AreDistinct, is_among, place_of}
 use Rattle.net_rules.specs.WellFormed.{HasFewWords, WidthsAgree, wire_driven_at}
-use Rattle.netlist.specs.Sound.{EachOnce, IsWireWidth}
 use Rattle.netlist.specs.Wires.{driven}
-use Rattle.netlist.specs.declared.net.Cell.{Cell}
 use Rattle.netlist.specs.declared.net.Module.{Module as NetModule}
-use Rattle.verilog_text.specs.Declared.{Declared, name_of, names_of, other_names, value, width_of}
+use Rattle.verilog_text.specs.Declared.{name_of, names_of, other_names, value}
 use Rattle.verilog_text.specs.Declared.{outputs_of as source_outputs, signals_of as source_signals}
-use Rattle.verilog_text.specs.Declared.{input_wires as said_input_wires, wires_of as said_wires}
-use Rattle.verilog_text.specs.Denotes.{DenotesModule, ItemsAre, Part, Scene, assigned_to, cells_of, scene_of}
+use Rattle.verilog_text.specs.Declared.{wires_of as said_wires}
+use Rattle.verilog_text.specs.Denotes.{Part, cells_of}
 use Rattle.verilog_text.specs.Denotes.Part.{a_cell, an_output, declaration}
 use Rattle.verilog_text.specs.Source.{Line as LineItem, all_of}
 use Rattle.verilog_text.proofs.Places.{among_left, apart, distinct_right}
-use Rattle.verilog_tree.specs.Sources.{bytes_of, item_of, line_of, module_of}
+use Rattle.verilog_tree.specs.Sources.{bytes_of, module_of}
 use Rattle.verilog_tree.specs.declared.item.Item.{Item}
 use Rattle.verilog_tree.specs.declared.item.Item.TheVariants as item
 use Rattle.verilog_tree.specs.declared.item.Memory.{Memory}
@@ -34,14 +31,14 @@ use Rattle.verilog_tree.specs.declared.right.Right.{Right}
 use Rattle.verilog_tree.specs.declared.right.Right.TheVariants as right
 use Rattle.verilog_tree.specs.declared.word.Line.{Line}
 use Rattle.verilog_tree.specs.declared.word.Word.{Word}
-use Rattle.verilog_rules.specs.Declarations.{declared_words, input_wire, input_wires, inputs_of, line_name, outputs_of, ports_in, signals_of, wire_name, wires_by, wires_of}
-use Rattle.verilog_rules.specs.DriverRules.{all_driven, all_shown, drives, is_one_of, own_names, shows, undriven_checks, wire_number}
+use Rattle.verilog_rules.specs.Declarations.{input_wire, inputs_of, line_name, outputs_of, ports_in, wire_name, wires_by, wires_of}
+use Rattle.verilog_rules.specs.DriverRules.{all_shown, is_one_of}
 use Rattle.verilog_rules.specs.Limits.{item_limits, port_limits}
-use Rattle.verilog_rules.specs.NameRules.{Place, item_checks, items_checks, kind_of, module_names, signal_checks}
-use Rattle.verilog_rules.specs.NetOf.{cells_by, net_module, shown_wire, shown_wires, wire}
-use Rattle.verilog_rules.specs.Resolving.{assigned, assigned_at, driver_of, drivers_of}
+use Rattle.verilog_rules.specs.NameRules.{Place, item_checks, items_checks, kind_of}
+use Rattle.verilog_rules.specs.NetOf.{shown_wire, shown_wires, wire}
+use Rattle.verilog_rules.specs.Resolving.{assigned_at, driver_of, drivers_of}
 use Rattle.verilog_rules.specs.Texts.{number, width}
-use Rattle.verilog_rules.specs.WidthRules.{driver_width_checks, kind_checks, range_check, wide, widths_of, wire_checks, wire_widths}
+use Rattle.verilog_rules.specs.WidthRules.{driver_width_checks, wide, widths_of, wire_checks, wire_widths}
 use Rattle.verilog_rules.specs.declared.resolved.Driver.{Driver}
 use Rattle.verilog_rules.specs.declared.resolved.Driver.TheVariants as driver
 use Rattle.verilog_rules.specs.declared.resolved.Kind.{Kind}
@@ -49,22 +46,17 @@ use Rattle.verilog_rules.specs.declared.resolved.Kind.TheVariants as kind
 use Rattle.verilog_rules.specs.declared.resolved.Operand.{Operand}
 use Rattle.verilog_rules.specs.declared.resolved.ResolvedModule.{ResolvedModule}
 use Rattle.verilog_rules.specs.declared.resolved.Wire.{Wire}
-use Rattle.verilog_rules.proofs.Apart.{Apart, neither, not_one_of_both, one_of_at}
-use Rattle.verilog_rules.proofs.Connections.{Ordered, in_order_back, outputs_said}
-use Rattle.verilog_rules.proofs.Denoting.{ModuleChecked, a_scene, input_wires_said, made, wires_said, widths_said}
-use Rattle.verilog_rules.proofs.Distinct.{distinct_names}
-use Rattle.verilog_rules.proofs.Driven.{each_checked, none_shown, shown_hold, shown_once, undriven_hold}
-use Rattle.verilog_rules.proofs.Formed.{ModuleFormed}
-use Rattle.verilog_rules.proofs.Holding.{AllTrue, all_ones, all_parts, both_parts, first_part, second_part}
-use Rattle.verilog_rules.proofs.Items.{line_placed, lines_said, output_names, place_in, scene_in}
-use Rattle.verilog_rules.proofs.Literals.{literal_parts, word_parts}
-use Rattle.verilog_rules.proofs.ModulesWell.{width_at}
-use Rattle.verilog_rules.proofs.Operands.{known_kind, names_said, said}
-use Rattle.verilog_rules.proofs.Parts.{all_back, all_both, all_front, cells_are, cells_drive, extends_by, one_or_none, parts_in, shown_are, shown_by}
+use Rattle.verilog_rules.proofs.Apart.{Apart, neither, not_one_of_both}
+use Rattle.verilog_rules.proofs.Connections.{outputs_said}
+use Rattle.verilog_rules.proofs.Denoting.{wires_said}
+use Rattle.verilog_rules.proofs.Driven.{none_shown}
+use Rattle.verilog_rules.proofs.Holding.{AllTrue, both_parts, first_part, second_part}
+use Rattle.verilog_rules.proofs.Items.{lines_said, output_names, place_in}
+use Rattle.verilog_rules.proofs.Operands.{known_kind, names_said}
+use Rattle.verilog_rules.proofs.Parts.{all_back, all_both, all_front, extends_by, shown_by}
 use Rattle.verilog_rules.proofs.Tops.{place_got}
-use Rattle.verilog_rules.proofs.Used.{EarlierFit}
 use Rattle.verilog_rules.proofs.WasItems.{DrivenFits, NoOutput, PartAgrees, WireFits}
-use Rattle.verilog_rules.proofs.WasModules.{ItemsWere, Narrow, driver_limited, items_were, literal_limited, narrow_at, word_limited}
+use Rattle.verilog_rules.proofs.WasModules.{Narrow, driver_limited, literal_limited, narrow_at, word_limited}
 use Rattle.verilog_rules.proofs.Wires.{HasFewPlaces}
 
 -- what is known of each wire
@@ -89,10 +81,16 @@ parts_agree earlier widths (a_cell c ∷ parts) agree few = ((agree.0, few.0), p
 register_limited : (l : Line) (literal : Word) (memory : Option Memory) → WireFacts (record { line = l; kind = kind.Register literal memory }) → AllTrue (item_limits (item.Register l literal memory))
 register_limited l literal None facts =
     (le-leb (width l.range) WIRE_BITS facts.narrow, (word_limited (width l.range) literal facts.narrow facts.checks.1.0, tt))
-register_limited l literal (Some memory) facts =
-    (le-leb (width l.range) WIRE_BITS facts.narrow, (literal_limited (width l.range) 0 literal facts.narrow facts.checks.1.0,
-     (le-leb (width memory.width) WIRE_BITS (same_below (width memory.width) (width l.range) (eqb-true (width memory.width) (width l.range) facts.checks.1.1.1.0) facts.narrow),
-      (lt-ltb (number memory.places.to) 1024 facts.few, tt))))
+register_limited l literal (Some memory) facts = (
+  le-leb (width l.range) WIRE_BITS facts.narrow,
+  (
+    literal_limited (width l.range) 0 literal facts.narrow facts.checks.1.0,
+    (
+      le-leb (width memory.width) WIRE_BITS (same_below (width memory.width) (width l.range) (eqb-true (width memory.width) (width l.range) facts.checks.1.1.1.0) facts.narrow),
+      (lt-ltb (number memory.places.to) 1024 facts.few, tt),
+    ),
+  ),
+)
   where
     same_below : (a b : ℕ) → a ≡ b → b ≤ WIRE_BITS → a ≤ WIRE_BITS
     same_below a b is below = subst (λ (n : ℕ). n ≤ WIRE_BITS) (sym is) below
@@ -108,12 +106,12 @@ items_limited ports earl er m ws (it ∷ items) full narrow facts names widths =
     let all : AllTrue (flat_map (driver_width_checks er m) here ++ flat_map (driver_width_checks er m) later) = subst AllTrue (flat_map-append (driver_width_checks er m) here later) widths in
     let more : m.wires ≡ (ws ++ wires_by it) ++ flat_map wires_by items = full ∙ sym (append_assoc ws (wires_by it) (flat_map wires_by items)) in
     let limited = driver_limited ports earl er m ws it (extends_by ws (wires_by it ++ flat_map wires_by items) m.wires full) narrow
-        (first_part (item_checks p (output_names m) ws it) (items_checks p (output_names m) (ws ++ wires_by it) items) names)
-        (first_part (flat_map (driver_width_checks er m) here) (flat_map (driver_width_checks er m) later) all) in
+    (first_part (item_checks p (output_names m) ws it) (items_checks p (output_names m) (ws ++ wires_by it) items) names)
+    (first_part (flat_map (driver_width_checks er m) here) (flat_map (driver_width_checks er m) later) all) in
     both_parts (item_limits it) (flat_map item_limits items) (of_item it (all_front WireFacts (wires_by it) (flat_map wires_by items) facts) limited)
     (items_limited ports earl er m (ws ++ wires_by it) items more narrow (all_back WireFacts (wires_by it) (flat_map wires_by items) facts)
-      (second_part (item_checks p (output_names m) ws it) (items_checks p (output_names m) (ws ++ wires_by it) items) names)
-      (second_part (flat_map (driver_width_checks er m) here) (flat_map (driver_width_checks er m) later) all))
+    (second_part (item_checks p (output_names m) ws it) (items_checks p (output_names m) (ws ++ wires_by it) items) names)
+    (second_part (flat_map (driver_width_checks er m) here) (flat_map (driver_width_checks er m) later) all))
   where
     of_item : (it : Item) → AllByRecursion WireFacts (wires_by it) → ((d : Driver) → driver_of (place_in ports earl) (output_names m) ws it ≡ d ∷ [] → AllTrue (item_limits it)) → AllTrue (item_limits it)
     of_item (item.Wire l) facts limited = (le-leb (width l.range) WIRE_BITS facts.0.narrow, tt)
@@ -179,21 +177,25 @@ shown_are_apart before (driver.Assign w value ∷ ds) few none = shown_are_apart
 shown_are_apart before (driver.Register w domain reset a ∷ ds) few none = shown_are_apart before ds few none
 shown_are_apart before (driver.Ram ram ∷ ds) few none = shown_are_apart before ds few none
 shown_are_apart before (driver.Use used reads driven ∷ ds) few none = shown_are_apart before ds few none
-shown_are_apart before (driver.Output j at a ∷ ds) few none =
-    (not_before (is_one_of before j) refl,
-     shown_are_apart (before ++ j ∷ []) ds (λ k. fewer k (eqb j k) (few k)) (λ k is. none_later k (eqb j k) refl (few k) (none k) is))
+shown_are_apart before (driver.Output j at a ∷ ds) few none = (
+  not_before (is_one_of before j) refl,
+  shown_are_apart (before ++ j ∷ []) ds (λ k. fewer k (eqb j k) (few k)) (λ k is. none_later k (eqb j k) refl (few k) (none k) is),
+)
   where
     self : length (cond (eqb j j) (a.wire ∷ []) [] ++ flat_map (shown_by j) ds) ≡ suc (length (flat_map (shown_by j) ds))
     self = ap (λ (b : Bool). length (cond b (a.wire ∷ []) [] ++ flat_map (shown_by j) ds)) (eq-eqb j j refl)
+
     not_before : (b : Bool) → is_one_of before j ≡ b → b ≡ false
     not_before false is = refl
     not_before true is = absurd (suc_not (length (flat_map (shown_by j) ds)) (sym self ∙ none j is))
       where
         suc_not : (n : ℕ) → suc n ≡ 0 → ⊥
         suc_not n same = omega arith
+
     fewer : (k : ℕ) (b : Bool) → length (cond b (a.wire ∷ []) [] ++ flat_map (shown_by k) ds) ≤ 1 → length (flat_map (shown_by k) ds) ≤ 1
     fewer k true less = omega arith
     fewer k false less = less
+
     none_later : (k : ℕ) (b : Bool) → eqb j k ≡ b → length (cond b (a.wire ∷ []) [] ++ flat_map (shown_by k) ds) ≤ 1
         → (is_one_of before k ≡ true → length (cond b (a.wire ∷ []) [] ++ flat_map (shown_by k) ds) ≡ 0) → is_one_of (before ++ j ∷ []) k ≡ true → length (flat_map (shown_by k) ds) ≡ 0
     none_later k true same less zeroth is = omega arith
@@ -222,6 +224,7 @@ outputs_below place m ws (it ∷ items) =
     of_assign name (right.Unary op sign a) (Some k) is = tt
     of_assign name (right.Binary op sign a b) (Some k) is = tt
     of_assign name (right.Choice c a b) (Some k) is = tt
+
     of_item : (it : Item) → AllByRecursion (Below (length m.outputs)) (driver_of place (output_names m) ws it)
     of_item (item.Wire l) = tt
     of_item (item.Register l literal memory) = tt
@@ -260,8 +263,10 @@ shown_list drivers from (l ∷ ls) (x ∷ xs) count all =
   where
     same_count : (a b : ℕ) → suc a ≡ suc b → a ≡ b
     same_count a b same = omega arith
+
     next : (k : ℕ) (a : WireId) → shown_wire drivers (from + suc k) ≡ a → shown_wire drivers (from + 1 + k) ≡ a
     next k a is = let same : from + suc k ≡ from + 1 + k = omega arith in rw same at is
+
     longer : {v w : WireId} {vs ws : List WireId} → v ≡ w → vs ≡ ws → v ∷ vs ≡ w ∷ ws
     longer p q = λ i. p i ∷ q i
 
@@ -282,15 +287,15 @@ no_output mt m outs wires distinct name is = by_case (place_of (output_names m) 
     by_case (Some k) at =
         let among_outputs : is_among (map line_name (outputs_of (ports_in mt))) name ≡ true = subst (λ (ls : List Line). is_among (map line_name ls) name ≡ true) outs (ap is_some at) in
         let said_outs : map (λ (l : LineItem). l.name) (source_outputs (all_of (module_of mt).ports)) ≡ map line_name (outputs_of (ports_in mt)) =
-            ap (map (λ (l : LineItem). l.name)) (outputs_said (ports_in mt)) ∙ lines_said (outputs_of (ports_in mt)) in
+        ap (map (λ (l : LineItem). l.name)) (outputs_said (ports_in mt)) ∙ lines_said (outputs_of (ports_in mt)) in
         let in_outputs : is_among (map (λ (l : LineItem). l.name) (source_outputs (all_of (module_of mt).ports))) name ≡ true = subst (λ (ns : List (List ℕ)). is_among ns name ≡ true) (sym said_outs) among_outputs in
         let among_wires : is_among (map wire_name (wires_of mt)) name ≡ true = subst (λ (ws : List Wire). is_among (map wire_name ws) name ≡ true) wires (kind_among m.wires name is) in
         let in_wires : is_among (map name_of (said_wires (module_of mt))) name ≡ true =
-            subst (λ (ns : List (List ℕ)). is_among ns name ≡ true) (sym (ap (map name_of) (wires_said mt) ∙ names_said (wires_of mt))) among_wires in
+        subst (λ (ns : List (List ℕ)). is_among ns name ≡ true) (sym (ap (map name_of) (wires_said mt) ∙ names_said (wires_of mt))) among_wires in
         let rest : AreDistinct (map (λ (l : LineItem). l.name) (source_outputs (all_of (module_of mt).ports)) ++ (map name_of (said_wires (module_of mt)) ++ flat_map other_names (module_of mt).items)) =
-            distinct_right (source_signals (all_of (module_of mt).ports)) (map (λ (l : LineItem). l.name) (source_outputs (all_of (module_of mt).ports)) ++ (map name_of (said_wires (module_of mt)) ++ flat_map other_names (module_of mt).items)) distinct in
+        distinct_right (source_signals (all_of (module_of mt).ports)) (map (λ (l : LineItem). l.name) (source_outputs (all_of (module_of mt).ports)) ++ (map name_of (said_wires (module_of mt)) ++ flat_map other_names (module_of mt).items)) distinct in
         absurd (apart (map (λ (l : LineItem). l.name) (source_outputs (all_of (module_of mt).ports))) (map name_of (said_wires (module_of mt)) ++ flat_map other_names (module_of mt).items) name rest in_outputs
-          (among_left (map name_of (said_wires (module_of mt))) (flat_map other_names (module_of mt).items) name in_wires))
+        (among_left (map name_of (said_wires (module_of mt))) (flat_map other_names (module_of mt).items) name in_wires))
 
 -- WIRES
 

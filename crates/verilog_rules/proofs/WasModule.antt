@@ -1,72 +1,53 @@
 -- A module that stands in a text that denotes a net is checked, and the net's module is made of it.
-use Rattle.std.proofs.Common.{◌≡◌, ℕ, zero, suc, ◌+◌, ◌-◌, ◌<◌, ◌≤◌, Bool, true, false, not, cond, eqb, leb, ltb, ◌||◌, List, [], ◌∷◌, ◌++◌, length, map, drop, Option, Some, None, refl, sym, ap, ◌∙◌, subst, append_assoc, arith, inl, inr}
-use Rattle.std.specs.Prelude.{is_some, slice_get, slice_index, option_map}
+use Rattle.std.proofs.Common.{◌≡◌, ℕ, zero, suc, ◌+◌, ◌-◌, ◌<◌, ◌≤◌, Bool, true, false, leb, ltb, List, [], ◌∷◌, ◌++◌, length, map, drop, Some, None, refl, sym, ap, ◌∙◌, subst, arith}
+use Rattle.std.specs.Prelude.{slice_get}
 use Rattle.std.specs.List.{AllByRecursion, flat_map}
-use Rattle.std.specs.Str.{bytes_eq}
 use Rattle.std.proofs.lemmas.Bool.{eq-eqb, false≢true, leb-false, leb-true, ltb-false, ltb-true}
 use Rattle.std.proofs.lemmas.List.{length-append, length-drop, length-map}
-use Rattle.std.proofs.lemmas.List.Concat.{flat_map-append}
 use Rattle.std.proofs.lemmas.Option.{same_Some, slice_get_within}
 use Rattle.chw_base.specs.declared.index.WireId.{WireId}
 use Rattle.chw_base.specs.declared.limits.TheConstants.{WIRE_BITS}
 use Rattle.chw_clock.specs.declared.event.Ports.{Ports}
-use Rattle.name_tables.specs.Names.{AreDistinct, is_among, place_of}
+use Rattle.name_tables.specs.Names.{is_among}
 use Rattle.net_rules.specs.WellFormed.{HasFewWords, WidthsAgree, wire_driven_at}
 use Rattle.netlist.specs.Sound.{EachOnce, IsWireWidth}
 use Rattle.netlist.specs.Wires.{driven}
 use Rattle.netlist.specs.declared.net.Cell.{Cell}
 use Rattle.netlist.specs.declared.net.Module.{Module as NetModule}
-use Rattle.verilog_text.specs.Declared.{Declared, name_of, names_of, other_names, value, width_of}
-use Rattle.verilog_text.specs.Declared.{outputs_of as source_outputs, signals_of as source_signals}
+use Rattle.verilog_text.specs.Declared.{Declared, value, width_of}
 use Rattle.verilog_text.specs.Declared.{input_wires as said_input_wires, wires_of as said_wires}
-use Rattle.verilog_text.specs.Denotes.{DenotesModule, ItemsAre, Part, Scene, assigned_to, cells_of, scene_of}
-use Rattle.verilog_text.specs.Denotes.Part.{a_cell, an_output, declaration}
-use Rattle.verilog_text.specs.Source.{Line as LineItem, all_of}
-use Rattle.verilog_text.proofs.Places.{among_left, apart, distinct_right}
+use Rattle.verilog_text.specs.Denotes.{DenotesModule, ItemsAre, Scene, assigned_to, cells_of, scene_of}
+use Rattle.verilog_text.specs.Source.{Line as LineItem}
 use Rattle.verilog_tree.specs.Sources.{bytes_of, item_of, line_of, module_of}
-use Rattle.verilog_tree.specs.declared.item.Item.{Item}
-use Rattle.verilog_tree.specs.declared.item.Item.TheVariants as item
-use Rattle.verilog_tree.specs.declared.item.Memory.{Memory}
 use Rattle.verilog_tree.specs.declared.module.Module.{Module}
-use Rattle.verilog_tree.specs.declared.module.Port.{Port}
-use Rattle.verilog_tree.specs.declared.module.Port.TheVariants.{Input, Output, Signal}
-use Rattle.verilog_tree.specs.declared.right.Right.{Right}
-use Rattle.verilog_tree.specs.declared.right.Right.TheVariants as right
 use Rattle.verilog_tree.specs.declared.word.Line.{Line}
-use Rattle.verilog_tree.specs.declared.word.Word.{Word}
-use Rattle.verilog_rules.specs.Declarations.{declared_words, input_wire, input_wires, inputs_of, line_name, outputs_of, ports_in, signals_of, wire_name, wires_by, wires_of}
-use Rattle.verilog_rules.specs.DriverRules.{all_driven, all_shown, drives, is_one_of, own_names, shows, undriven_checks, wire_number}
-use Rattle.verilog_rules.specs.Limits.{item_limits, port_limits}
-use Rattle.verilog_rules.specs.NameRules.{Place, item_checks, items_checks, kind_of, module_names, signal_checks}
+use Rattle.verilog_rules.specs.Declarations.{input_wire, input_wires, inputs_of, outputs_of, ports_in, signals_of, wires_by, wires_of}
+use Rattle.verilog_rules.specs.DriverRules.{all_shown, drives, is_one_of, own_names, shows, undriven_checks}
+use Rattle.verilog_rules.specs.NameRules.{Place, module_names, signal_checks}
 use Rattle.verilog_rules.specs.NetOf.{cells_by, net_module, shown_wire, shown_wires, wire}
-use Rattle.verilog_rules.specs.Resolving.{assigned, assigned_at, driver_of, drivers_of}
 use Rattle.verilog_rules.specs.Texts.{number, width}
-use Rattle.verilog_rules.specs.WidthRules.{driver_width_checks, kind_checks, range_check, wide, widths_of, wire_checks, wire_widths}
+use Rattle.verilog_rules.specs.WidthRules.{driver_width_checks, range_check, wire_checks, wire_widths}
 use Rattle.verilog_rules.specs.declared.resolved.Driver.{Driver}
-use Rattle.verilog_rules.specs.declared.resolved.Driver.TheVariants as driver
 use Rattle.verilog_rules.specs.declared.resolved.Kind.{Kind}
 use Rattle.verilog_rules.specs.declared.resolved.Kind.TheVariants as kind
 use Rattle.verilog_rules.specs.declared.resolved.Operand.{Operand}
 use Rattle.verilog_rules.specs.declared.resolved.ResolvedModule.{ResolvedModule}
 use Rattle.verilog_rules.specs.declared.resolved.Wire.{Wire}
-use Rattle.verilog_rules.proofs.Apart.{Apart, neither, not_one_of_both, one_of_at}
+use Rattle.verilog_rules.proofs.Apart.{Apart}
 use Rattle.verilog_rules.proofs.Connections.{Ordered, in_order_back, inputs_said, outputs_said}
 use Rattle.verilog_rules.proofs.Denoting.{ModuleChecked, a_scene, input_wires_said, made, wires_said, widths_said}
 use Rattle.verilog_rules.proofs.Distinct.{distinct_names}
-use Rattle.verilog_rules.proofs.Driven.{each_checked, none_shown, shown_hold, shown_once, undriven_hold}
+use Rattle.verilog_rules.proofs.Driven.{each_checked, shown_hold, shown_once, undriven_hold}
 use Rattle.verilog_rules.proofs.Formed.{ModuleFormed}
-use Rattle.verilog_rules.proofs.Holding.{AllTrue, all_ones, all_parts, both_parts, first_part, second_part}
-use Rattle.verilog_rules.proofs.Items.{line_placed, lines_said, output_names, place_in, scene_in}
-use Rattle.verilog_rules.proofs.Literals.{literal_parts, word_parts}
+use Rattle.verilog_rules.proofs.Holding.{AllTrue, all_parts}
+use Rattle.verilog_rules.proofs.Items.{place_in, scene_in}
 use Rattle.verilog_rules.proofs.ModulesWell.{width_at}
-use Rattle.verilog_rules.proofs.Operands.{known_kind, names_said, said}
-use Rattle.verilog_rules.proofs.Parts.{all_back, all_both, all_front, cells_are, cells_drive, extends_by, one_or_none, parts_in, shown_are, shown_by}
-use Rattle.verilog_rules.proofs.Tops.{place_got}
+use Rattle.verilog_rules.proofs.Operands.{said}
+use Rattle.verilog_rules.proofs.Parts.{all_back, all_front, cells_are, cells_drive, shown_are, shown_by}
 use Rattle.verilog_rules.proofs.Used.{EarlierFit}
 use Rattle.verilog_rules.proofs.WasChecked.{Below, NarrowLine, WireFacts, all_from, driven_at, front_input, inputs_narrow, items_limited, no_output, none_above, outputs_below, parts_agree, ports_limited, shown_are_apart, shown_list, shown_narrow, some_shown}
 use Rattle.verilog_rules.proofs.WasItems.{DrivenFits, NoOutput, PartAgrees, WireFits}
-use Rattle.verilog_rules.proofs.WasModules.{ItemsWere, Narrow, driver_limited, items_were, literal_limited, narrow_at, word_limited}
-use Rattle.verilog_rules.proofs.Wires.{HasFewPlaces}
+use Rattle.verilog_rules.proofs.WasModules.{ItemsWere, Narrow, items_were}
 
 -- what the rules of nets say of a module, as far as it is needed
 pub record NetWell (earlier : List NetModule) (m : NetModule) : Type 0 where
@@ -153,50 +134,50 @@ module_was ports earl er mt nm formed ordered fits new signals d well =
     let none : NoOutput m m.wires = no_output mt m refl refl d.names in
     let scene : scene_in ports earl m ≡ scene_of ports (map module_of earl) (module_of mt) = ap (λ (o : List LineItem). a_scene ports earl o) (sym (outputs_said (ports_in mt))) in
     let items : ItemsAre (scene_in ports earl m) (map said (input_wires mt)) (map item_of mt.items) d.parts =
-        subst (λ (ws : List Declared). ItemsAre (scene_in ports earl m) ws (map item_of mt.items) d.parts) (input_wires_said mt)
-        (subst (λ (s : Scene). ItemsAre s (said_input_wires (module_of mt)) (map item_of mt.items) d.parts) (sym scene) d.items) in
+    subst (λ (ws : List Declared). ItemsAre (scene_in ports earl m) ws (map item_of mt.items) d.parts) (input_wires_said mt)
+    (subst (λ (s : Scene). ItemsAre s (said_input_wires (module_of mt)) (map item_of mt.items) d.parts) (sym scene) d.items) in
     let were : ItemsWere ports earl er m (input_wires mt) mt.items d.parts = items_were ports earl er m (input_wires mt) mt.items d.parts ordered fits refl none items in
     let widths_eq : nm.widths ≡ wire_widths m = d.widths ∙ ap (map (λ (d : Declared). width_of d.line.range)) (wires_said mt) ∙ sym (widths_said (wires_of mt)) in
     let inputs_eq : nm.inputs ≡ m.inputs = d.inputs ∙ ap (λ (ls : List LineItem). length ls) (inputs_said (ports_in mt)) ∙ length-map (inputs_of (ports_in mt)) line_of in
     let cells_eq : nm.cells ≡ flat_map (cells_by m) ds = d.cells ∙ ap cells_of were.parts_are ∙ cells_are m place (input_wires mt) mt.items in
     let agree : AllByRecursion (WidthsAgree (map net_module er) (wire_widths m)) (cells_of d.parts) =
-        subst (λ (cs : List Cell). AllByRecursion (WidthsAgree (map net_module er) (wire_widths m)) cs) d.cells
-        (subst (λ (ns : List ℕ). AllByRecursion (WidthsAgree (map net_module er) ns) nm.cells) widths_eq well.agree) in
+    subst (λ (cs : List Cell). AllByRecursion (WidthsAgree (map net_module er) (wire_widths m)) cs) d.cells
+    (subst (λ (ns : List ℕ). AllByRecursion (WidthsAgree (map net_module er) ns) nm.cells) widths_eq well.agree) in
     let few : AllByRecursion HasFewWords (cells_of d.parts) = subst (AllByRecursion HasFewWords) d.cells well.few in
     let agrees : AllByRecursion (PartAgrees (map net_module er) (wire_widths m)) d.parts = parts_agree (map net_module er) (wire_widths m) d.parts agree few in
     let width_checks_hold : AllTrue (flat_map (driver_width_checks er m) ds) = were.widths agrees in
     let driven_ids : flat_map driven nm.cells ≡ map wire ops = ap (λ (cs : List Cell). flat_map driven cs) cells_eq ∙ cells_drive m ds in
     let long : length nm.widths ≡ length m.wires = ap (λ (ns : List ℕ). length ns) widths_eq ∙ length-map m.wires (λ (w : Wire). width w.line.range) in
     let once : EachOnce m.inputs (length m.wires) (wire_driven_at (map wire ops)) =
-        subst (λ (i : ℕ). EachOnce i (length m.wires) (wire_driven_at (map wire ops))) inputs_eq
-        (subst (λ (n : ℕ). EachOnce nm.inputs n (wire_driven_at (map wire ops))) long
-        (subst (λ (ids : List WireId). EachOnce nm.inputs (length nm.widths) (wire_driven_at ids)) driven_ids well.once)) in
+    subst (λ (i : ℕ). EachOnce i (length m.wires) (wire_driven_at (map wire ops))) inputs_eq
+    (subst (λ (n : ℕ). EachOnce nm.inputs n (wire_driven_at (map wire ops))) long
+    (subst (λ (ids : List WireId). EachOnce nm.inputs (length nm.widths) (wire_driven_at ids)) driven_ids well.once)) in
     let all_long : length m.wires ≡ m.inputs + length (flat_map wires_by mt.items) =
-        length-append (input_wires mt) (flat_map wires_by mt.items) ∙ ap (λ (n : ℕ). n + length (flat_map wires_by mt.items)) (length-map (inputs_of (ports_in mt)) input_wire) in
+    length-append (input_wires mt) (flat_map wires_by mt.items) ∙ ap (λ (n : ℕ). n + length (flat_map wires_by mt.items)) (length-map (inputs_of (ports_in mt)) input_wire) in
     let count : length (own_names m) ≡ length m.wires - m.inputs = length-map (drop m.inputs m.wires) (λ (w : Wire). w.line.name) ∙ length-drop m.inputs m.wires in
     let driver_lists = each_checked m.inputs (length m.wires) ops (own_names m) (within (length m.wires) m.inputs (length (flat_map wires_by mt.items)) all_long) count once in
     let narrow : Narrow (wire_widths m) = narrow_of (wire_widths m) (subst (AllByRecursion IsWireWidth) widths_eq well.narrow) in
     let ranges_all : AllByRecursion EndsAtZero (map line_of outs ++ map (λ (d : Declared). d.line) (map said (wires_of mt))) =
-        subst (λ (ws : List Declared). AllByRecursion EndsAtZero (map line_of outs ++ map (λ (d : Declared). d.line) ws)) (wires_said mt)
-        (subst (λ (os : List LineItem). AllByRecursion EndsAtZero (os ++ map (λ (d : Declared). d.line) (said_wires (module_of mt)))) (outputs_said (ports_in mt)) d.ranges) in
+    subst (λ (ws : List Declared). AllByRecursion EndsAtZero (map line_of outs ++ map (λ (d : Declared). d.line) ws)) (wires_said mt)
+    (subst (λ (os : List LineItem). AllByRecursion EndsAtZero (os ++ map (λ (d : Declared). d.line) (said_wires (module_of mt)))) (outputs_said (ports_in mt)) d.ranges) in
     let out_ranges : AllByRecursion EndsAtZero (map line_of outs) = all_front EndsAtZero (map line_of outs) (map (λ (d : Declared). d.line) (map said (wires_of mt))) ranges_all in
     let wire_ranges : AllByRecursion EndsAtZero (map (λ (d : Declared). d.line) (map said (wires_of mt))) = all_back EndsAtZero (map line_of outs) (map (λ (d : Declared). d.line) (map said (wires_of mt))) ranges_all in
     let facts : AllByRecursion WireFacts m.wires = wire_facts mt m ops refl refl (were.driven agrees) once narrow (λ k w found. wires_end_at (wires_of mt) k w wire_ranges found) in
     let out_count : length nm.outputs ≡ length outs = d.outputs ∙ ap (λ (ls : List LineItem). length ls) (outputs_said (ports_in mt)) ∙ length-map outs line_of in
     let shown_so : (k : ℕ) (a : WireId) → slice_get nm.outputs k ≡ Some a → flat_map (shown_by k) ds ≡ a ∷ [] =
-        (λ k a found. sym (shown_are m place k (input_wires mt) mt.items) ∙ sym (ap (assigned_to k) were.parts_are) ∙ d.assigned k a found) in
+    (λ k a found. sym (shown_are m place k (input_wires mt) mt.items) ∙ sym (ap (assigned_to k) were.parts_are) ∙ d.assigned k a found) in
     let below : AllByRecursion (Below (length outs)) ds = outputs_below place m (input_wires mt) mt.items in
     let apart_so : Apart [] (all_shown ds) = shown_are_apart [] ds (λ k. at_most k (length outs) (leb (length outs) k) refl nm.outputs out_count (shown_so k) below) (λ k is. absurd (false≢true is)) in
     let here : (k : ℕ) → k < length outs → is_one_of (all_shown ds) k ≡ true =
-        (λ k less. let found = got_within nm.outputs k (subst (λ (n : ℕ). k < n) (sym out_count) less) in some_shown ds k found.0 (shown_so k found.0 found.1)) in
+    (λ k less. let found = got_within nm.outputs k (subst (λ (n : ℕ). k < n) (sym out_count) less) in some_shown ds k found.0 (shown_so k found.0 found.1)) in
     let all_here : AllTrue (undriven_checks (all_shown ds) 0 (map (λ (l : Line). l.name) outs)) =
-        undriven_hold (all_shown ds) 0 (map (λ (l : Line). l.name) outs) (λ k less. from_zero (all_shown ds) k (here k (subst (λ (n : ℕ). k < n) (length-map outs (λ (l : Line). l.name)) less))) in
+    undriven_hold (all_shown ds) 0 (map (λ (l : Line). l.name) outs) (λ k less. from_zero (all_shown ds) k (here k (subst (λ (n : ℕ). k < n) (length-map outs (λ (l : Line). l.name)) less))) in
     let outs_narrow : AllByRecursion NarrowLine outs = all_from NarrowLine outs (λ k l found.
-        subst (λ (n : ℕ). n ≤ WIRE_BITS) (width_at outs k l found) (shown_narrow er m ds k narrow width_checks_hold (here k (slice_get_within outs k l found)))) in
+    subst (λ (n : ℕ). n ≤ WIRE_BITS) (width_at outs k l found) (shown_narrow er m ds k narrow width_checks_hold (here k (slice_get_within outs k l found)))) in
     let outputs_eq : nm.outputs ≡ shown_wires ds 0 outs = shown_list ds 0 outs nm.outputs out_count (λ k a found.
-        let first : flat_map (shown_by k) ds ≡ shown_wire ds k ∷ [] = shown_once [] ds k apart_so (some_shown ds k a (shown_so k a found)) in
-        let same : shown_wire ds k ∷ [] ≡ a ∷ [] = sym first ∙ shown_so k a found in
-        zero_wire ds k a (one_wire same)) in
+    let first : flat_map (shown_by k) ds ≡ shown_wire ds k ∷ [] = shown_once [] ds k apart_so (some_shown ds k a (shown_so k a found)) in
+    let same : shown_wire ds k ∷ [] ≡ a ∷ [] = sym first ∙ shown_so k a found in
+    zero_wire ds k a (one_wire same)) in
     record {
       checked = record {
         new = new;
@@ -221,19 +202,25 @@ module_was ports earl er mt nm formed ordered fits new signals d well =
   where
     within : (all inputs more : ℕ) → all ≡ inputs + more → inputs ≤ all
     within all inputs more is = omega arith
+
     got_within : (xs : List WireId) (n : ℕ) → n < length xs → (x : WireId) × (slice_get xs n ≡ Some x)
     got_within [] n less = absurd (omega arith)
     got_within (x ∷ xs) zero less = (x, refl)
     got_within (x ∷ xs) (suc n) less = got_within xs n (omega arith)
+
     from_zero : (ns : List ℕ) (k : ℕ) → is_one_of ns k ≡ true → is_one_of ns (0 + k) ≡ true
     from_zero ns k is = let none : 0 + k ≡ k = omega arith in rw none is
+
     zero_wire : (ds : List Driver) (k : ℕ) (a : WireId) → shown_wire ds k ≡ a → shown_wire ds (0 + k) ≡ a
     zero_wire ds k a is = let none : 0 + k ≡ k = omega arith in rw none is
+
     one_wire : {v w : WireId} → v ∷ [] ≡ w ∷ [] → v ≡ w
     one_wire same = cc
+
     wire_lists : (ws : List Wire) → AllByRecursion WireFacts ws → AllByRecursion (λ (w : Wire). AllTrue (wire_checks w)) ws
     wire_lists [] facts = tt
     wire_lists (w ∷ ws) facts = (facts.0.checks, wire_lists ws facts.1)
+
     at_most : (k n : ℕ) (b : Bool) → leb n k ≡ b → (xs : List WireId) → length xs ≡ n → ((a : WireId) → slice_get xs k ≡ Some a → flat_map (shown_by k) (made ports earl mt).drivers ≡ a ∷ [])
         → AllByRecursion (Below n) (made ports earl mt).drivers → length (flat_map (shown_by k) (made ports earl mt).drivers) ≤ 1
     at_most k n true least xs count all below =

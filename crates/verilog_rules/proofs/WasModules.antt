@@ -1,48 +1,43 @@
 -- Modules that stand in a text that denotes a net pass their checks: their items.
-use Rattle.std.proofs.Common.{◌≡◌, ℕ, zero, suc, ◌+◌, ◌<◌, ◌≤◌, Bool, true, false, cond, eqb, leb, ◌&&◌, ◌||◌, List, [], ◌∷◌, ◌++◌, length, map, Option, Some, None, refl, sym, ap, ◌∙◌, subst, append_assoc, arith}
-use Rattle.std.specs.Prelude.{is_some, slice_get, slice_index, option_map}
+use Rattle.std.proofs.Common.{◌≡◌, ℕ, zero, suc, ◌+◌, ◌≤◌, Bool, true, false, cond, List, [], ◌∷◌, ◌++◌, map, Option, Some, None, refl, sym, ap, ◌∙◌, subst, append_assoc, arith}
+use Rattle.std.specs.Prelude.{is_some, slice_index, option_map}
 use Rattle.std.specs.List.{AllByRecursion, flat_map}
 use Rattle.std.specs.Str.{bytes_eq}
-use Rattle.std.proofs.lemmas.Bool.{and_parts, eqb-true, false≢true, le-leb}
+use Rattle.std.proofs.lemmas.Bool.{false≢true, le-leb}
 use Rattle.std.proofs.lemmas.List.Concat.{flat_map-append}
 use Rattle.chw_base.specs.declared.limits.TheConstants.{WIRE_BITS}
 use Rattle.chw_clock.specs.declared.event.Ports.{Ports}
-use Rattle.name_tables.specs.Names.{is_among, place_of}
-use Rattle.verilog_text.specs.Declared.{Declared, declared_by}
+use Rattle.name_tables.specs.Names.{place_of}
+use Rattle.verilog_text.specs.Declared.{Declared}
 use Rattle.verilog_text.specs.Denotes.{ItemsAre, Part}
 use Rattle.verilog_tree.specs.Sources.{bytes_of, item_of}
-use Rattle.verilog_tree.specs.declared.item.Access.{Access}
-use Rattle.verilog_tree.specs.declared.item.Edge.{Edge}
 use Rattle.verilog_tree.specs.declared.item.FirstWord.{FirstWord}
 use Rattle.verilog_tree.specs.declared.item.Item.{Item}
 use Rattle.verilog_tree.specs.declared.item.Item.TheVariants as item
-use Rattle.verilog_tree.specs.declared.item.Memory.{Memory}
-use Rattle.verilog_tree.specs.declared.item.Ram.{Ram}
 use Rattle.verilog_tree.specs.declared.item.Reset.{Reset}
 use Rattle.verilog_tree.specs.declared.module.Module.{Module}
 use Rattle.verilog_tree.specs.declared.right.Right.{Right}
 use Rattle.verilog_tree.specs.declared.right.Right.TheVariants as right
 use Rattle.verilog_tree.specs.declared.word.Word.{Word}
-use Rattle.verilog_rules.specs.Checks.{Check, check}
+use Rattle.verilog_rules.specs.Checks.{check}
 use Rattle.verilog_rules.specs.Declarations.{ports_in, wire_name, wires_by}
 use Rattle.verilog_rules.specs.DriverRules.{drives}
-use Rattle.verilog_rules.specs.Limits.{item_limits, literal_limit, ram_limits, reset_limits, right_limits, word_limit}
-use Rattle.verilog_rules.specs.NameRules.{Place, access_checks, clock_check, edge_checks, is_plain_register, item_checks, items_checks, kind_of, memory_checks, operand_check, ram_checks, shows}
+use Rattle.verilog_rules.specs.Limits.{item_limits, literal_limit, reset_limits, right_limits, word_limit}
+use Rattle.verilog_rules.specs.NameRules.{Place, access_checks, item_checks, items_checks, kind_of, memory_checks}
 use Rattle.verilog_rules.specs.NetOf.{net_module}
-use Rattle.verilog_rules.specs.Resolving.{assigned, assigned_at, driver_of, drivers_of, edge_driver, operand, ram_of, value_of}
-use Rattle.verilog_rules.specs.Texts.{amount, is_literal_of, is_word_of, size, width}
-use Rattle.verilog_rules.specs.WidthRules.{address_checks, count_of, driver_width_checks, kind_at, literal_of, memory_of, ram_width_checks, register_checks, reset_literal_checks, value_checks, wide, width_check, wire_widths, word_checks, words_checks}
+use Rattle.verilog_rules.specs.Resolving.{assigned_at, driver_of, drivers_of, edge_driver, operand, ram_of, value_of}
+use Rattle.verilog_rules.specs.Texts.{amount, is_literal_of, is_word_of, size}
+use Rattle.verilog_rules.specs.WidthRules.{address_checks, count_of, driver_width_checks, kind_at, memory_of, ram_width_checks, register_checks, reset_literal_checks, value_checks, wide, width_check, wire_widths, word_checks, words_checks}
 use Rattle.verilog_rules.specs.declared.resolved.Driver.{Driver}
 use Rattle.verilog_rules.specs.declared.resolved.Driver.TheVariants as driver
 use Rattle.verilog_rules.specs.declared.resolved.Kind.{Kind}
 use Rattle.verilog_rules.specs.declared.resolved.Kind.TheVariants as kind
-use Rattle.verilog_rules.specs.declared.resolved.Operand.{Operand}
 use Rattle.verilog_rules.specs.declared.resolved.RamOf.{RamOf}
 use Rattle.verilog_rules.specs.declared.resolved.ResolvedModule.{ResolvedModule}
 use Rattle.verilog_rules.specs.declared.resolved.Wire.{Wire}
 use Rattle.verilog_rules.proofs.Connections.{Ordered}
 use Rattle.verilog_rules.proofs.Holding.{AllTrue, all_ones, both_parts, first_part, second_part}
-use Rattle.verilog_rules.proofs.Items.{output_names, part_of, place_in, scene_in}
+use Rattle.verilog_rules.proofs.Items.{output_names, place_in, scene_in}
 use Rattle.verilog_rules.proofs.Literals.{literal_parts, word_parts}
 use Rattle.verilog_rules.proofs.Operands.{Known, kind_is, known_as, said}
 use Rattle.verilog_rules.proofs.Parts.{all_both, extends_by, parts_in, said_more}
@@ -83,15 +78,15 @@ items_were ports earl er m ws (it ∷ items) (part ∷ parts) ordered fits full 
     let none_here : NoOutput m ws = λ name is. none name (subst (λ (f : List Wire). is_some (kind_of f name) ≡ true) (sym full) (kind_more ws (wires_by it ++ flat_map wires_by items) name is)) in
     let first : ItemWas ports earl er m ws it part = item_was ports earl er m ws it part ordered fits (extends_by ws (wires_by it ++ flat_map wires_by items) m.wires full) none_here are.0 in
     let rest : ItemsWere ports earl er m (ws ++ wires_by it) items parts =
-        items_were ports earl er m (ws ++ wires_by it) items parts ordered fits more none
-        (subst (λ (wires : List Declared). ItemsAre (scene_in ports earl m) wires (map item_of items) parts) (sym (said_more ws it)) are.1) in
+    items_were ports earl er m (ws ++ wires_by it) items parts ordered fits more none
+    (subst (λ (wires : List Declared). ItemsAre (scene_in ports earl m) wires (map item_of items) parts) (sym (said_more ws it)) are.1) in
     record {
       names = both_parts (item_checks p (output_names m) ws it) (items_checks p (output_names m) (ws ++ wires_by it) items) first.names rest.names;
       parts_are = longer first.part_is rest.parts_are;
       widths = λ agrees. subst AllTrue (sym (flat_map-append (driver_width_checks er m) here later))
-        (both_parts (flat_map (driver_width_checks er m) here) (flat_map (driver_width_checks er m) later) (first.widths agrees.0) (rest.widths agrees.1));
+          (both_parts (flat_map (driver_width_checks er m) here) (flat_map (driver_width_checks er m) later) (first.widths agrees.0) (rest.widths agrees.1));
       driven = λ agrees. subst (AllByRecursion (DrivenFits m)) (sym (flat_map-append drives here later))
-        (all_both (DrivenFits m) (flat_map drives here) (flat_map drives later) (first.driven agrees.0) (rest.driven agrees.1));
+          (all_both (DrivenFits m) (flat_map drives here) (flat_map drives later) (first.driven agrees.0) (rest.driven agrees.1));
     }
   where
     longer : {p q : Part} {ps qs : List Part} → p ≡ q → ps ≡ qs → p ∷ ps ≡ q ∷ qs
@@ -161,11 +156,11 @@ driver_limited ports earl er m ws (item.Edge edge) extends narrow names widths d
     let plain = plain_register (kind_of ws (bytes_of edge.register)) names.1.0 in
     let k : Known ws edge.register = known_as ws edge.register (kind.Register plain.0 None) plain.1 in
     let there : kind_at m.wires (operand ws edge.register) ≡ Some (kind.Register plain.0 None) =
-        kind_there ws m.wires edge.register extends k ∙ ap Some (kind_is ws edge.register k (kind.Register plain.0 None) plain.1) in
+    kind_there ws m.wires edge.register extends k ∙ ap Some (kind_is ws edge.register k (kind.Register plain.0 None) plain.1) in
     let n : ℕ = wide (wire_widths m) (operand ws edge.register) in
     let mine = first_part (driver_width_checks er m (edge_driver ports ws edge)) [] widths in
     let so : AllTrue (register_checks (wire_widths m) n (Some (kind.Register plain.0 None)) (option_map (λ (r : Reset). r.literal) edge.reset) (operand ws edge.a)) =
-        subst (λ (o : Option Kind). AllTrue (register_checks (wire_widths m) n o (option_map (λ (r : Reset). r.literal) edge.reset) (operand ws edge.a))) there mine in
+    subst (λ (o : Option Kind). AllTrue (register_checks (wire_widths m) n o (option_map (λ (r : Reset). r.literal) edge.reset) (operand ws edge.a))) there mine in
     reset_limited n plain.0 edge.reset (narrow_at (wire_widths m) (operand ws edge.register).wire.number narrow)
     (first_part (reset_literal_checks n (Some plain.0) (option_map (λ (r : Reset). r.literal) edge.reset)) (width_check (wire_widths m) n (operand ws edge.a) ∷ []) so)
 driver_limited ports earl er m ws (item.Ram ram) extends narrow names widths d is =
@@ -187,13 +182,17 @@ driver_limited ports earl er m ws (item.Ram ram) extends narrow names widths d i
     let write_fits : AllTrue (address_checks (wire_widths m) count made.write) = first_part (address_checks (wire_widths m) count made.write) (from_written (wire_widths m) n count made) after_words.1.1 in
     let after_fits : AllTrue (from_written (wire_widths m) n count made) = second_part (address_checks (wire_widths m) count made.write) (from_written (wire_widths m) n count made) after_words.1.1 in
     let read_fits : AllTrue (address_checks (wire_widths m) count made.read) =
-        first_part (address_checks (wire_widths m) count made.read) (check ram.zeros.at (is_literal_of n 0 ram.zeros) ∷ []) after_fits.1 in
+    first_part (address_checks (wire_widths m) count made.read) (check ram.zeros.at (is_literal_of n 0 ram.zeros) ∷ []) after_fits.1 in
     let zeros_fit : AllTrue (check ram.zeros.at (is_literal_of n 0 ram.zeros) ∷ []) =
-        second_part (address_checks (wire_widths m) count made.read) (check ram.zeros.at (is_literal_of n 0 ram.zeros) ∷ []) after_fits.1 in
+    second_part (address_checks (wire_widths m) count made.read) (check ram.zeros.at (is_literal_of n 0 ram.zeros) ∷ []) after_fits.1 in
     both_parts (map word_limit all) (literal_limit ram.write.count ∷ literal_limit ram.read.count ∷ literal_limit ram.zeros ∷ [])
-    (all_ones word_limit all (words_limited n count 0 all n_narrow word_fits))
-    (literal_limited 12 count ram.write.count (twelve WIRE_BITS refl) write_fits.1.0, (literal_limited 12 count ram.read.count (twelve WIRE_BITS refl) read_fits.1.0,
-     (literal_limited n 0 ram.zeros n_narrow zeros_fit.0, tt)))
+    (all_ones word_limit all (words_limited n count 0 all n_narrow word_fits)) (
+      literal_limited 12 count ram.write.count (twelve WIRE_BITS refl) write_fits.1.0,
+      (
+        literal_limited 12 count ram.read.count (twelve WIRE_BITS refl) read_fits.1.0,
+        (literal_limited n 0 ram.zeros n_narrow zeros_fit.0, tt),
+      ),
+    )
   where
     twelve : (n : ℕ) → n ≡ 4096 → 12 ≤ n
     twelve n is = omega arith

@@ -1,6 +1,6 @@
 -- A text that denotes a net passes all checks.
-use Rattle.std.proofs.Common.{◌≡◌, ℕ, zero, suc, ◌+◌, ◌<◌, ◌≤◌, Bool, true, false, not, eqb, List, [], ◌∷◌, ◌++◌, length, map, take, Option, Some, None, refl, sym, ap, ◌∙◌, subst, append_assoc, arith}
-use Rattle.std.specs.Prelude.{codes, slice_get}
+use Rattle.std.proofs.Common.{◌≡◌, ℕ, suc, ◌+◌, ◌<◌, ◌≤◌, true, not, List, [], ◌∷◌, ◌++◌, length, map, take, Some, None, refl, sym, ap, ◌∙◌, subst, append_assoc, arith}
+use Rattle.std.specs.Prelude.{slice_get}
 use Rattle.std.specs.List.{AllByRecursion, flat_map}
 use Rattle.std.specs.Cmp.Lexicographic.{pointwise}
 use Rattle.std.specs.Str.{bytes_eq}
@@ -9,46 +9,34 @@ use Rattle.std.proofs.lemmas.List.{append-nil, length-map, map-append}
 use Rattle.std.proofs.lemmas.Slice.Eq.{bytes_eq-Decides}
 use Rattle.chw_base.specs.Names.{IsUpper}
 use Rattle.chw_base.specs.declared.limits.TheConstants.{MODULES}
-use Rattle.chw_clock.specs.declared.event.Port.{Port as NetPort}
 use Rattle.chw_clock.specs.declared.event.Ports.{Ports}
-use Rattle.name_tables.specs.Names.{AreDistinct, is_among}
-use Rattle.net_rules.specs.PortsHold.{PortsHold, RiseWithin}
-use Rattle.net_rules.specs.WellFormed.{WellFormed}
-use Rattle.net_rules.specs.declared.well_formed.NetCode.TheVariants.{Driver, Limit, Name, Width}
+use Rattle.name_tables.specs.Names.{is_among}
+use Rattle.net_rules.specs.PortsHold.{RiseWithin}
 use Rattle.netlist.specs.declared.net.Module.{Module as NetModule}
-use Rattle.netlist.specs.declared.net.Net.{Net}
-use Rattle.verilog_text.specs.Denotes.{DenoteModules, Denotes, DenotesModule}
+use Rattle.verilog_text.specs.Denotes.{DenoteModules, DenotesModule}
 use Rattle.verilog_text.specs.Source.{Line as LineItem, ModuleItem}
-use Rattle.verilog_text.specs.Source.{modules_of as said_modules}
 use Rattle.verilog_text.specs.Text.{clock_names}
-use Rattle.verilog_text.proofs.OneNet.{ports_hold}
-use Rattle.verilog_tree.specs.Sources.{bytes_of, line_of, module_of, source_of}
+use Rattle.verilog_tree.specs.Sources.{bytes_of, line_of, module_of}
 use Rattle.verilog_tree.specs.declared.module.Module.{Module}
-use Rattle.verilog_tree.specs.declared.module.Port.{Port}
-use Rattle.verilog_tree.specs.declared.module.Port.TheVariants.{Input, Output, Signal}
-use Rattle.verilog_tree.specs.declared.module.Tree.{Tree}
 use Rattle.verilog_tree.specs.declared.word.Line.{Line}
-use Rattle.verilog_rules.specs.Checks.{Check, check}
-use Rattle.verilog_rules.specs.Declarations.{declared_words, input_wires, inputs_of, line_name, modules_of, outputs_of, port_of, ports_in, ports_of, signals_of, wires_of}
-use Rattle.verilog_rules.specs.DriverRules.{all_driven, all_shown, driven_checks, driver_checks, drivers_from, drives, module_driver_checks, own_names, shown_checks, shows, some_output, undriven_checks}
-use Rattle.verilog_rules.specs.Faults.{AllHold}
-use Rattle.verilog_rules.specs.Limits.{item_limits, limit_checks, limits_from, module_limits, port_limits}
-use Rattle.verilog_rules.specs.NameRules.{earlier_checks, is_port_name, items_checks, last_checks, module_checks, module_names, name_checks, once_checks, order_checks, port_form, same_signals, signal_checks, texts}
+use Rattle.verilog_rules.specs.Checks.{Check}
+use Rattle.verilog_rules.specs.Declarations.{declared_words, input_wires, line_name, outputs_of, ports_in, signals_of, wires_of}
+use Rattle.verilog_rules.specs.DriverRules.{all_driven, all_shown, driven_checks, drivers_from, drives, module_driver_checks, own_names, shown_checks, shows, undriven_checks}
+use Rattle.verilog_rules.specs.Limits.{item_limits, limits_from, module_limits, port_limits}
+use Rattle.verilog_rules.specs.NameRules.{earlier_checks, items_checks, module_checks, module_names, once_checks, order_checks, signal_checks, texts}
 use Rattle.verilog_rules.specs.NetOf.{net_module}
-use Rattle.verilog_rules.specs.Resolving.{resolved, resolved_modules}
-use Rattle.verilog_rules.specs.WidthRules.{driver_width_checks, module_width_checks, range_check, width_checks, widths_from, wire_checks}
+use Rattle.verilog_rules.specs.Resolving.{resolved_modules}
+use Rattle.verilog_rules.specs.WidthRules.{driver_width_checks, module_width_checks, range_check, widths_from, wire_checks}
 use Rattle.verilog_rules.specs.declared.resolved.ResolvedModule.{ResolvedModule}
-use Rattle.verilog_rules.proofs.Connections.{Ordered, inputs_said, outputs_said, signals_said}
+use Rattle.verilog_rules.proofs.Connections.{Ordered, outputs_said, signals_said}
 use Rattle.verilog_rules.proofs.Denoting.{ModuleChecked, made}
-use Rattle.verilog_rules.proofs.Distinct.{Once, names_once, once_distinct, once_names}
 use Rattle.verilog_rules.proofs.Formed.{ModuleFormed}
-use Rattle.verilog_rules.proofs.Holding.{AllTrue, both_parts, hold}
+use Rattle.verilog_rules.proofs.Holding.{AllTrue, both_parts}
 use Rattle.verilog_rules.proofs.Items.{place_in}
 use Rattle.verilog_rules.proofs.ModulesWell.{Fits, earlier_fit, fits_more, module_fits}
 use Rattle.verilog_rules.proofs.Parts.{all_both}
 use Rattle.verilog_rules.proofs.SignalsBack.{SignalsWere, signals_were}
-use Rattle.verilog_rules.proofs.Texts.{AllChecked, module_texts}
-use Rattle.verilog_rules.proofs.TopsBack.{PortsWere, ports_were}
+use Rattle.verilog_rules.proofs.Texts.{AllChecked}
 use Rattle.verilog_rules.proofs.WasModule.{ModuleWas, NetWell, module_was}
 
 abbrev AreOrdered : List Module → Type 0
@@ -57,20 +45,20 @@ AreOrdered earl = AllByRecursion (λ (n : Module). Ordered 0 (ports_in n)) earl
 -- MODULES
 
 -- what is known of the domains of the net
-record DomainsFit (ports : Ports) : Type 0 where
+pub record DomainsFit (ports : Ports) : Type 0 where
   pub uppers : AllByRecursion IsUpper ports.domains
   pub rise : RiseWithin 0 (0 + length ports.domains) ports.resets
 
-abbrev Outputs : List Module → Type 0
+abbrev pub Outputs : List Module → Type 0
 Outputs [] = Unit {0}
 Outputs (m ∷ []) = Unit {0}
 Outputs (m ∷ n ∷ ms) = (1 ≤ length (outputs_of (ports_in m))) × Outputs (n ∷ ms)
 
-record ModulesWere (ports : Ports) (earl : List Module) (er : List ResolvedModule) (ms : List Module) : Type 0 where
+pub record ModulesWere (ports : Ports) (earl : List Module) (er : List ResolvedModule) (ms : List Module) : Type 0 where
   pub checked : AllChecked ports earl er ms
   pub outputs : Outputs ms
 
-modules_were : (ports : Ports) (earl : List Module) (er : List ResolvedModule) (ms : List Module) (nms : List NetModule) → DomainsFit ports → AllByRecursion ModuleFormed ms → AreOrdered earl → Fits earl er
+pub modules_were : (ports : Ports) (earl : List Module) (er : List ResolvedModule) (ms : List Module) (nms : List NetModule) → DomainsFit ports → AllByRecursion ModuleFormed ms → AreOrdered earl → Fits earl er
     → AllTrue (once_checks (module_names earl) (map (λ (m : Module). m.name) ms))
     → DenoteModules ports (map module_of earl) (map module_of ms) nms
     → ((i : ℕ) (m : NetModule) → slice_get nms i ≡ Some m → NetWell (map net_module er ++ take i nms) m)
@@ -85,19 +73,19 @@ modules_were ports earl er (mt ∷ ms) (nm ∷ nms) domains formed ordered fits 
     let were : SignalsWere 0 ports.domains ports.resets (signals_of (ports_in mt)) = signals_were 0 ports.domains ports.resets (signals_of (ports_in mt)) domains.uppers domains.rise signals in
     let here : NetWell (map net_module er) nm = subst (λ (e : List NetModule). NetWell e nm) (append-nil (map net_module er)) (well 0 nm refl) in
     let was : ModuleWas ports earl er mt nm =
-        module_was ports earl er mt nm formed.0 ordered (earlier_fit earl er fits) (not-true (is_among (module_names earl) (bytes_of mt.name)) new.0) (were.checks None) d here in
+    module_was ports earl er mt nm formed.0 ordered (earlier_fit earl er fits) (not-true (is_among (module_names earl) (bytes_of mt.name)) new.0) (were.checks None) d here in
     let new_fits = (module_fits ports earl er mt was.checked (earlier_fit earl er fits)).1 in
     let names : module_names earl ++ bytes_of mt.name ∷ [] ≡ module_names (earl ++ mt ∷ []) = sym (map-append (λ (m : Module). bytes_of m.name) earl (mt ∷ [])) in
     let moved : map net_module er ++ nm ∷ [] ≡ map net_module (er ++ made ports earl mt ∷ []) =
-        ap (λ (x : NetModule). map net_module er ++ x ∷ []) was.net_is ∙ sym (map-append net_module er (made ports earl mt ∷ [])) in
+    ap (λ (x : NetModule). map net_module er ++ x ∷ []) was.net_is ∙ sym (map-append net_module er (made ports earl mt ∷ [])) in
     let rest : ModulesWere ports (earl ++ mt ∷ []) (er ++ made ports earl mt ∷ []) ms =
-        modules_were ports (earl ++ mt ∷ []) (er ++ made ports earl mt ∷ []) ms nms domains formed.1
-        (all_both (λ (n : Module). Ordered 0 (ports_in n)) earl (mt ∷ []) ordered (was.checked.order, tt)) (fits_more earl er mt (made ports earl mt) fits new_fits)
-        (subst (λ (ns : List (List ℕ)). AllTrue (once_checks ns (map (λ (m : Module). m.name) ms))) names new.1)
-        (subst (λ (e : List ModuleItem). DenoteModules ports e (map module_of ms) nms) (sym (map-append module_of earl (mt ∷ []))) denote.1)
-        (λ i m found. subst (λ (e : List NetModule). NetWell (e ++ take i nms) m) moved
-          (subst (λ (e : List NetModule). NetWell e m) (sym (append_assoc (map net_module er) (nm ∷ []) (take i nms))) (well (suc i) m found)))
-        (λ i m found below. outs (suc i) m found (longer i (length nms) below)) in
+    modules_were ports (earl ++ mt ∷ []) (er ++ made ports earl mt ∷ []) ms nms domains formed.1
+    (all_both (λ (n : Module). Ordered 0 (ports_in n)) earl (mt ∷ []) ordered (was.checked.order, tt)) (fits_more earl er mt (made ports earl mt) fits new_fits)
+    (subst (λ (ns : List (List ℕ)). AllTrue (once_checks ns (map (λ (m : Module). m.name) ms))) names new.1)
+    (subst (λ (e : List ModuleItem). DenoteModules ports e (map module_of ms) nms) (sym (map-append module_of earl (mt ∷ []))) denote.1)
+    (λ i m found. subst (λ (e : List NetModule). NetWell (e ++ take i nms) m) moved
+    (subst (λ (e : List NetModule). NetWell e m) (sym (append_assoc (map net_module er) (nm ∷ []) (take i nms))) (well (suc i) m found)))
+    (λ i m found below. outs (suc i) m found (longer i (length nms) below)) in
     let out_count : length nm.outputs ≡ length (outputs_of (ports_in mt)) = d.outputs ∙ ap (λ (ls : List LineItem). length ls) (outputs_said (ports_in mt)) ∙ length-map (outputs_of (ports_in mt)) line_of in
     record {
       checked = (was.checked, signals, rest.checked);
@@ -106,6 +94,7 @@ modules_were ports earl er (mt ∷ ms) (nm ∷ nms) domains formed ordered fits 
   where
     longer : (i n : ℕ) → i + 1 < n → suc i + 1 < suc n
     longer i n below = omega arith
+
     more_outputs : (ms : List Module) (nms : List NetModule) → (0 + 1 < suc (length nms) → 1 ≤ length (outputs_of (ports_in mt)))
         → DenoteModules ports (map module_of earl ++ module_of mt ∷ []) (map module_of ms) nms → Outputs ms → Outputs (mt ∷ ms)
     more_outputs [] nms some are outs = tt
@@ -114,7 +103,7 @@ modules_were ports earl er (mt ∷ ms) (nm ∷ nms) domains formed ordered fits 
 
 -- LISTS OF CHECKS
 
-limits_hold : (ports : Ports) (k : ℕ) (earl : List Module) (er : List ResolvedModule) (ms : List Module) → AllChecked ports earl er ms → k + length ms ≤ MODULES → AllTrue (limits_from k ms)
+pub limits_hold : (ports : Ports) (k : ℕ) (earl : List Module) (er : List ResolvedModule) (ms : List Module) → AllChecked ports earl er ms → k + length ms ≤ MODULES → AllTrue (limits_from k ms)
 limits_hold ports k earl er [] all below = tt
 limits_hold ports k earl er (m ∷ ms) all below =
     both_parts (module_limits k m) (limits_from (k + 1) ms)
@@ -125,10 +114,11 @@ module_names_hold : (ports : Ports) (earl : List Module) (er : List ResolvedModu
 module_names_hold ports earl er m c =
     let signal_list : List Check = signal_checks None (signals_of (ports_in m)) in
     let once_list : List Check = once_checks [] (declared_words m) in
-    let item_list : List Check = items_checks (place_in ports earl) (map line_name (outputs_of (ports_in m))) (input_wires m) m.items in
-    (ap not c.new,
-     both_parts (order_checks 0 (ports_in m)) (signal_list ++ (once_list ++ item_list)) c.order
-       (both_parts signal_list (once_list ++ item_list) c.signals (both_parts once_list item_list c.once c.items)))
+    let item_list : List Check = items_checks (place_in ports earl) (map line_name (outputs_of (ports_in m))) (input_wires m) m.items in (
+      ap not c.new,
+      both_parts (order_checks 0 (ports_in m)) (signal_list ++ (once_list ++ item_list)) c.order
+          (both_parts signal_list (once_list ++ item_list) c.signals (both_parts once_list item_list c.once c.items)),
+    )
 
 names_equal : (xs ys : List (List ℕ)) → xs ≡ ys → pointwise bytes_eq xs ys ≡ true
 names_equal [] [] same = refl
@@ -139,18 +129,21 @@ names_equal (x ∷ xs) (y ∷ ys) same =
     let rest : xs ≡ ys = cc in
     and_from (bytes_eq x y) (pointwise bytes_eq xs ys) ((bytes_eq-Decides x y).1 first) (names_equal xs ys rest)
 
-earlier_hold : (ports : Ports) (last : Module) (earl : List Module) (er : List ResolvedModule) (ms : List Module) → AllChecked ports earl er (ms ++ last ∷ [])
+pub earlier_hold : (ports : Ports) (last : Module) (earl : List Module) (er : List ResolvedModule) (ms : List Module) → AllChecked ports earl er (ms ++ last ∷ [])
     → texts (signals_of (ports_in last)) ≡ clock_names ports.resets 0 ports.domains
     → AllTrue (earlier_checks ports last earl ms) × AllTrue (module_checks (place_in ports (earl ++ ms)) last)
 earlier_hold ports last earl er [] all signals =
     (tt, subst (λ (e : List Module). AllTrue (module_checks (place_in ports e) last)) (sym (append-nil earl)) (module_names_hold ports earl er last all.0))
 earlier_hold ports last earl er (m ∷ ms) all signals =
-    let rest = earlier_hold ports last (earl ++ m ∷ []) (er ++ made ports earl m ∷ []) ms all.2 signals in
-    ((names_equal (texts (signals_of (ports_in m))) (texts (signals_of (ports_in last))) (all.1 ∙ sym signals),
-      both_parts (module_checks (place_in ports earl) m) (earlier_checks ports last (earl ++ m ∷ []) ms) (module_names_hold ports earl er m all.0) rest.0),
-     subst (λ (e : List Module). AllTrue (module_checks (place_in ports e) last)) (append_assoc earl (m ∷ []) ms) rest.1)
+    let rest = earlier_hold ports last (earl ++ m ∷ []) (er ++ made ports earl m ∷ []) ms all.2 signals in (
+      (
+        names_equal (texts (signals_of (ports_in m))) (texts (signals_of (ports_in last))) (all.1 ∙ sym signals),
+        both_parts (module_checks (place_in ports earl) m) (earlier_checks ports last (earl ++ m ∷ []) ms) (module_names_hold ports earl er m all.0) rest.0,
+      ),
+      subst (λ (e : List Module). AllTrue (module_checks (place_in ports e) last)) (append_assoc earl (m ∷ []) ms) rest.1,
+    )
 
-widths_hold : (ports : Ports) (earl : List Module) (er : List ResolvedModule) (ms : List Module) → AllChecked ports earl er ms → AllTrue (widths_from er (resolved_modules ports earl ms))
+pub widths_hold : (ports : Ports) (earl : List Module) (er : List ResolvedModule) (ms : List Module) → AllChecked ports earl er ms → AllTrue (widths_from er (resolved_modules ports earl ms))
 widths_hold ports earl er [] all = tt
 widths_hold ports earl er (m ∷ ms) all =
     let x : ResolvedModule = made ports earl m in
@@ -171,13 +164,14 @@ module_drivers_hold ports earl er m c =
     both_parts shown_list (driven_list ++ (twice_list ++ last_list)) c.all_shown_hold
     (both_parts driven_list (twice_list ++ last_list) c.all_driven_hold (both_parts twice_list last_list c.driven_hold c.shown_hold))
 
-drivers_hold : (ports : Ports) (earl : List Module) (er : List ResolvedModule) (ms : List Module) → AllChecked ports earl er ms → Outputs ms → AllTrue (drivers_from (resolved_modules ports earl ms))
+pub drivers_hold : (ports : Ports) (earl : List Module) (er : List ResolvedModule) (ms : List Module) → AllChecked ports earl er ms → Outputs ms → AllTrue (drivers_from (resolved_modules ports earl ms))
 drivers_hold ports earl er [] all outs = tt
 drivers_hold ports earl er (m ∷ []) all outs = module_drivers_hold ports earl er m all.0
-drivers_hold ports earl er (m ∷ n ∷ ms) all outs =
-    (ap not (ne_eqb (length (outputs_of (ports_in m))) 0 (λ same. not_none (length (outputs_of (ports_in m))) outs.0 same)),
-     both_parts (module_driver_checks (made ports earl m)) (drivers_from (resolved_modules ports (earl ++ m ∷ []) (n ∷ ms))) (module_drivers_hold ports earl er m all.0)
-       (drivers_hold ports (earl ++ m ∷ []) (er ++ made ports earl m ∷ []) (n ∷ ms) all.2 outs.1))
+drivers_hold ports earl er (m ∷ n ∷ ms) all outs = (
+  ap not (ne_eqb (length (outputs_of (ports_in m))) 0 (λ same. not_none (length (outputs_of (ports_in m))) outs.0 same)),
+  both_parts (module_driver_checks (made ports earl m)) (drivers_from (resolved_modules ports (earl ++ m ∷ []) (n ∷ ms))) (module_drivers_hold ports earl er m all.0)
+      (drivers_hold ports (earl ++ m ∷ []) (er ++ made ports earl m ∷ []) (n ∷ ms) all.2 outs.1),
+)
   where
     not_none : (n : ℕ) → 1 ≤ n → n ≡ 0 → ⊥
     not_none n some none = omega arith
