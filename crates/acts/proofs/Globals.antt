@@ -107,7 +107,7 @@ closed_acts p sound {e} {t} d r l globals γ' γ δ' δ =
     (subst (λ b. TermsAct p r (closed_type t no_types) b γ' δ' b γ δ) (filled_itself e) acts)
 
 -- of a type up to naturals
-up_to_acts : (p : Program) → IsSound (setting_of p) → {e : TermTree} {t : TypeTree} → HasTypeUpTo (setting_of p) [] [] e t → IsTermType (setting_of p) [] t → (r : Levels) → IsLevels p r → GlobalsAct p r → (γ' γ : Thunks) (δ' δ : TypeTrees) → TermsAct p r t e γ' δ' e γ δ
+pub up_to_acts : (p : Program) → IsSound (setting_of p) → {e : TermTree} {t : TypeTree} → HasTypeUpTo (setting_of p) [] [] e t → IsTermType (setting_of p) [] t → (r : Levels) → IsLevels p r → GlobalsAct p r → (γ' γ : Thunks) (δ' δ : TypeTrees) → TermsAct p r t e γ' δ' e γ δ
 up_to_acts p sound {e} d k r l globals γ' γ δ' δ =
     same_acts sound l (as_same (type_kinded d.has sound tt).has k.has (same_turned d.same)) (term_runs p e γ' δ') (term_has p e γ δ) (closed_acts p sound d.has r l globals γ' γ δ' δ)
 

@@ -1,0 +1,2 @@
+pub mod Beta
+pub mod Moves
