@@ -32,7 +32,8 @@ KeepsMeaning e' e =
 -- `(/\a . e) @b` becomes e with b put for a
 abbrev pub TypeBetaActs : Type 0
 TypeBetaActs =
-    (k : Kind) (e : TermTree) (a : TypeTree) → KeepsMeaning (put_type_in e a) (ty_app (ty_lam k e) a)
+    (k : Kind) (e : TermTree) (a : TypeTree)
+    → KeepsMeaning (put_type_in e a) (ty_app (ty_lam k e) a)
 
 -- `(\(x : t) . e) a` becomes `letrec { x : t = a; } in e`
 abbrev pub BetaActs : Type 0
