@@ -1,29 +1,27 @@
 -- BETA, on types and on terms.
-use Rattle.std.proofs.Common.{◌≡◌, ℕ, suc, zero, List, [], ◌∷◌, Some, refl, sym, ap, ◌∙◌, subst}
+use Rattle.std.proofs.Common.{◌≡◌, ℕ, suc, List, sym, subst}
 use Rattle.chw_types.specs.declared.kind.Kind.{Kind}
-use Rattle.chw_types.specs.TypeTree.{TypeTree, TypeTrees, type_and}
-use Rattle.chw_types.specs.TypeMoves.{up as up_type, sub as sub_type}
+use Rattle.chw_types.specs.TypeTree.{TypeTree, TypeTrees}
 use Rattle.chw_types.proofs.SameLaws.{same_turned}
 use Rattle.chw_terms.specs.declared.program.Program.{Program}
 use Rattle.chw_terms.specs.Evaluated.{evaluated, put_type_in}
-use Rattle.chw_terms.specs.TermMoves.{rename, shift}
-use Rattle.chw_terms.specs.TermTree.{TermTree, lam, app, ty_lam, ty_app, letrec, Group, no_bindings, bind}
+use Rattle.chw_terms.specs.TermMoves.{shift}
+use Rattle.chw_terms.specs.TermTree.{TermTree, lam, app, ty_lam, ty_app, letrec, no_bindings, bind}
 use Rattle.chw_terms.proofs.Renamed.{rename_ids}
-use Rattle.chw_typing.specs.Scopes.{AreTermTypes, under_binder}
+use Rattle.chw_typing.specs.Scopes.{AreTermTypes}
 use Rattle.chw_typing.specs.Programs.{AreClosed, IsSound, IsTyped, setting_of}
 use Rattle.chw_typing.specs.Typing.{HasType, h_lam, h_app, h_ty_lam, h_ty_app}
 use Rattle.chw_typing.proofs.Kinded.{function_parts, function_takes, typed_under, type_kinded}
-use Rattle.chw_meaning.specs.Values.{History, Value, Thunk, closed, member, Thunks, thunk_and, type_at, closed_type, in_group}
-use Rattle.chw_meaning.specs.Eval.{Evals, e_lam, e_app, e_ty_lam, e_ty_app, e_letrec, Forces, f_closed, f_member, a_closure, t_closure}
-use Rattle.chw_meaning.proofs.Once.{same_some}
-use Rattle.acts.specs.Levels.{Levels, later, term_runs, term_has, thunk_has, ThunksAct}
+use Rattle.chw_meaning.specs.Values.{closed, member, Thunks, thunk_and, closed_type, in_group}
+use Rattle.chw_meaning.specs.Eval.{Evals, e_lam, e_app, e_ty_lam, e_ty_app, e_letrec, f_closed, f_member, a_closure, t_closure}
+use Rattle.acts.specs.Levels.{Levels, term_runs, term_has, thunk_has, ThunksAct}
 use Rattle.acts.specs.Acts.{acts_from}
 use Rattle.acts.specs.Terms.{ActsUnder, OriginsTyped, with_argument, with_origins, setting_with}
 use Rattle.acts.proofs.Closing.{closed_same, opens_as, put_closes}
 use Rattle.acts.proofs.Forms.{TermsAct}
 use Rattle.acts.proofs.Globals.{put_type_acts, sound_with}
 use Rattle.acts.proofs.Levels.{IsLevels, from_turns, cost, more, runs_more}
-use Rattle.acts.proofs.SameActs.{Same, same_acts}
+use Rattle.acts.proofs.SameActs.{same_acts}
 use Rattle.act_rules.proofs.Moves.{tied_more, tied_spare, tied_type, past_one, moved_acts, same_term_acts}
 
 module _ (p : Program) (sound : IsSound (setting_of p)) (typed : IsTyped p) (types : List TypeTree) (o : ℕ → TermTree) (are_closed : AreClosed (setting_of p) types) (have : OriginsTyped p types o) where

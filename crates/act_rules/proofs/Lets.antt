@@ -1,12 +1,12 @@
 -- A letrec on an argument.
-use Rattle.std.proofs.Common.{◌≡◌, ◌+◌, ℕ, suc, zero, List, [], ◌∷◌, Some, refl, sym, ap, ◌∙◌, subst, arith}
+use Rattle.std.proofs.Common.{◌≡◌, ◌+◌, ℕ, suc, zero, List, refl, sym, ap, ◌∙◌, arith}
 use Rattle.chw_types.specs.declared.kind.Kind.{Kind}
 use Rattle.chw_types.specs.TypeTree.{TypeTree, TypeTrees}
 use Rattle.chw_types.specs.TypeMoves.{raised, up as up_type, sub as sub_type}
 use Rattle.chw_types.proofs.SameLaws.{same_turned}
 use Rattle.chw_terms.specs.declared.program.Program.{Program}
 use Rattle.chw_terms.specs.Evaluated.{evaluated}
-use Rattle.chw_terms.specs.TermMoves.{rename, shift}
+use Rattle.chw_terms.specs.TermMoves.{shift}
 use Rattle.chw_terms.specs.TermTree.{TermTree, app, ty_app, letrec, Group, no_bindings, bind, size_of}
 use Rattle.chw_terms.proofs.TypesEvaluated.{evaluated_twice}
 use Rattle.chw_typing.specs.Scopes.{AreTermTypes, with_more, declared}
@@ -14,15 +14,15 @@ use Rattle.chw_typing.specs.Programs.{AreClosed, IsSound, IsTyped, setting_of}
 use Rattle.chw_typing.specs.Typing.{HasType, h_app, h_ty_app, h_letrec, AreBound}
 use Rattle.chw_typing.proofs.EvaluatedTypes.{kind_evaluated}
 use Rattle.chw_typing.proofs.Kinded.{function_parts, typed_more, bound_typed, type_kinded}
-use Rattle.chw_meaning.specs.Values.{History, Value, Thunk, member, Thunks, thunk_and, thunk_at, type_at, closed_type, members, in_group}
-use Rattle.chw_meaning.specs.Eval.{Evals, e_letrec}
-use Rattle.acts.specs.Levels.{Levels, later, term_runs, term_has}
+use Rattle.chw_meaning.specs.Values.{member, Thunks, thunk_and, thunk_at, type_at, closed_type, members, in_group}
+use Rattle.chw_meaning.specs.Eval.{e_letrec}
+use Rattle.acts.specs.Levels.{Levels, term_runs, term_has}
 use Rattle.acts.specs.Acts.{acts_from}
 use Rattle.acts.specs.Terms.{TiedBy, Kinded, ActsUnder, OriginsTyped, with_origins, with_origins_group, setting_with}
 use Rattle.acts.proofs.Closing.{closed_kind, closed_same, put_closes}
 use Rattle.acts.proofs.Forms.{TermsAct, app_acts, ty_app_acts}
 use Rattle.acts.proofs.Globals.{group_tied, sound_with}
-use Rattle.acts.proofs.Levels.{IsLevels, from_turns, cost, runs_more}
+use Rattle.acts.proofs.Levels.{from_turns, cost, runs_more}
 use Rattle.acts.proofs.SameActs.{same_acts}
 use Rattle.act_rules.proofs.Moves.{moved_acts, same_term_acts}
 
