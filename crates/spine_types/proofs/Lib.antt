@@ -1,2 +1,3 @@
+pub mod Lets
 pub mod Saturated
 pub mod Spines

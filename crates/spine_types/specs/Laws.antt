@@ -1,5 +1,5 @@
 -- What is promised of the types of spines.
-use Rattle.std.specs.Prelude.{◌≡◌, ◌↔◌, ℕ, List, length, Some}
+use Rattle.std.specs.Prelude.{◌≡◌, ◌↔◌, ℕ, List, map, length, Some}
 use Rattle.chw_types.specs.declared.kind.Kind.{Kind}
 use Rattle.chw_types.specs.Kinds.{KindsOf}
 use Rattle.chw_types.specs.SameTypes.{SameTypes}
@@ -9,13 +9,15 @@ use Rattle.chw_prims.specs.declared.prim.Primitive.{Primitive as Prim}
 use Rattle.chw_prims.specs.Schemas.{schema_type}
 use Rattle.chw_terms.specs.Constructors.{Constructor, con_at}
 use Rattle.chw_terms.specs.declared.term.Arg.{Arg}
-use Rattle.chw_terms.specs.TermTree.{TermTree, con, prim}
+use Rattle.chw_terms.specs.TermTree.{TermTree, letrec, con, prim}
+use Rattle.chw_terms.specs.TermMoves.{shift}
+use Rattle.chw_terms.specs.Unrolled.{named}
 use Rattle.chw_terms.specs.TermView.{applied}
 use Rattle.chw_typing.specs.HeadTypes.{for_each, from_each, fields_at}
-use Rattle.chw_typing.specs.Scopes.{Setting, HasKind, AreTermTypes}
+use Rattle.chw_typing.specs.Scopes.{Setting, HasKind, AreTermTypes, with_more}
 use Rattle.chw_typing.specs.Programs.{IsSound}
 use Rattle.chw_typing.specs.Typing.{HasType, HasTypeUpTo}
-use Rattle.spine_types.specs.Given.{types_then, AreGiven, IsSaturated}
+use Rattle.spine_types.specs.Given.{types_then, AreGiven, AllAllow, IsSaturated}
 use Rattle.spine_types.specs.Spines.{AtArguments}
 
 -- a spine has a type exactly where its head has one that leads to it along the arguments
@@ -41,8 +43,8 @@ HeadMayChange =
     → ((u : TypeTree) → HasType s kinds vars e u → HasTypeUpTo s kinds vars f u)
     → HasType s kinds vars (applied e args) t → HasTypeUpTo s kinds vars (applied f args) t
 
--- a head whose type asks for types and terms, at as many of both: the types have the kinds, the terms
--- have the parameters' types, and the whole has the result's
+-- a head whose type asks for types and terms, at as many of both: the types have the kinds, the
+-- terms have the parameters' types, and the whole has the result's
 abbrev pub SchemaAtArguments : Type 0
 SchemaAtArguments =
     (s : Setting) (kinds : List Kind) (vars : List TypeTree) (e : TermTree) (ks : List Kind)
@@ -74,3 +76,13 @@ PrimAtArguments =
     → length types ≡ length ks → length es ≡ length ps
     → HasType s kinds vars (applied (prim p) (types_then types es)) t
     → IsSaturated s kinds vars ks ps r types es t
+
+-- a letrec that binds terms from outside to names has its body's type, where the terms have the
+-- names' types, and these have kinds that allow the body's
+abbrev pub LetOfArguments : Type 0
+LetOfArguments =
+    (s : Setting) (kinds : List Kind) (vars ts : List TypeTree) (es : List TermTree) (k : Kind)
+    (e : TermTree) (u : TypeTree)
+    → AreGiven s kinds vars ts es → AllAllow s kinds k ts
+    → HasType s kinds (with_more ts vars) e u → HasKind s kinds u k
+    → HasType s kinds vars (letrec (named ts (map (λ e. shift e 0 (length es)) es)) e) u

@@ -1,5 +1,5 @@
 //! Laws of the types of spines, each as the contract of a call that does nothing.
-ghost use Rattle.spine_types.specs.Laws.{SpineIsTyped, SpineKeepsKind, HeadMayChange, SchemaAtArguments, ConAtArguments, PrimAtArguments};
+ghost use Rattle.spine_types.specs.Laws.{SpineIsTyped, SpineKeepsKind, HeadMayChange, SchemaAtArguments, ConAtArguments, PrimAtArguments, LetOfArguments};
 
 /// A spine has a type exactly where its head has one that leads to it along the arguments.
 pub fn spines_are_typed()
@@ -21,4 +21,9 @@ pub fn saturated_spines()
     ensures schema { SchemaAtArguments }
     ensures con { ConAtArguments }
     ensures prim { PrimAtArguments }
+{}
+
+/// A letrec that binds arguments has its body's type.
+pub fn lets_of_arguments()
+    ensures { LetOfArguments }
 {}
