@@ -1,0 +1,3 @@
+pub mod Lets
+pub mod Saturated
+pub mod Spines
