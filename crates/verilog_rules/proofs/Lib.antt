@@ -32,3 +32,4 @@ pub mod SignalsBack
 pub mod TopsBack
 pub mod WasText
 pub mod WasDenoted
+pub mod LeastPlace

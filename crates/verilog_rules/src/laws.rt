@@ -1,7 +1,9 @@
 //! Laws of the rules on texts. Each is a function that does nothing, and says its law of all texts.
-ghost use Rattle.std.specs.Prelude.{ℕ, List};
+ghost use Rattle.std.specs.Prelude.{◌≡◌, ℕ, List, Some};
 ghost use Rattle.netlist.specs.declared.net.Net.{Net};
+ghost use Rattle.verilog_rules.specs.Checks.{Check, Hold, least_broken};
 ghost use Rattle.verilog_rules.specs.Faults.{AllHold, IsTreeIn, IsVFault};
+ghost use Rattle.verilog_rules.specs.Least.{IsBrokenAt, IsLeastBroken};
 ghost use Rattle.verilog_rules.specs.NetOf.{net_of};
 ghost use Rattle.verilog_rules.specs.Resolving.{resolved};
 ghost use Rattle.verilog_rules.specs.declared.fault.VFault.{VFault};
@@ -36,3 +38,10 @@ pub fn no_text_is_both()
     trees_are_sources();
     split_texts_have_no_such_place();
 }
+
+/// The least place of the broken checks is that of one that doesn't hold, and no such one has a lesser place.
+/// Where there is no such place, each check holds.
+pub fn least_broken_is_the_least()
+    ensures least { (checks : List Check) (at : ℕ) → least_broken checks ≡ Some at → IsLeastBroken checks at }
+    ensures none { (checks : List Check) (at : ℕ) → Hold checks → IsBrokenAt at checks → ⊥ }
+{}
