@@ -52,3 +52,11 @@ abbrev pub LetTypeAppActs : Type 0
 LetTypeAppActs =
     (g : Group) (e : TermTree) (a : TypeTree)
     → KeepsMeaning (letrec g (ty_app e a)) (ty_app (letrec g e) a)
+
+-- `case (letrec { g } in e) of alts` becomes `letrec { g } in case e of alts`
+abbrev pub CaseLetActs : Type 0
+CaseLetActs =
+    (g : Group) (e : TermTree) (alts : Alts)
+    → KeepsMeaning
+      (letrec g (case_of e (rename_alts alts (raised 0 (size_of g)))))
+      (case_of (letrec g e) alts)
