@@ -156,7 +156,7 @@ module _ (p : Program) (made_types : List TypeTree) (sound : IsSound (setting_wi
       record { known = h.known; first = h.first; second = h.second; types = h.types; names = names; globals = λ d it γ' γ δ' δ e. runs_later l i it.ty (term_runs p (global d) γ' δ') (term_has p (global d) γ δ) (h.globals d it γ' γ δ' δ e) }
 
   -- the same with fewer turns
-  tied_falls : {kinds : List Kind} {vars : List TypeTree} {σ' σ : Substitution} {τ' τ : TypeSubstitution} {r : Levels} {δ0 δ' δ : TypeTrees} {γ' γ : Thunks} → IsLevels p r → (i : ℕ) → Tied p R related kinds vars σ' σ τ' τ r δ0 δ' δ γ' γ → Tied p R related kinds vars σ' σ τ' τ (later i r) δ0 δ' δ γ' γ
+  pub tied_falls : {kinds : List Kind} {vars : List TypeTree} {σ' σ : Substitution} {τ' τ : TypeSubstitution} {r : Levels} {δ0 δ' δ : TypeTrees} {γ' γ : Thunks} → IsLevels p r → (i : ℕ) → Tied p R related kinds vars σ' σ τ' τ r δ0 δ' δ γ' γ → Tied p R related kinds vars σ' σ τ' τ (later i r) δ0 δ' δ γ' γ
   tied_falls {vars = vars} {σ' = σ'} {σ = σ} {r = r} {δ0 = δ0} {δ' = δ'} {δ = δ} {γ' = γ'} {γ = γ} l i h = with_names l i h vars σ' σ γ' γ (named_later p related lasts r l i vars σ' σ δ0 δ' δ γ' γ h.names)
 
   -- under a lambda
