@@ -1,5 +1,5 @@
 -- A case whose scrutinee is changed.
-use Rattle.std.proofs.Common.{◌≡◌, ℕ, List, sym, ap, ◌∙◌, subst}
+use Rattle.std.proofs.Common.{ℕ, List, ap, ◌∙◌, subst}
 use Rattle.chw_types.specs.declared.kind.Kind.{Kind}
 use Rattle.chw_types.specs.TypeTree.{TypeTree, ty_var, TypeTrees}
 use Rattle.chw_types.specs.TypeMoves.{Renaming, raised}
