@@ -26,7 +26,7 @@ use Rattle.acts.proofs.Levels.{from_turns, cost, runs_more}
 use Rattle.acts.proofs.SameActs.{same_acts}
 use Rattle.act_rules.proofs.Moves.{moved_acts, same_term_acts}
 
-size_with_origins : (o : ℕ → TermTree) (g : Group) → size_of (with_origins_group o g) ≡ size_of g
+pub size_with_origins : (o : ℕ → TermTree) (g : Group) → size_of (with_origins_group o g) ≡ size_of g
 unfolding with_origins
 size_with_origins o no_bindings = refl
 size_with_origins o (bind t e g) = ap suc (size_with_origins o g)

@@ -2,11 +2,12 @@
 use Rattle.std.specs.Prelude.{ℕ, List}
 use Rattle.chw_types.specs.declared.kind.Kind.{Kind}
 use Rattle.chw_types.specs.TypeTree.{TypeTree}
+use Rattle.chw_types.specs.TypeMoves.{raised}
 use Rattle.chw_terms.specs.declared.program.Program.{Program}
 use Rattle.chw_terms.specs.Evaluated.{put_type_in}
-use Rattle.chw_terms.specs.TermMoves.{shift}
+use Rattle.chw_terms.specs.TermMoves.{shift, rename_alts}
 use Rattle.chw_terms.specs.TermTree.{TermTree, lam, app, ty_lam, ty_app, letrec}
-use Rattle.chw_terms.specs.TermTree.{Group, no_bindings, bind, size_of}
+use Rattle.chw_terms.specs.TermTree.{Group, no_bindings, bind, size_of, case_of, Alts}
 use Rattle.chw_terms.specs.Tidy.{IsTidy}
 use Rattle.chw_typing.specs.Scopes.{AreTermTypes}
 use Rattle.chw_typing.specs.Programs.{IsTyped, AreClosed, setting_of}
@@ -52,3 +53,11 @@ abbrev pub LetTypeAppActs : Type 0
 LetTypeAppActs =
     (g : Group) (e : TermTree) (a : TypeTree)
     → KeepsMeaning (letrec g (ty_app e a)) (ty_app (letrec g e) a)
+
+-- `case (letrec { g } in e) of alts` becomes `letrec { g } in case e of alts`
+abbrev pub CaseLetActs : Type 0
+CaseLetActs =
+    (g : Group) (e : TermTree) (alts : Alts)
+    → KeepsMeaning
+    (letrec g (case_of e (rename_alts alts (raised 0 (size_of g)))))
+    (case_of (letrec g e) alts)

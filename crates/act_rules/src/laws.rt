@@ -1,5 +1,5 @@
 //! Laws of the meaning of rules, each as the contract of a call that does nothing.
-ghost use Rattle.act_rules.specs.Laws.{TypeBetaActs, BetaActs, LetAppActs, LetTypeAppActs};
+ghost use Rattle.act_rules.specs.Laws.{TypeBetaActs, BetaActs, LetAppActs, LetTypeAppActs, CaseLetActs};
 
 use chw_typing::laws::typed_is_sound;
 
@@ -21,6 +21,13 @@ pub fn beta_acts()
 pub fn app_let_acts()
     ensures terms { LetAppActs }
     ensures types { LetTypeAppActs }
+{
+    typed_is_sound();
+}
+
+/// A case of a letrec acts so with the case inside.
+pub fn case_let_acts()
+    ensures { CaseLetActs }
 {
     typed_is_sound();
 }
