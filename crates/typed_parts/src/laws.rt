@@ -1,5 +1,12 @@
 //! The laws, each as the contract of a call that does nothing.
-ghost use Rattle.typed_parts.specs.Laws.{GroupsJoin, SameTypesKeepAlternatives};
+ghost use Rattle.typed_parts.specs.Laws.{RenameOccurringKeepsType, RenamedGroupKept, RenamedAltsKept, GroupsJoin, SameTypesKeepAlternatives};
+
+/// Types are kept where each variable that occurs goes to one of its type.
+pub fn renaming_occurring_keeps_types()
+    ensures term { RenameOccurringKeepsType }
+    ensures group { RenamedGroupKept }
+    ensures alternatives { RenamedAltsKept }
+{}
 
 /// Two groups as one are typed where both are.
 pub fn groups_join()
