@@ -104,7 +104,7 @@ up_variables ρ = same_function (up (λ x. var (ρ x))) (λ x. var (lift ρ x)) 
     here zero = refl
     here (suc x) = refl
 
-up_by_variables : (n : ℕ) (ρ : Renaming) → up_by n (λ x. var (ρ x)) ≡ (λ x. var (lift_by n ρ x))
+pub up_by_variables : (n : ℕ) (ρ : Renaming) → up_by n (λ x. var (ρ x)) ≡ (λ x. var (lift_by n ρ x))
 unfolding up_by
 up_by_variables zero ρ = refl
 up_by_variables (suc n) ρ = ap up (up_by_variables n ρ) ∙ up_variables (lift_by n ρ)
@@ -136,7 +136,7 @@ mutual
   filled_retyped_all o no_terms ρ π = refl
   filled_retyped_all o (term_and e es) ρ π = λ i. term_and (filled_retyped o e ρ π i) (filled_retyped_all o es ρ π i)
 
-  filled_retyped_group : (o : ℕ → TermTree) (g : Group) (ρ π : Renaming) → filled_group o (λ t. t) g (variables_by ρ) (λ x. ty_var (π x)) ≡ with_origins_group o (rename_types_group (rename_group g ρ) π)
+  pub filled_retyped_group : (o : ℕ → TermTree) (g : Group) (ρ π : Renaming) → filled_group o (λ t. t) g (variables_by ρ) (λ x. ty_var (π x)) ≡ with_origins_group o (rename_types_group (rename_group g ρ) π)
   filled_retyped_group o no_bindings ρ π = refl
   filled_retyped_group o (bind t e g) ρ π = λ i. bind (sym (renamed_is t π) i) (filled_retyped o e ρ π i) (filled_retyped_group o g ρ π i)
 

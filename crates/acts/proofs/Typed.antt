@@ -298,3 +298,11 @@ module _ (p : Program) (made_types : List TypeTree) (sound : IsSound (setting_wi
         (typed_acts d inner r l (up_by n σ') (up_by n σ) τ' τ δ0 δ' δ (joined (bound v q) γ') (joined (bound w q) γ)
         (beside_bound l zero h q bnd bs (bound v q) (bound w q) (pattern_acts l base kinds δ0 h.known bs.pattern j ku bnd bs.same bnd_typed s refl hit))))
         (alts_act rest j ku k kt g r l σ' σ τ' τ δ0 δ' δ γ' γ h v w s) a found
+
+  -- the variables of a typed group, in environments that are tied
+  pub group_ties : {kinds : List Kind} {vars : List TypeTree} {k : Kind} {b : Group} → AreBound (setting_with p made_types) kinds (with_more (declared b) vars) k b → AreTermTypes (setting_with p made_types) kinds vars → (r : Levels) → IsLevels p r → (σ' σ : Substitution) (τ' τ : TypeSubstitution) (δ0 δ' δ : TypeTrees) (γ' γ : Thunks) → Tied p R related kinds vars σ' σ τ' τ r δ0 δ' δ γ' γ → Tied p R related kinds (with_more (declared b) vars) (up_by (size_of b) σ') (up_by (size_of b) σ) τ' τ r δ0 δ' δ (in_group (filled_group o' f' b (up_by (size_of b) σ') τ') γ' δ') (in_group (filled_group o f b (up_by (size_of b) σ) τ) γ δ)
+  group_ties {kinds} {vars} {b = b} bs g r l σ' σ τ' τ δ0 δ' δ γ' γ h =
+      let inner = typed_more (setting_with p made_types) kinds (declared b) vars (bound_typed bs) g in
+      let b' = filled_group o' f' b (up_by (size_of b) σ') τ' in
+      let b2 = filled_group o f b (up_by (size_of b) σ) τ in
+      in_group_tied l zero h b (members_act l (map (λ t. closed_type t δ0) (declared b)) b' b2 γ' γ δ' δ (λ i members j u q. sides_of (bound_acts bs inner (later i r) (at_later i l) (up_by (size_of b) σ') (up_by (size_of b) σ) τ' τ δ0 δ' δ (in_group b' γ' δ') (in_group b2 γ δ) (in_group_tied l i h b members) j u q)))

@@ -1,0 +1,3 @@
+pub mod Beta
+pub mod Lets
+pub mod Moves
