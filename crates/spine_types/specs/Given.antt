@@ -1,7 +1,7 @@
 -- What a head is given, and whether it is what the head's type asks for.
-use Rattle.std.specs.Prelude.{List, [], ◌∷◌, ◌++◌, map}
+use Rattle.std.specs.Prelude.{◌≡◌, ℕ, List, [], ◌∷◌, ◌++◌, map, length}
 use Rattle.chw_types.specs.declared.kind.Kind.{Kind}
-use Rattle.chw_types.specs.TypeTree.{TypeTree}
+use Rattle.chw_types.specs.TypeTree.{TypeTree, fun, for_all}
 use Rattle.chw_types.specs.TypeView.{trees_of}
 use Rattle.chw_types.specs.TypeMoves.{sub}
 use Rattle.chw_types.specs.Arguments.{arguments}
@@ -38,3 +38,18 @@ abbrev pub AllAllow : Setting → List Kind → Kind → List TypeTree → Type 
 AllAllow s kinds k [] = Unit {0}
 AllAllow s kinds k (t ∷ ts) =
     ((j : Kind) × HasKind s kinds t j × HasFunctions j k) × AllAllow s kinds k ts
+
+-- neither types nor terms are asked for: no function, and not for all types
+abbrev pub AsksForNone : TypeTree → Type 0
+AsksForNone (fun a b) = ⊥
+AsksForNone (for_all k t) = ⊥
+AsksForNone _ = Unit {0}
+
+-- the arguments are so many types, then so many terms, and perhaps more
+pub record Takes (n m : ℕ) (args : List Arg) : Type 0 where
+  pub types : List TypeTree
+  pub es : List TermTree
+  pub more : List Arg
+  pub are : args ≡ types_then types es ++ more
+  pub on_types : length types ≡ n
+  pub on_terms : length es ≡ m

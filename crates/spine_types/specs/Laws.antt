@@ -1,5 +1,5 @@
 -- What is promised of the types of spines.
-use Rattle.std.specs.Prelude.{◌≡◌, ◌↔◌, ℕ, List, map, length, Some}
+use Rattle.std.specs.Prelude.{◌≡◌, ◌↔◌, ℕ, List, [], map, length, Some}
 use Rattle.chw_types.specs.declared.kind.Kind.{Kind}
 use Rattle.chw_types.specs.Kinds.{KindsOf}
 use Rattle.chw_types.specs.SameTypes.{SameTypes}
@@ -17,7 +17,7 @@ use Rattle.chw_typing.specs.HeadTypes.{for_each, from_each, fields_at}
 use Rattle.chw_typing.specs.Scopes.{Setting, HasKind, AreTermTypes, with_more}
 use Rattle.chw_typing.specs.Programs.{IsSound}
 use Rattle.chw_typing.specs.Typing.{HasType, HasTypeUpTo}
-use Rattle.spine_types.specs.Given.{types_then, AreGiven, AllAllow, IsSaturated}
+use Rattle.spine_types.specs.Given.{types_then, AreGiven, AllAllow, IsSaturated, AsksForNone, Takes}
 use Rattle.spine_types.specs.Spines.{AtArguments}
 
 -- a spine has a type exactly where its head has one that leads to it along the arguments
@@ -76,6 +76,26 @@ PrimAtArguments =
     → length types ≡ length ks → length es ≡ length ps
     → HasType s kinds vars (applied (prim p) (types_then types es)) t
     → IsSaturated s kinds vars ks ps r types es t
+
+-- a spine whose type asks for nothing more: its arguments begin with as many types, and then as
+-- many terms, as the head's type asks for
+abbrev pub SpineIsSaturated : Type 0
+SpineIsSaturated =
+    (s : Setting) (kinds : List Kind) (vars : List TypeTree) (e : TermTree) (ks : List Kind)
+    (ps : List TypeTree) (r : TypeTree) (args : List Arg) (t : TypeTree)
+    → IsSound s → AreTermTypes s kinds vars
+    → HasType s kinds vars e (for_each ks (from_each ps r))
+    → HasType s kinds vars (applied e args) t → AsksForNone t
+    → Takes (length ks) (length ps) args
+
+-- a constructor takes no more than its own
+abbrev pub ConIsSaturated : Type 0
+ConIsSaturated =
+    (s : Setting) (kinds : List Kind) (vars : List TypeTree) (c : ℕ) (it : Constructor)
+    (args : List Arg) (t : TypeTree)
+    → IsSound s → AreTermTypes s kinds vars → con_at s.datas c ≡ Some it
+    → HasType s kinds vars (applied (con c) args) t → AsksForNone t
+    → (a : Takes (length it.it.params) (length it.decl.fields) args) × (a.more ≡ [])
 
 -- a letrec that binds terms from outside to names has its body's type, where the terms have the
 -- names' types, and these have kinds that allow the body's

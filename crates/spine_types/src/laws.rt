@@ -1,5 +1,5 @@
 //! Laws of the types of spines, each as the contract of a call that does nothing.
-ghost use Rattle.spine_types.specs.Laws.{SpineIsTyped, SpineKeepsKind, HeadMayChange, SchemaAtArguments, ConAtArguments, PrimAtArguments, LetOfArguments};
+ghost use Rattle.spine_types.specs.Laws.{SpineIsTyped, SpineKeepsKind, HeadMayChange, SchemaAtArguments, ConAtArguments, PrimAtArguments, SpineIsSaturated, ConIsSaturated, LetOfArguments};
 
 /// A spine has a type exactly where its head has one that leads to it along the arguments.
 pub fn spines_are_typed()
@@ -21,6 +21,12 @@ pub fn saturated_spines()
     ensures schema { SchemaAtArguments }
     ensures con { ConAtArguments }
     ensures prim { PrimAtArguments }
+{}
+
+/// A spine whose type asks for nothing more has all that its head's type asks for.
+pub fn spines_are_saturated()
+    ensures spine { SpineIsSaturated }
+    ensures con { ConIsSaturated }
 {}
 
 /// A letrec that binds arguments has its body's type.
