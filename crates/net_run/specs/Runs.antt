@@ -7,7 +7,8 @@ use Rattle.stimulus.specs.Output.{Lines}
 
 -- behind a past, the latest event first, come these events, and at each of them the outputs have
 -- these bits, which are those at the history up to it
-pub data OutputsAt (flat : Flat) : (past events : List Event) → List (List (List Bool)) → Type 0 where
+pub data OutputsAt (flat : Flat)
+    : (past events : List Event) → List (List (List Bool)) → Type 0 where
   none : (past : List Event) → OutputsAt flat past [] []
   more : (past events : List Event) (event : Event) (outputs : List (List Bool))
       (others : List (List (List Bool))) → ReadValues flat (event ∷ past) flat.outputs outputs
