@@ -10,7 +10,7 @@ use Rattle.chw_terms.specs.Evaluated.{evaluated, evaluated_in, evaluated_in_all,
 use Rattle.chw_terms.specs.TermMoves.{rename, rename_all, rename_group, rename_alts, Substitution, up, up_by, under_type, sub, sub_all, sub_group, sub_alts}
 use Rattle.chw_terms.specs.TermTree.{TermTree, var, global, made, lam, app, ty_lam, ty_app, letrec, con, prim, lit, vec_lit, case_of, Terms, no_terms, term_and, Group, no_bindings, bind, Alts, no_alts, alt, binders, size_of}
 use Rattle.chw_terms.specs.TypesMoved.{rename_types, rename_types_all, rename_types_group, rename_types_alts, sub_types, sub_types_all, sub_types_group, sub_types_alts}
-use Rattle.chw_terms.proofs.Renamed.{types_ids}
+use Rattle.chw_terms.proofs.Renamed.{types_ids, types_ids_alts}
 use Rattle.chw_terms.proofs.TypesEvaluated.{evaluated_put, put_evaluated}
 use Rattle.type_laws.proofs.PutSame.{renamed_is}
 use Rattle.chw_typing.specs.Scopes.{HasKind, declared}
@@ -104,7 +104,7 @@ up_variables ρ = same_function (up (λ x. var (ρ x))) (λ x. var (lift ρ x)) 
     here zero = refl
     here (suc x) = refl
 
-up_by_variables : (n : ℕ) (ρ : Renaming) → up_by n (λ x. var (ρ x)) ≡ (λ x. var (lift_by n ρ x))
+pub up_by_variables : (n : ℕ) (ρ : Renaming) → up_by n (λ x. var (ρ x)) ≡ (λ x. var (lift_by n ρ x))
 unfolding up_by
 up_by_variables zero ρ = refl
 up_by_variables (suc n) ρ = ap up (up_by_variables n ρ) ∙ up_variables (lift_by n ρ)
@@ -136,7 +136,7 @@ mutual
   filled_retyped_all o no_terms ρ π = refl
   filled_retyped_all o (term_and e es) ρ π = λ i. term_and (filled_retyped o e ρ π i) (filled_retyped_all o es ρ π i)
 
-  filled_retyped_group : (o : ℕ → TermTree) (g : Group) (ρ π : Renaming) → filled_group o (λ t. t) g (variables_by ρ) (λ x. ty_var (π x)) ≡ with_origins_group o (rename_types_group (rename_group g ρ) π)
+  pub filled_retyped_group : (o : ℕ → TermTree) (g : Group) (ρ π : Renaming) → filled_group o (λ t. t) g (variables_by ρ) (λ x. ty_var (π x)) ≡ with_origins_group o (rename_types_group (rename_group g ρ) π)
   filled_retyped_group o no_bindings ρ π = refl
   filled_retyped_group o (bind t e g) ρ π = λ i. bind (sym (renamed_is t π) i) (filled_retyped o e ρ π i) (filled_retyped_group o g ρ π i)
 
@@ -147,6 +147,9 @@ mutual
 -- no type variable moved
 pub filled_renamed : (o : ℕ → TermTree) (e : TermTree) (ρ : Renaming) → filled o (λ t. t) e (variables_by ρ) ty_var ≡ with_origins o (rename e ρ)
 filled_renamed o e ρ = filled_retyped o e ρ (λ x. x) ∙ ap (with_origins o) (types_ids (rename e ρ))
+
+pub filled_renamed_alts : (o : ℕ → TermTree) (alts : Alts) (ρ : Renaming) → filled_alts o (λ t. t) alts (variables_by ρ) ty_var ≡ with_origins_alts o (rename_alts alts ρ)
+filled_renamed_alts o alts ρ = filled_retyped_alts o alts ρ (λ x. x) ∙ ap (with_origins_alts o) (types_ids_alts (rename_alts alts ρ))
 
 mutual
   unfolding filled rename rename_types sub_types evaluated_in with_origins

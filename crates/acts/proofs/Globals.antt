@@ -1,6 +1,6 @@
 -- Definitions act as themselves, and so does every typed term.
 use Rattle.std.specs.Prelude.{slice_get}
-use Rattle.std.proofs.Common.{◌≡◌, ℕ, suc, zero, List, [], ◌∷◌, reverse, Some, refl, sym, ap, ◌∙◌, subst}
+use Rattle.std.proofs.Common.{◌≡◌, ◌⊎◌, inl, inr, ℕ, suc, zero, List, [], ◌∷◌, reverse, Some, refl, sym, ap, ◌∙◌, subst}
 use Rattle.chw_types.specs.declared.kind.Kind.{Kind}
 use Rattle.chw_types.specs.TypeTree.{TypeTree, ty_var, TypeTrees, no_types, type_and}
 use Rattle.chw_types.specs.TypeMoves.{Renaming, Substitution, sub, up_by, put_at}
@@ -8,30 +8,30 @@ use Rattle.chw_types.proofs.SameLaws.{same_turned}
 use Rattle.chw_terms.specs.declared.program.Def.{Def}
 use Rattle.chw_terms.specs.declared.program.Program.{Program}
 use Rattle.chw_terms.specs.Evaluated.{evaluated, put_type_in}
-use Rattle.chw_terms.specs.TermMoves.{rename}
-use Rattle.chw_terms.specs.TermTree.{TermTree, var, global, made, lam, app, ty_lam, ty_app, letrec, con, prim, lit, vec_lit, case_of, Terms, no_terms, term_and, Group, no_bindings, bind, Alts, no_alts, alt}
-use Rattle.chw_terms.proofs.Renamed.{rename_ids}
-use Rattle.chw_typing.specs.Scopes.{HasKind, IsTermType, AreTermTypes}
+use Rattle.chw_terms.specs.TermMoves.{rename, rename_group, up_by as up_terms_by}
+use Rattle.chw_terms.specs.TermTree.{TermTree, var, global, made, lam, app, ty_lam, ty_app, letrec, con, prim, lit, vec_lit, case_of, Terms, no_terms, term_and, Group, no_bindings, bind, Alts, no_alts, alt, size_of}
+use Rattle.chw_terms.proofs.Renamed.{rename_ids, rename_ids_group, types_ids_group, lift_by_none}
+use Rattle.chw_typing.specs.Scopes.{HasKind, IsTermType, AreTermTypes, with_more, declared}
 use Rattle.chw_typing.specs.Programs.{AreClosed, IsSound, IsTyped, setting_of}
-use Rattle.chw_typing.specs.Typing.{HasType, HasTypeUpTo}
+use Rattle.chw_typing.specs.Typing.{HasType, HasTypeUpTo, AreBound}
 use Rattle.chw_typing.proofs.EvaluatedTypes.{kind_evaluated}
 use Rattle.chw_typing.proofs.Kinded.{term_type, type_kinded}
 use Rattle.chw_typing.proofs.Lists.{found_in_map}
 use Rattle.chw_terms.proofs.TypesEvaluated.{evaluated_twice}
-use Rattle.chw_meaning.specs.Values.{Thunks, none, closed_type}
+use Rattle.chw_meaning.specs.Values.{Thunks, none, closed_type, in_group}
 use Rattle.chw_meaning.specs.Eval.{Evals, e_global}
 use Rattle.chw_meaning.proofs.Once.{same_some}
 use Rattle.acts.specs.Levels.{Levels, term_runs, term_has}
 use Rattle.acts.specs.Acts.{acts_from}
-use Rattle.acts.specs.Terms.{TiedBy, Kinded, ActsAs, with_origins, with_origins_all, with_origins_group, with_origins_alts, setting_with}
-use Rattle.acts.proofs.Filled.{filled, filled_renamed, filled_evaluated, variables_by, KeepsValues, Carries, itself_keeps, evaluated_keeps}
+use Rattle.acts.specs.Terms.{TiedBy, Kinded, ActsAs, with_origins, with_origins_all, with_origins_group, with_origins_alts, setting_with, LooksAlike}
+use Rattle.acts.proofs.Filled.{filled, filled_renamed, filled_evaluated, variables_by, KeepsValues, Carries, itself_keeps, evaluated_keeps, filled_group, filled_retyped_group, up_by_variables}
 use Rattle.acts.proofs.Closing.{closed_kind, closed_stays}
 use Rattle.acts.proofs.Forms.{TermsAct}
 use Rattle.acts.proofs.HeadsAct.{heads_act}
 use Rattle.acts.proofs.Levels.{at_end, IsLevels, from_turns, more}
-use Rattle.acts.proofs.Names.{Relation, Lasts, named_by}
+use Rattle.acts.proofs.Names.{Relation, Lasts, named_by, Named, Variables}
 use Rattle.acts.proofs.SameActs.{as_same, same_acts}
-use Rattle.acts.proofs.Typed.{GlobalsAct, MadeAct, sound_without, typed_acts}
+use Rattle.acts.proofs.Typed.{GlobalsAct, MadeAct, sound_without, typed_acts, group_ties}
 
 mutual
   unfolding with_origins
@@ -72,7 +72,7 @@ filled_itself e = filled_renamed made e (λ x. x) ∙ origins_itself (rename e (
 abbrev pub Any : TypeTrees → TypeTrees → Type 0
 Any δ' δ = Unit {0}
 
-none_made : (p : Program) (o' o : ℕ → TermTree) → MadeAct p [] o' o Any
+pub none_made : (p : Program) (o' o : ℕ → TermTree) → MadeAct p [] o' o Any
 none_made p o' o n m u γ' γ δ' δ e = cc
 
 none_carries : (τ : Substitution) (δ δ0 : TypeTrees) → Carries [] τ δ δ0
@@ -82,10 +82,10 @@ pub no_names : (p : Program) (r : Levels) (ρ' ρ : Renaming) (δ : TypeTrees) (
 no_names p r ρ' ρ δ γ' γ x t e = cc
 
 -- no terms but variables
-abbrev Unrelated : Relation
+abbrev pub Unrelated : Relation
 Unrelated r t e' e δ' δ γ' γ = ⊥
 
-unrelated_lasts : (p : Program) → Lasts p Unrelated
+pub unrelated_lasts : (p : Program) → Lasts p Unrelated
 unrelated_lasts p =
     record {
       later_too = λ r l i t e' e δ' δ γ' γ h. absurd h;
@@ -107,7 +107,7 @@ closed_acts p sound {e} {t} d r l globals γ' γ δ' δ =
     (subst (λ b. TermsAct p r (closed_type t no_types) b γ' δ' b γ δ) (filled_itself e) acts)
 
 -- of a type up to naturals
-up_to_acts : (p : Program) → IsSound (setting_of p) → {e : TermTree} {t : TypeTree} → HasTypeUpTo (setting_of p) [] [] e t → IsTermType (setting_of p) [] t → (r : Levels) → IsLevels p r → GlobalsAct p r → (γ' γ : Thunks) (δ' δ : TypeTrees) → TermsAct p r t e γ' δ' e γ δ
+pub up_to_acts : (p : Program) → IsSound (setting_of p) → {e : TermTree} {t : TypeTree} → HasTypeUpTo (setting_of p) [] [] e t → IsTermType (setting_of p) [] t → (r : Levels) → IsLevels p r → GlobalsAct p r → (γ' γ : Thunks) (δ' δ : TypeTrees) → TermsAct p r t e γ' δ' e γ δ
 up_to_acts p sound {e} d k r l globals γ' γ δ' δ =
     same_acts sound l (as_same (type_kinded d.has sound tt).has k.has (same_turned d.same)) (term_runs p e γ' δ') (term_has p e γ δ) (closed_acts p sound d.has r l globals γ' γ δ' δ)
 
@@ -173,3 +173,31 @@ put_type_acts p sound typed types o {kinds} {vars} {e} {t} {a} {j} ρ' ρ closed
 
     put_filled : Carries (j ∷ kinds) (put_at 0 a) δ (type_and c δ)
     put_filled = put_carries p kinds δ a j known
+
+-- variables that both sides keep
+unnamed : (p : Program) (r : Levels) (vars : List TypeTree) (δ : TypeTrees) (γ' γ : Thunks) → Named p Unrelated r vars (variables_by (λ x. x)) (variables_by (λ x. x)) δ δ δ γ' γ → TiedBy p r vars (λ x. x) (λ x. x) δ γ' γ
+unnamed p r vars δ γ' γ h x t e = look (h x t e)
+  where
+    look : Variables p r (closed_type t δ) (var x) (var x) γ' γ ⊎ ⊥ → LooksAlike p r (closed_type t δ) x x γ' γ
+    look (inl v) =
+        let first : v.first ≡ x = let i = v.is_first in cc in
+        let second : v.second ≡ x = let i = v.is_second in cc in
+        subst (λ y. LooksAlike p r (closed_type t δ) y x γ' γ) first (subst (λ y. LooksAlike p r (closed_type t δ) v.first y γ' γ) second v.look)
+    look (inr bad) = absurd bad
+
+-- two environments of the same variables stay so in a typed group
+pub group_tied : (p : Program) → IsSound (setting_of p) → IsTyped p → (types : List TypeTree) (o : ℕ → TermTree) → AreClosed (setting_of p) types → ((m : ℕ) (u : TypeTree) → slice_get types m ≡ Some u → HasTypeUpTo (setting_of p) [] [] (o m) u) → {kinds : List Kind} (vars : List TypeTree) {k : Kind} {b : Group} → AreTermTypes (setting_with p types) kinds vars → AreBound (setting_with p types) kinds (with_more (declared b) vars) k b → (n : ℕ) (δ : TypeTrees) (γ' γ : Thunks) → Kinded p kinds δ → TiedBy p (acts_from p n) vars (λ x. x) (λ x. x) δ γ' γ → TiedBy p (acts_from p n) (with_more (declared b) vars) (λ x. x) (λ x. x) δ (in_group (with_origins_group o b) γ' δ) (in_group (with_origins_group o b) γ δ)
+group_tied p sound typed types o closed has {kinds} vars {b = b} g bs n δ γ' γ known names =
+    let r = acts_from p n in
+    let σ = variables_by (λ x. x) in
+    let h = group_ties p types (sound_with p types sound closed) o o (λ t. t) (λ t. t) itself_keeps itself_keeps Any (λ c δ' δ h. tt) (made_typed p sound typed types o closed has) (heads_act p sound) Unrelated (unrelated_lasts p) (λ r l t e' e δ' δ γ' γ h. absurd h) bs g r (from_turns p n) σ σ ty_var ty_var δ δ δ γ' γ
+    (record { known = known; first = evaluated_at p kinds δ known; second = evaluated_at p kinds δ known; types = tt; names = named_by p Unrelated r vars (λ x. x) (λ x. x) δ δ δ γ' γ names; globals = globals_from p sound typed n }) in
+    unnamed p r (with_more (declared b) vars) δ (in_group (with_origins_group o b) γ' δ) (in_group (with_origins_group o b) γ δ)
+    (subst (λ c. Named p Unrelated r (with_more (declared b) vars) σ σ δ δ δ (in_group c γ' δ) (in_group c γ δ)) group
+    (subst (λ υ. Named p Unrelated r (with_more (declared b) vars) υ υ δ δ δ (in_group (filled_group o (λ t. t) b υ ty_var) γ' δ) (in_group (filled_group o (λ t. t) b υ ty_var) γ δ)) stays h.names))
+  where
+    stays : up_terms_by (size_of b) (variables_by (λ x. x)) ≡ variables_by (λ x. x)
+    stays = up_by_variables (size_of b) (λ x. x) ∙ ap variables_by (lift_by_none (size_of b))
+
+    group : filled_group o (λ t. t) b (variables_by (λ x. x)) ty_var ≡ with_origins_group o b
+    group = filled_retyped_group o b (λ x. x) (λ x. x) ∙ ap (with_origins_group o) (types_ids_group (rename_group b (λ x. x)) ∙ rename_ids_group b)

@@ -141,14 +141,14 @@ pub record SideOf (p : Program) (r : Levels) (i : ℕ) (t : TypeTree) (g' : Grou
 sides_of : {p : Program} {r : Levels} {i : ℕ} {t : TypeTree} {g' g : Group} {γ' γ : Thunks} {δ' δ : TypeTrees} → SideOf p r i t g' (in_group g' γ' δ') δ' g (in_group g γ δ) δ → SidesAct p r i t g' γ' δ' g γ δ
 sides_of s = record { first = s.first; second = s.second; has_first = s.has_first; has_second = s.has_second; acts = s.acts }
 
+pub no_alts_filled : (o : ℕ → TermTree) (f : TypeTree → TypeTree) (alts : Alts) (σ : Substitution) (τ : TypeSubstitution) → filled_alts o f alts σ τ ≡ no_alts → alts ≡ no_alts
+unfolding filled
+no_alts_filled o f no_alts σ τ e = refl
+no_alts_filled o f (alt q t more) σ τ e = cc
+
 module _ (p : Program) (made_types : List TypeTree) (sound : IsSound (setting_with p made_types)) (o' o : ℕ → TermTree) (f' f : TypeTree → TypeTree) (keeps' : KeepsValues f') (keeps : KeepsValues f) (R : TypeTrees → TypeTrees → Type 0) (grows : (c : TypeTree) (δ' δ : TypeTrees) → R δ' δ → R (type_and c δ') (type_and c δ)) (mades : MadeAct p made_types o' o R) (heads : HeadsAct p) (related : Relation) (lasts : Lasts p related) (relates : (r : Levels) → IsLevels p r → (t : TypeTree) (e' e : TermTree) (δ' δ : TypeTrees) (γ' γ : Thunks) → related r t e' e δ' δ γ' γ → TermsAct p r t (with_origins o' e') γ' δ' (with_origins o e) γ δ) where
   base : IsSound (setting_of p)
   base = sound_without p made_types sound
-
-  no_alts_filled : (o : ℕ → TermTree) (f : TypeTree → TypeTree) (alts : Alts) (σ : Substitution) (τ : TypeSubstitution) → filled_alts o f alts σ τ ≡ no_alts → alts ≡ no_alts
-  unfolding filled
-  no_alts_filled o f no_alts σ τ e = refl
-  no_alts_filled o f (alt q t more) σ τ e = cc
 
   -- the same with other names
   with_names : {kinds : List Kind} {vars : List TypeTree} {σ' σ : Substitution} {τ' τ : TypeSubstitution} {r : Levels} {δ0 δ' δ : TypeTrees} {γ' γ : Thunks} → IsLevels p r → (i : ℕ) → Tied p R related kinds vars σ' σ τ' τ r δ0 δ' δ γ' γ → (new : List TypeTree) (υ' υ : Substitution) (ε' ε : Thunks) → Named p related (later i r) new υ' υ δ0 δ' δ ε' ε → Tied p R related kinds new υ' υ τ' τ (later i r) δ0 δ' δ ε' ε
@@ -156,7 +156,7 @@ module _ (p : Program) (made_types : List TypeTree) (sound : IsSound (setting_wi
       record { known = h.known; first = h.first; second = h.second; types = h.types; names = names; globals = λ d it γ' γ δ' δ e. runs_later l i it.ty (term_runs p (global d) γ' δ') (term_has p (global d) γ δ) (h.globals d it γ' γ δ' δ e) }
 
   -- the same with fewer turns
-  tied_falls : {kinds : List Kind} {vars : List TypeTree} {σ' σ : Substitution} {τ' τ : TypeSubstitution} {r : Levels} {δ0 δ' δ : TypeTrees} {γ' γ : Thunks} → IsLevels p r → (i : ℕ) → Tied p R related kinds vars σ' σ τ' τ r δ0 δ' δ γ' γ → Tied p R related kinds vars σ' σ τ' τ (later i r) δ0 δ' δ γ' γ
+  pub tied_falls : {kinds : List Kind} {vars : List TypeTree} {σ' σ : Substitution} {τ' τ : TypeSubstitution} {r : Levels} {δ0 δ' δ : TypeTrees} {γ' γ : Thunks} → IsLevels p r → (i : ℕ) → Tied p R related kinds vars σ' σ τ' τ r δ0 δ' δ γ' γ → Tied p R related kinds vars σ' σ τ' τ (later i r) δ0 δ' δ γ' γ
   tied_falls {vars = vars} {σ' = σ'} {σ = σ} {r = r} {δ0 = δ0} {δ' = δ'} {δ = δ} {γ' = γ'} {γ = γ} l i h = with_names l i h vars σ' σ γ' γ (named_later p related lasts r l i vars σ' σ δ0 δ' δ γ' γ h.names)
 
   -- under a lambda
@@ -201,6 +201,27 @@ module _ (p : Program) (made_types : List TypeTree) (sound : IsSound (setting_wi
       subst (λ e'. TermsAct p r t (with_origins o' e') γ' δ' (with_origins o e) γ δ) (sym v.is_first)
       (subst (λ e. TermsAct p r t (var v.first) γ' δ' (with_origins o e) γ δ) (sym v.is_second) (var_acts l t v.first v.second γ' γ δ' δ v.look))
   name_acts r l t e' e δ' δ γ' γ (inr k) = relates r l t e' e δ' δ γ' γ k
+
+  -- a case of anything that acts so, where the alternatives act so
+  pub chosen_acts : {kinds : List Kind} {vars bnd : List TypeTree} {q : Pattern} {u : TypeTree} {j : Kind} → IsLookedAt u → HasKind (setting_with p made_types) kinds u j → Binds (setting_with p made_types) kinds u q bnd → (r : Levels) → IsLevels p r → (σ' σ : Substitution) (τ' τ : TypeSubstitution) (δ0 δ' δ : TypeTrees) (γ' γ : Thunks) → Tied p R related kinds vars σ' σ τ' τ r δ0 δ' δ γ' γ → (t : TypeTree) (s' s a' a : TermTree) (more' more : Alts) → (more' ≡ no_alts → more ≡ no_alts) → (more ≡ no_alts → more' ≡ no_alts) → TermsAct p r (closed_type u δ0) s' γ' δ' s γ δ → ((i : ℕ) (ε' ε : Thunks) → Tied p R related kinds (with_more bnd vars) (up_by (binders q) σ') (up_by (binders q) σ) τ' τ (later i r) δ0 δ' δ ε' ε → TermsAct p (later i r) t a' ε' δ' a ε δ) → ((i : ℕ) (v w : Value) → Seen p (later i r) (closed_type u δ0) v w → (a : Arm) → arm_of v more' ≡ Some a → ArmOf p (later i r) t more w γ' δ' γ δ a) → TermsAct p r t (case_of s' (alt q a' more')) γ' δ' (case_of s (alt q a more)) γ δ
+  unfolding sub
+  chosen_acts {kinds} {vars} {bnd} {q} {u} {j} looked ku bs r l σ' σ τ' τ δ0 δ' δ γ' γ h t s' s a' a more' more one_side other_side scrutinee body rest =
+      let bnd_typed = typed_without p made_types kinds bnd bs.typed in
+      let n = binders q in
+      let thunk = thunk_acts l (closed_type u δ0) s' s γ' γ δ' δ scrutinee in
+      case_acts l (closed_type u δ0) t q s' s a' a more' more γ' γ δ' δ (looked_closed u δ0 looked) one_side other_side scrutinee
+      (λ c i same only. body zero (fields_from zero i (closed s' γ' δ') γ') (fields_from zero i (closed s γ δ) γ)
+      (beside_fields l h q bnd bs i (closed s' γ' δ') (closed s γ δ)
+      (only_fields l base kinds δ0 h.known bs.pattern j ku bnd bs.same bnd_typed (closed s' γ' δ') (closed s γ δ) thunk c i same only)))
+      (λ plain. body zero γ' γ
+      (with_names l zero h (with_more bnd vars) (up_by n σ') (up_by n σ) γ' γ (nothing_bound p related r bs.pattern plain bnd vars bs.same σ' σ δ0 δ' δ γ' γ h.names)))
+      (λ i v set arm asked found.
+      let see = seen u δ0 v set looked asked in
+      let one = alt_acts t q a' a more' more γ' γ δ' δ v see.0 (matches_same see.2 q)
+      (λ hit. body (suc i) (joined (bound v q) γ') (joined (bound see.0 q) γ)
+      (beside_bound l (suc i) h q bnd bs (bound v q) (bound see.0 q) (pattern_acts (at_later (suc i) l) base kinds δ0 h.known bs.pattern j ku bnd bs.same bnd_typed see.2 refl hit)))
+      (rest (suc i) v see.0 see.2) arm found in
+      record { value = see.0; has_value = see.1; second = one.second; is_arm = one.is_arm; acts = one.acts })
 
   mutual
     unfolding sub filled
@@ -251,26 +272,13 @@ module _ (p : Program) (made_types : List TypeTree) (sound : IsSound (setting_wi
         vec_acts l (nat_lit (count es)) (closed_type t δ0) (f' (sub t τ')) (f (sub t τ)) (filled_all o' f' es σ' τ') (filled_all o f es σ τ) γ' γ δ' δ (elements_act all kt.has g r l σ' σ τ' τ δ0 δ' δ γ' γ h)
     typed_acts {kinds} {vars} (h_case {bound = bnd} {q = q} {more = more} {u = u} {t = t} {e = e} {f = a} {j = j} {k = k} d looked ku bs da kt fs alts hidden) g r l σ' σ τ' τ δ0 δ' δ γ' γ h =
         let inner = typed_more (setting_with p made_types) kinds bnd vars bs.typed g in
-        let bnd_typed = typed_without p made_types kinds bnd bs.typed in
         let n = binders q in
-        let scrutinee = typed_acts d g r l σ' σ τ' τ δ0 δ' δ γ' γ h in
-        let thunk = thunk_acts l (closed_type u δ0) (filled o' f' e σ' τ') (filled o f e σ τ) γ' γ δ' δ scrutinee in
-        case_acts l (closed_type u δ0) (closed_type t δ0) q (filled o' f' e σ' τ') (filled o f e σ τ) (filled o' f' a (up_by n σ') τ') (filled o f a (up_by n σ) τ) (filled_alts o' f' more σ' τ') (filled_alts o f more σ τ) γ' γ δ' δ (looked_closed u δ0 looked)
+        chosen_acts looked ku bs r l σ' σ τ' τ δ0 δ' δ γ' γ h (closed_type t δ0) (filled o' f' e σ' τ') (filled o f e σ τ) (filled o' f' a (up_by n σ') τ') (filled o f a (up_by n σ) τ) (filled_alts o' f' more σ' τ') (filled_alts o f more σ τ)
         (λ e. ap (λ alts. filled_alts o f alts σ τ) (no_alts_filled o' f' more σ' τ' e))
         (λ e. ap (λ alts. filled_alts o' f' alts σ' τ') (no_alts_filled o f more σ τ e))
-        scrutinee
-        (λ c i same only. typed_acts da inner r l (up_by n σ') (up_by n σ) τ' τ δ0 δ' δ (fields_from zero i (closed (filled o' f' e σ' τ') γ' δ') γ') (fields_from zero i (closed (filled o f e σ τ) γ δ) γ)
-        (beside_fields l h q bnd bs i (closed (filled o' f' e σ' τ') γ' δ') (closed (filled o f e σ τ) γ δ)
-        (only_fields l base kinds δ0 h.known bs.pattern j ku bnd bs.same bnd_typed (closed (filled o' f' e σ' τ') γ' δ') (closed (filled o f e σ τ) γ δ) thunk c i same only)))
-        (λ plain. typed_acts da inner r l (up_by n σ') (up_by n σ) τ' τ δ0 δ' δ γ' γ
-        (with_names l zero h (with_more bnd vars) (up_by n σ') (up_by n σ) γ' γ (nothing_bound p related r bs.pattern plain bnd vars bs.same σ' σ δ0 δ' δ γ' γ h.names)))
-        (λ i v set arm asked found.
-        let s = seen u δ0 v set looked asked in
-        let one = alt_acts (closed_type t δ0) q (filled o' f' a (up_by n σ') τ') (filled o f a (up_by n σ) τ) (filled_alts o' f' more σ' τ') (filled_alts o f more σ τ) γ' γ δ' δ v s.0 (matches_same s.2 q)
-        (λ hit. typed_acts da inner (later (suc i) r) (at_later (suc i) l) (up_by n σ') (up_by n σ) τ' τ δ0 δ' δ (joined (bound v q) γ') (joined (bound s.0 q) γ)
-        (beside_bound l (suc i) h q bnd bs (bound v q) (bound s.0 q) (pattern_acts (at_later (suc i) l) base kinds δ0 h.known bs.pattern j ku bnd bs.same bnd_typed s.2 refl hit)))
-        (alts_act alts j ku k kt g (later (suc i) r) (at_later (suc i) l) σ' σ τ' τ δ0 δ' δ γ' γ (tied_falls l (suc i) h) v s.0 s.2) arm found in
-        record { value = s.0; has_value = s.1; second = one.second; is_arm = one.is_arm; acts = one.acts })
+        (typed_acts d g r l σ' σ τ' τ δ0 δ' δ γ' γ h)
+        (λ i ε' ε tied. typed_acts da inner (later i r) (at_later i l) (up_by n σ') (up_by n σ) τ' τ δ0 δ' δ ε' ε tied)
+        (λ i v w see. alts_act alts j ku k kt g (later i r) (at_later i l) σ' σ τ' τ δ0 δ' δ γ' γ (tied_falls l i h) v w see)
 
     bound_acts : {kinds : List Kind} {vars : List TypeTree} {k : Kind} {b : Group} → AreBound (setting_with p made_types) kinds vars k b → AreTermTypes (setting_with p made_types) kinds vars → (r : Levels) → IsLevels p r → (σ' σ : Substitution) (τ' τ : TypeSubstitution) (δ0 δ' δ : TypeTrees) (γ' γ : Thunks) → Tied p R related kinds vars σ' σ τ' τ r δ0 δ' δ γ' γ → (i : ℕ) (u : TypeTree) → slice_get (map (λ t. closed_type t δ0) (declared b)) i ≡ Some u → SideOf p r i u (filled_group o' f' b σ' τ') γ' δ' (filled_group o f b σ τ) γ δ
     bound_acts none_bound g r l σ' σ τ' τ δ0 δ' δ γ' γ h i v q = cc
@@ -287,7 +295,7 @@ module _ (p : Program) (made_types : List TypeTree) (sound : IsSound (setting_wi
     elements_act (have_and {e = e} d x more) kt g r l σ' σ τ' τ δ0 δ' δ γ' γ h =
         (same_acts base l (closed_same p base δ0 h.known (type_kinded d sound g).has kt (same_turned x)) (term_runs p (filled o' f' e σ' τ') γ' δ') (term_has p (filled o f e σ τ) γ δ) (typed_acts d g r l σ' σ τ' τ δ0 δ' δ γ' γ h), elements_act more kt g r l σ' σ τ' τ δ0 δ' δ γ' γ h)
 
-    alts_act : {kinds : List Kind} {vars : List TypeTree} {u t : TypeTree} {alts : Alts} → AllGive (setting_with p made_types) kinds vars u t alts → (j : Kind) → HasKind (setting_of p) kinds u j → (k : Kind) → HasKind (setting_of p) kinds t k → AreTermTypes (setting_with p made_types) kinds vars → (r : Levels) → IsLevels p r → (σ' σ : Substitution) (τ' τ : TypeSubstitution) (δ0 δ' δ : TypeTrees) (γ' γ : Thunks) → Tied p R related kinds vars σ' σ τ' τ r δ0 δ' δ γ' γ → (v w : Value) → Seen p r (closed_type u δ0) v w → (a : Arm) → arm_of v (filled_alts o' f' alts σ' τ') ≡ Some a → ArmOf p r (closed_type t δ0) (filled_alts o f alts σ τ) w γ' δ' γ δ a
+    pub alts_act : {kinds : List Kind} {vars : List TypeTree} {u t : TypeTree} {alts : Alts} → AllGive (setting_with p made_types) kinds vars u t alts → (j : Kind) → HasKind (setting_of p) kinds u j → (k : Kind) → HasKind (setting_of p) kinds t k → AreTermTypes (setting_with p made_types) kinds vars → (r : Levels) → IsLevels p r → (σ' σ : Substitution) (τ' τ : TypeSubstitution) (δ0 δ' δ : TypeTrees) (γ' γ : Thunks) → Tied p R related kinds vars σ' σ τ' τ r δ0 δ' δ γ' γ → (v w : Value) → Seen p r (closed_type u δ0) v w → (a : Arm) → arm_of v (filled_alts o' f' alts σ' τ') ≡ Some a → ArmOf p r (closed_type t δ0) (filled_alts o f alts σ τ) w γ' δ' γ δ a
     alts_act none_give j ku k kt g r l σ' σ τ' τ δ0 δ' δ γ' γ h v w s a found = cc
     alts_act {kinds} {vars} (give_and {bound = bnd} {t = t} {q = q} {e = e} {more = more} bs d x rest) j ku k kt g r l σ' σ τ' τ δ0 δ' δ γ' γ h v w s a found =
         let inner = typed_more (setting_with p made_types) kinds bnd vars bs.typed g in
@@ -298,3 +306,11 @@ module _ (p : Program) (made_types : List TypeTree) (sound : IsSound (setting_wi
         (typed_acts d inner r l (up_by n σ') (up_by n σ) τ' τ δ0 δ' δ (joined (bound v q) γ') (joined (bound w q) γ)
         (beside_bound l zero h q bnd bs (bound v q) (bound w q) (pattern_acts l base kinds δ0 h.known bs.pattern j ku bnd bs.same bnd_typed s refl hit))))
         (alts_act rest j ku k kt g r l σ' σ τ' τ δ0 δ' δ γ' γ h v w s) a found
+
+  -- the variables of a typed group, in environments that are tied
+  pub group_ties : {kinds : List Kind} {vars : List TypeTree} {k : Kind} {b : Group} → AreBound (setting_with p made_types) kinds (with_more (declared b) vars) k b → AreTermTypes (setting_with p made_types) kinds vars → (r : Levels) → IsLevels p r → (σ' σ : Substitution) (τ' τ : TypeSubstitution) (δ0 δ' δ : TypeTrees) (γ' γ : Thunks) → Tied p R related kinds vars σ' σ τ' τ r δ0 δ' δ γ' γ → Tied p R related kinds (with_more (declared b) vars) (up_by (size_of b) σ') (up_by (size_of b) σ) τ' τ r δ0 δ' δ (in_group (filled_group o' f' b (up_by (size_of b) σ') τ') γ' δ') (in_group (filled_group o f b (up_by (size_of b) σ) τ) γ δ)
+  group_ties {kinds} {vars} {b = b} bs g r l σ' σ τ' τ δ0 δ' δ γ' γ h =
+      let inner = typed_more (setting_with p made_types) kinds (declared b) vars (bound_typed bs) g in
+      let b' = filled_group o' f' b (up_by (size_of b) σ') τ' in
+      let b2 = filled_group o f b (up_by (size_of b) σ) τ in
+      in_group_tied l zero h b (members_act l (map (λ t. closed_type t δ0) (declared b)) b' b2 γ' γ δ' δ (λ i members j u q. sides_of (bound_acts bs inner (later i r) (at_later i l) (up_by (size_of b) σ') (up_by (size_of b) σ) τ' τ δ0 δ' δ (in_group b' γ' δ') (in_group b2 γ δ) (in_group_tied l i h b members) j u q)))

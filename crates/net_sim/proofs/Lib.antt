@@ -15,3 +15,5 @@ pub mod Stepped
 pub mod Kept
 pub mod First
 pub mod Listing
+pub mod Domains
+pub mod OutputBits

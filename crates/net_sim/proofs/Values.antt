@@ -22,7 +22,7 @@ use Rattle.net_sim.specs.Tables.{value_in, values_in}
 use Rattle.net_sim.proofs.Cells.{awaits_all, cell_fits, driven_once, reads_wires}
 
 -- some wires have the bits of the table, if each does
-readings : (flat : Flat) (h : List Event) (table : List (List Bool)) (wires : List WireId)
+pub readings : (flat : Flat) (h : List Event) (table : List (List Bool)) (wires : List WireId)
     → ((k : ℕ) (v : WireId) → slice_get wires k ≡ Some v → NetValue flat h v.number (value_in table v.number))
     → ReadValues flat h wires (values_in table wires)
 readings flat h table [] each = read_none h

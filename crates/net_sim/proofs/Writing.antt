@@ -1,19 +1,15 @@
 -- Cells that write their items one after another.
-use Rattle.std.proofs.Common.{◌≡◌, ◌≢◌, ℕ, suc, zero, ◌+◌, ◌<◌, ◌≤◌, Bool, true, false, List, length, map, set, Some, slice_get, ◌⊎◌, inl, inr, refl, sym, ap, subst, ◌∙◌, arith, add-one}
+use Rattle.std.proofs.Common.{◌≡◌, ◌≢◌, ℕ, suc, zero, ◌+◌, ◌<◌, ◌≤◌, Bool, List, length, map, set, Some, slice_get, ◌⊎◌, inl, inr, refl, sym, ap, subst, ◌∙◌, arith, add-one}
 use Rattle.std.specs.Prelude.{slice_index, slice_index_or}
 use Rattle.std.proofs.lemmas.Bool.{cases_lt}
 use Rattle.std.proofs.lemmas.List.{get_or-set_other, get_or-set_same}
-use Rattle.chw_clock.specs.Histories.{ticks}
-use Rattle.chw_clock.specs.declared.event.Event.{Event}
 use Rattle.netlist.specs.Feeds.{target}
 use Rattle.netlist.specs.NetValue.{HasCell}
 use Rattle.netlist.specs.Sound.{FitsCell, Sound}
 use Rattle.netlist.specs.declared.net.Cell.{Cell}
-use Rattle.netlist.specs.declared.net.Cell.TheVariants.{Reg, Ram}
 use Rattle.netlist.specs.declared.net.Flat.{Flat}
-use Rattle.net_sim.specs.Ticking.{IsKeeper, ListsKeepers, Moves, MovesWords, behind, Writes, WrittenBefore}
+use Rattle.net_sim.specs.Ticking.{IsKeeperOf, ListsKeepers, behind, Writes, WrittenBefore}
 use Rattle.net_sim.proofs.Cells.{cell_fits, driven_once, target_there}
-use Rattle.net_sim.proofs.Wiring.{is_wire}
 
 -- before the first cell nothing is written
 pub nothing_written : (X : Type 0) (none : X) (Kind : Cell → Type 0) (made : ℕ → Cell → X → X) (flat : Flat) (old : List X)
@@ -80,34 +76,6 @@ written_more X none Kind made flat old now new i cell sound kind there at before
             ap (λ n. slice_index_or (set now w item) n none) (sym w_is) ∙ get_or-set_same now w item none lt ∙ is
             ∙ ap (λ c. made w c (slice_index_or old w none)) cell_is ∙ ap (λ n. made n other (slice_index_or old n none)) w_is
 
-bool_cases : (b : Bool) → (b ≡ true) ⊎ (b ≡ true → ⊥)
-bool_cases true = inl refl
-bool_cases false = inr (λ e. cc)
-
-pub moves_cases : (event : Event) (cell : Cell) → Moves event cell ⊎ (Moves event cell → ⊥)
-moves_cases event (Reg w domain initial a) = bool_cases (ticks event domain)
-moves_cases event (Ram w domain words inputs) = bool_cases (ticks event domain)
-moves_cases event _ = inr (λ moves. moves)
-
-pub moves_words_cases : (event : Event) (cell : Cell) → MovesWords event cell ⊎ (MovesWords event cell → ⊥)
-moves_words_cases event (Ram w domain words inputs) = bool_cases (ticks event domain)
-moves_words_cases event _ = inr (λ moves. moves)
-
--- a cell that moves drives a wire that is there
-pub moves_there : (event : Event) (domains size : ℕ) (widths : List ℕ) (cell : Cell) → FitsCell domains widths cell → length widths ≡ size
-    → Moves event cell → (w : ℕ) × (target cell ≡ Some w) × (w < size)
-moves_there event domains size widths (Reg w domain initial a) fits count moves =
-    let is = is_wire widths w _ fits.1 in (w.number, refl, omega (arith, is))
-moves_there event domains size widths (Ram w domain words inputs) fits count moves =
-    let is = is_wire widths w _ fits.1.5.1 in (w.number, refl, omega (arith, is))
-moves_there event domains size widths _ fits count moves = absurd moves
-
-pub moves_words_there : (event : Event) (domains size : ℕ) (widths : List ℕ) (cell : Cell) → FitsCell domains widths cell → length widths ≡ size
-    → MovesWords event cell → (w : ℕ) × (target cell ≡ Some w) × (w < size)
-moves_words_there event domains size widths (Ram w domain words inputs) fits count moves =
-    let is = is_wire widths w _ fits.1.5.1 in (w.number, refl, omega (arith, is))
-moves_words_there event domains size widths _ fits count moves = absurd moves
-
 -- the cells of a net are as the wires of its table need
 pub fits_table : (flat : Flat) (table : List (List Bool)) (cell : Cell) → Sound flat → map length table ≡ flat.widths → HasCell flat cell
     → (domains : ℕ) × FitsCell domains (map length table) cell
@@ -128,22 +96,14 @@ written_skip X none Kind made flat old now i j le empty before = record {
     from p w cell lt at is t (inl less) = before.items p w cell less at is t
     from p w cell lt at is t (inr more) = absurd (empty p cell more lt at is)
 
-pub moves_keeper : (event : Event) (cell : Cell) → Moves event cell → IsKeeper cell
-moves_keeper event (Reg w domain initial a) moves = tt
-moves_keeper event (Ram w domain words inputs) moves = tt
-moves_keeper event _ moves = absurd moves
-
-pub moves_words_keeper : (event : Event) (cell : Cell) → MovesWords event cell → IsKeeper cell
-moves_words_keeper event (Ram w domain words inputs) moves = tt
-moves_words_keeper event _ moves = absurd moves
-
--- one place of the list further
-pub listed_more : (X : Type 0) (none : X) (Kind : Cell → Type 0) (made : ℕ → Cell → X → X) (flat : Flat) (places : List ℕ) (old now new : List X) (k : ℕ)
-    (cell : Cell) → Sound flat → ListsKeepers flat places (length flat.cells) → ((cell : Cell) → Kind cell → IsKeeper cell) → k < length places
+-- one place of a domain's list further
+pub listed_more : (X : Type 0) (none : X) (Kind : Cell → Type 0) (made : ℕ → Cell → X → X) (flat : Flat) (number : ℕ) (places : List ℕ)
+    (old now new : List X) (k : ℕ) (cell : Cell) → Sound flat → ListsKeepers flat number places (length flat.cells)
+    → ((cell : Cell) → Kind cell → IsKeeperOf number cell) → k < length places
     → Kind cell ⊎ (Kind cell → ⊥) → (Kind cell → (w : ℕ) × (target cell ≡ Some w) × (w < length now))
     → slice_get flat.cells (slice_index places k) ≡ Some cell → WrittenBefore X none Kind made flat old now (behind places k)
     → Writes X none Kind made cell now new → WrittenBefore X none Kind made flat old new (behind places (k + 1))
-listed_more X none Kind made flat places old now new k cell sound lists keeps lt kind there at before writes =
+listed_more X none Kind made flat number places old now new k cell sound lists keeps lt kind there at before writes =
     subst (λ n. WrittenBefore X none Kind made flat old new (behind places n)) (sym (add-one k))
     (written_more X none Kind made flat old now new (slice_index places k) cell sound kind there at
     (written_skip X none Kind made flat old now (behind places k) (slice_index places k) (lists.rising k lt)
@@ -152,15 +112,16 @@ listed_more X none Kind made flat places old now new k cell sound lists keeps lt
     lists.others k p other (omega arith) le (λ _. less) (omega arith) at' (keeps other is)) before) writes)
 
 -- behind the last place of the list
-pub listed_all : (X : Type 0) (none : X) (Kind : Cell → Type 0) (made : ℕ → Cell → X → X) (flat : Flat) (places : List ℕ) (old now : List X) (k : ℕ)
-    → ListsKeepers flat places (length flat.cells) → ((cell : Cell) → Kind cell → IsKeeper cell) → k ≡ length places
-    → behind places k ≤ length flat.cells
+pub listed_all : (X : Type 0) (none : X) (Kind : Cell → Type 0) (made : ℕ → Cell → X → X) (flat : Flat) (number : ℕ) (places : List ℕ)
+    (old now : List X) (k : ℕ) → ListsKeepers flat number places (length flat.cells) → ((cell : Cell) → Kind cell → IsKeeperOf number cell)
+    → k ≡ length places → behind places k ≤ length flat.cells
     → WrittenBefore X none Kind made flat old now (behind places k) → WrittenBefore X none Kind made flat old now (length flat.cells)
-listed_all X none Kind made flat places old now k lists keeps all le before =
+listed_all X none Kind made flat number places old now k lists keeps all le before =
     written_skip X none Kind made flat old now (behind places k) (length flat.cells) le
     (λ p other more less at is. lists.others k p other (omega arith) more (λ lt. absurd (omega (arith, lt))) less at (keeps other is)) before
 
 -- the place behind some of the list is within the limit
-pub behind_within : (flat : Flat) (places : List ℕ) (limit k : ℕ) → ListsKeepers flat places limit → k ≤ length places → behind places k ≤ limit
-behind_within flat places limit zero lists le = omega arith
-behind_within flat places limit (suc k) lists le = omega (arith, lists.within k (omega arith))
+pub behind_within : (flat : Flat) (number : ℕ) (places : List ℕ) (limit k : ℕ) → ListsKeepers flat number places limit → k ≤ length places
+    → behind places k ≤ limit
+behind_within flat number places limit zero lists le = omega arith
+behind_within flat number places limit (suc k) lists le = omega (arith, lists.within k (omega arith))

@@ -3,8 +3,9 @@ use Rattle.std.specs.Prelude.{◌≡◌, ℕ, Bool, List, length, map}
 use Rattle.chw_clock.specs.declared.event.Event.{Event}
 use Rattle.net_sim.specs.Stepping.{Settled, ShowsValues, StandsFor, word_in}
 use Rattle.net_sim.specs.Tables.{value_in}
-use Rattle.net_sim.specs.Ticking.{HaveSizes, ListsKeepers, MemoriesFit}
+use Rattle.net_sim.specs.Ticking.{HaveKeepers, HaveSizes, MemoriesFit}
 use Rattle.net_sim.specs.declared.sim.Sim.{Sim}
+use Rattle.netlist.specs.NetValue.{ReadValues}
 use Rattle.netlist.specs.Orders.{IsOrder}
 use Rattle.netlist.specs.Sound.{Sound}
 
@@ -28,14 +29,19 @@ IsSettledFor sim event = Settled sim.flat.now sim.words.items event
 abbrev pub SimShows : Sim → List Event → Type 0
 SimShows sim h = ShowsValues sim.flat.now sim.words.items h
 
--- The net is sound, the order is one of its cells, and the table has words of the wires' widths
--- and a memory for each RAM.
+-- the outputs have the bits of the table at this history
+abbrev pub SimGives : Sim → List Event → Type 0
+SimGives sim h = ReadValues sim.flat.now h sim.flat.now.outputs sim.outputs.items
+
+-- The net is sound, the order is one of its cells, and the table has words of the wires' widths,
+-- a memory for each RAM, and bits of the outputs' widths.
 pub record IsTable (sim : Sim) : Type 0 where
   pub sound : Sound sim.flat.now
   pub order : IsOrder sim.flat.now sim.order.now.cells
-  pub keepers : ListsKeepers sim.flat.now sim.keepers.items (length sim.flat.now.cells)
+  pub keepers : HaveKeepers sim.flat.now sim.keepers.items (length sim.flat.now.cells)
   pub widths : map length sim.words.items ≡ sim.flat.now.widths
   pub next : map length sim.next.items ≡ map length sim.words.items
   pub memories : MemoriesFit sim.words.items sim.memories.items
   pub sizes : HaveSizes sim.flat.now sim.memories.items
   pub room : length sim.room.items ≡ 8192
+  pub outputs : map length sim.outputs.items ≡ map (λ port. port.width) sim.flat.now.ports.outputs

@@ -105,16 +105,35 @@ IsKeeper (Reg w domain initial a) = Unit {0}
 IsKeeper (Ram w domain words inputs) = Unit {0}
 IsKeeper _ = ⊥
 
+-- the cell is a register or a RAM of the domain of this number
+abbrev pub IsKeeperOf : ℕ → Cell → Type 0
+IsKeeperOf number (Reg w domain initial a) = domain.number ≡ number
+IsKeeperOf number (Ram w domain words inputs) = domain.number ≡ number
+IsKeeperOf number _ = ⊥
+
+-- the cell is a RAM of the domain of this number
+abbrev pub IsRamOf : ℕ → Cell → Type 0
+IsRamOf number (Ram w domain words inputs) = domain.number ≡ number
+IsRamOf number _ = ⊥
+
 -- the first place behind those that are before one of a list
 abbrev pub behind : List ℕ → ℕ → ℕ
 behind places zero = 0
 behind places (suc k) = slice_index places k + 1
 
--- The places below a limit of all registers and RAMs, in order: between two of the list, and
--- behind the last, stands none.
-pub record ListsKeepers (flat : Flat) (places : List ℕ) (limit : ℕ) : Type 0 where
+-- The places below a limit of all registers and RAMs of a domain, in order: between two of the
+-- list, and behind the last, stands none.
+pub record ListsKeepers (flat : Flat) (number : ℕ) (places : List ℕ) (limit : ℕ) : Type 0 where
   pub rising : (k : ℕ) → k < length places → behind places k ≤ slice_index places k
   pub within : (k : ℕ) → k < length places → slice_index places k < limit
+  pub own : (k : ℕ) (cell : Cell) → k < length places
+      → slice_get flat.cells (slice_index places k) ≡ Some cell → IsKeeperOf number cell
   pub others : (k place : ℕ) (cell : Cell) → k ≤ length places → behind places k ≤ place
       → (k < length places → place < slice_index places k) → place < limit
-      → slice_get flat.cells place ≡ Some cell → IsKeeper cell → ⊥
+      → slice_get flat.cells place ≡ Some cell → IsKeeperOf number cell → ⊥
+
+-- there is such a list for each domain of the net
+pub record HaveKeepers (flat : Flat) (keepers : List (List ℕ)) (limit : ℕ) : Type 0 where
+  pub count : length keepers ≡ length flat.ports.domains
+  pub lists : (number : ℕ) → number < length keepers
+      → ListsKeepers flat number (slice_index_or keepers number []) limit

@@ -2,10 +2,12 @@
 #![tactic(auto)]
 
 mod inputs;
-pub mod memory;
+mod keepers;
+mod memory;
 mod narrow;
 mod narrow_step;
 mod opening;
+mod outputs;
 mod reading;
 mod room;
 mod settle;
@@ -13,8 +15,7 @@ pub mod sim;
 mod tick;
 mod wide;
 mod wide_step;
-pub mod word;
+mod word;
 mod words;
 
 pub use sim::Sim;
-pub use word::Word;

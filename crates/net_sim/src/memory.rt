@@ -10,7 +10,7 @@ use std::marker::Model;
 
 /// The words of a RAM by their addresses; none for a wire that no RAM drives.
 #[derive(Debug, Drop)]
-pub struct Memory {
+pub(crate) struct Memory {
     words: Vec<Word>,
 }
 

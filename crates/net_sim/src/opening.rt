@@ -1,16 +1,17 @@
 //! A table before any event.
-ghost use Rattle.std.specs.Bool.{Decides};
 ghost use Rattle.std.specs.Prelude.{◌≡◌, ℕ, ◌+◌, ◌<◌, Bool, List, [], length, map, replicate, IfOk, OnOk};
 ghost use Rattle.chw_bits.specs.Bits.{bits_of};
 ghost use Rattle.net_sim.specs.Opening.{IsRam, IsRegister, initial_bits, initial_words};
-ghost use Rattle.net_sim.specs.Ticking.{IsKeeper, ListsKeepers, Writes, WrittenBefore};
+ghost use Rattle.net_sim.specs.Ticking.{HaveKeepers, Writes, WrittenBefore};
 ghost use Rattle.netlist.specs.Sound.{FitsCell, Sound};
 
+use crate::keepers::Keepers;
 use crate::memory::Memory;
 use crate::settle::cell_at;
-use crate::word::Word;
+use crate::word::{Word, no_bits};
 use crate::words::put_bits_at;
 use chw_base::NoMemory;
+use chw_bits::Bits;
 use netlist::{Cell, Flat};
 use std::alloc::Global;
 
@@ -113,33 +114,61 @@ pub(crate) fn first_memories(alloc: Global, flat: &Flat) -> Result<Vec<Memory>, 
     Ok(memories)
 }
 
-// Whether a cell is a register or a RAM.
-fn is_keeper(cell: &Cell) -> bool
-    ensures { Decides result (IsKeeper cell.now) }
+// So many lists without places.
+fn no_keepers(alloc: Global, count: usize) -> Result<Vec<Keepers>, NoMemory>
+    ensures { IfOk result (λ v. v.items ≡ replicate count []) }
 {
-    matches!(cell, Cell::Reg(_, _, _, _) | Cell::Ram(_, _, _, _))
+    let mut keepers = Vec::new(alloc);
+    for _ in 0..count {
+        keepers.push(Keepers::none(alloc))?;
+    }
+    Ok(keepers)
 }
 
-// Adds a place, if the cell there is a register or a RAM.
-fn add_keeper(flat: &Flat, place: u32, places: &mut Vec<u32>) -> Result<(), NoMemory>
+// Adds a place to the list of its domain, if the cell there is a register or a RAM.
+fn add_keeper(flat: &Flat, place: u32, keepers: &mut [Keepers]) -> Result<(), NoMemory>
+    requires sound { Sound flat.now }
     requires within { place < length flat.now.cells }
-    requires lists { ListsKeepers flat.now places.old.items place }
-    ensures { OnOk result (ListsKeepers flat.now places.new.items (place + 1)) }
+    requires lists { HaveKeepers flat.now keepers.old place }
+    ensures { OnOk result (HaveKeepers flat.now keepers.new (place + 1)) }
 {
-    if is_keeper(cell_at(flat, place as usize)) {
-        return Ok(places.push(place)?);
+    match cell_at(flat, place as usize) {
+        Cell::Reg(_, domain, _, _) | Cell::Ram(_, domain, _, _) => {
+            keepers[domain.number as usize].push(place)
+        }
+        _ => Ok(()),
+    }
+}
+
+// Adds the places of all registers and RAMs.
+fn add_keepers(flat: &Flat, keepers: &mut [Keepers]) -> Result<(), NoMemory>
+    requires sound { Sound flat.now }
+    requires none { HaveKeepers flat.now keepers.old 0 }
+    ensures { OnOk result (HaveKeepers flat.now keepers.new (length flat.now.cells)) }
+{
+    for place in 0..flat.cells.len() as u32 {
+        add_keeper(flat, place, keepers)?;
     }
     Ok(())
 }
 
-/// The places of all registers and RAMs.
-pub(crate) fn list_keepers(alloc: Global, flat: &Flat) -> Result<Vec<u32>, NoMemory>
+/// The places of all registers and RAMs, by their domains.
+pub(crate) fn list_keepers(alloc: Global, flat: &Flat) -> Result<Vec<Keepers>, NoMemory>
     requires { Sound flat.now }
-    ensures { IfOk result (λ v. ListsKeepers flat.now v.items (length flat.now.cells)) }
+    ensures { IfOk result (λ v. HaveKeepers flat.now v.items (length flat.now.cells)) }
 {
-    let mut places = Vec::new(alloc);
-    for place in 0..flat.cells.len() as u32 {
-        add_keeper(flat, place, &mut places)?;
+    let mut keepers = no_keepers(alloc, flat.ports.domains.len())?;
+    add_keepers(flat, &mut keepers)?;
+    Ok(keepers)
+}
+
+/// Bits of the outputs' widths.
+pub(crate) fn first_outputs(alloc: Global, flat: &Flat) -> Result<Vec<Bits>, NoMemory>
+    ensures { IfOk result (λ v. map length v.items ≡ map (λ port. port.width) flat.now.ports.outputs) }
+{
+    let mut outputs = Vec::new(alloc);
+    for port in flat.ports.outputs.as_slice() {
+        outputs.push(Bits::of_list(no_bits(alloc, port.width as usize)?))?;
     }
-    Ok(places)
+    Ok(outputs)
 }

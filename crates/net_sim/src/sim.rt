@@ -1,20 +1,21 @@
 //! `Sim`, the table in which a flat net is stepped.
-ghost use Rattle.std.specs.Prelude.{◌≡◌, ℕ, ◌<◌, List, [], ◌∷◌, length, slice_get, Some, IfOk};
-ghost use Rattle.chw_base.specs.declared.index.WireId.{WireId};
+ghost use Rattle.std.specs.Prelude.{◌≡◌, List, [], ◌∷◌, IfOk};
 ghost use Rattle.chw_clock.specs.Histories.{HaveWidths};
 ghost use Rattle.chw_clock.specs.declared.event.Event.{Event};
-ghost use Rattle.net_sim.specs.Sims.{IsSettledFor, IsTable, SimShows, SimStandsFor, value_of};
+ghost use Rattle.net_sim.specs.Sims.{IsSettledFor, IsTable, SimGives, SimShows, SimStandsFor};
 ghost use Rattle.netlist.specs.Orders.{IsOrder};
 ghost use Rattle.netlist.specs.Sound.{Sound};
 
 use crate::inputs::enter;
+use crate::keepers::Keepers;
 use crate::memory::Memory;
-use crate::opening::{first_memories, first_words, list_keepers, zero_words};
+use crate::opening::{first_memories, first_outputs, first_words, list_keepers, zero_words};
+use crate::outputs::put_outputs;
 use crate::room::ROOM;
 use crate::tick::advance;
 use crate::word::Word;
-use crate::words::word_at;
 use chw_base::NoMemory;
+use chw_bits::Bits;
 use chw_clock::Event;
 use netlist::{Flat, Order};
 use std::alloc::Global;
@@ -24,8 +25,8 @@ use std::alloc::Global;
 pub struct Sim<'a> {
     pub(crate) flat: &'a Flat,
     pub(crate) order: &'a Order,
-    /// The places of all registers and RAMs.
-    pub(crate) keepers: Vec<u32>,
+    /// The places of all registers and RAMs, by their domains.
+    pub(crate) keepers: Vec<Keepers>,
     /// The words of the wires, by their numbers.
     pub(crate) words: Vec<Word>,
     /// What registers and RAMs are to show after the event, by the wires that they drive.
@@ -34,6 +35,8 @@ pub struct Sim<'a> {
     pub(crate) memories: Vec<Memory>,
     /// Room for the bits of wide words.
     pub(crate) room: Vec<bool>,
+    /// The bits of the outputs, by their places among the outputs.
+    pub(crate) outputs: Vec<Bits>,
 }
 
 impl<'a> Sim<'a> {
@@ -50,6 +53,7 @@ impl<'a> Sim<'a> {
         let next = zero_words(alloc, flat.widths.as_slice())?;
         let memories = first_memories(alloc, flat)?;
         let room = vec![in alloc; false; ROOM]?;
+        let outputs = first_outputs(alloc, flat)?;
         Ok(Sim {
             flat,
             order,
@@ -58,10 +62,11 @@ impl<'a> Sim<'a> {
             next,
             memories,
             room,
+            outputs,
         })
     }
 
-    /// Takes the inputs of an event, and settles every wire that keeps nothing.
+    /// Takes the inputs of an event, settles every wire that keeps nothing, and renews the outputs.
     ///
     /// It takes no memory.
     pub fn inputs(&mut self, event: &Event)
@@ -73,6 +78,8 @@ impl<'a> Sim<'a> {
         ensures stands { (past : List Event) → SimStandsFor self.old past → SimStandsFor self.new past }
         ensures values { (past : List Event) → SimStandsFor self.old past →
             SimShows self.new (event.now ∷ past) }
+        ensures outputs { (past : List Event) → SimStandsFor self.old past →
+            SimGives self.new (event.now ∷ past) }
     {
         enter(
             self.flat,
@@ -81,16 +88,14 @@ impl<'a> Sim<'a> {
             &mut self.words,
             &mut self.room,
         );
+        put_outputs(self.flat, &self.words, &mut self.outputs);
     }
 
-    /// The bits of the wire of an output, by its place among the outputs.
-    pub fn output(&self, k: usize) -> &Word
-        requires table { IsTable self.now }
-        requires within { k < length self.now.flat.now.outputs }
-        ensures { (w : WireId) → slice_get self.now.flat.now.outputs k ≡ Some w →
-            result.now ≡ value_of self.now w.number }
+    /// The bits of the outputs, as they were renewed last. It takes no memory.
+    pub fn outputs(&self) -> &[Bits]
+        ensures { result.now ≡ self.now.outputs.items }
     {
-        word_at(&self.words, self.flat.outputs.as_slice()[k])
+        self.outputs.as_slice()
     }
 
     /// Moves the registers and RAMs whose domains tick in the event.

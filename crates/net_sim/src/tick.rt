@@ -2,11 +2,13 @@
 ghost use Rattle.std.specs.Prelude.{◌≡◌, ℕ, ◌<◌, ◌≤◌, Bool, List, [], length, map, slice_index_or, slice_set, if◌then◌else◌};
 ghost use Rattle.chw_bits.specs.Bits.{number_of};
 ghost use Rattle.chw_clock.specs.Histories.{resets, ticks};
+ghost use Rattle.net_sim.specs.Opening.{IsRam};
 ghost use Rattle.net_sim.specs.Tables.{value_in};
-ghost use Rattle.net_sim.specs.Ticking.{ListsKeepers, MemoriesFit, Moves, MovesWords, Writes, WrittenBefore, moved_bits, moved_words};
-ghost use Rattle.net_sim.specs.Ticking.{Stepped, shown_word, written_words};
+ghost use Rattle.net_sim.specs.Ticking.{HaveKeepers, IsKeeper, IsKeeperOf, IsRamOf, MemoriesFit, Moves, MovesWords, Writes, WrittenBefore};
+ghost use Rattle.net_sim.specs.Ticking.{Stepped, moved_bits, moved_words, shown_word, written_words};
 ghost use Rattle.netlist.specs.Sound.{FitsCell, IsWire, Sound};
 
+use crate::keepers::{Keepers, places_of};
 use crate::memory::Memory;
 use crate::settle::cell_at;
 use crate::word::Word;
@@ -16,15 +18,15 @@ use chw_bits::Bits;
 use chw_clock::Event;
 use netlist::{Cell, Flat};
 
-// Whether a domain ticks in an event.
-fn ticks(event: &Event, domain: DomId) -> bool
-    ensures { result ≡ ticks event.now domain }
+// Whether the domain of a number ticks in an event.
+fn ticks(event: &Event, number: usize) -> bool
+    ensures { result ≡ ticks event.now (record { number = number }) }
 {
     event
         .ticks
         .as_slice()
         .iter()
-        .any(|d| d.number == domain.number)
+        .any(|d| d.number as usize == number)
 }
 
 // Whether the reset of a domain is asserted in an event.
@@ -86,89 +88,138 @@ fn write_ram(enable: &Word, place: &Word, value: &Word, memory: &mut Memory)
     }
 }
 
-// Takes what a cell shows after an event, if it moves in it.
+// Takes what a cell shows after a tick of its domain, if it is a register or a RAM.
 fn take(cell: &Cell, event: &Event, words: &[Word], memories: &[Memory], next: &mut [Word])
     requires fits { (domains : ℕ) × FitsCell domains (map length words.now) cell.now }
     requires widths { map length next.old ≡ map length words.now }
     requires memories { MemoriesFit words.now memories.now }
-    ensures taken { Writes (List Bool) [] (Moves event.now)
+    ensures taken { Writes (List Bool) [] IsKeeper
         (λ w cell old. moved_bits event.now words.now memories.now cell) cell.now next.old next.new }
     ensures widths { map length next.new ≡ map length next.old }
 {
     match cell {
         Cell::Reg(w, domain, initial, a) => {
-            if ticks(event, *domain) {
-                take_register(
-                    *w,
-                    resets(event, *domain),
-                    initial,
-                    word_at(words, *a),
-                    next,
-                );
-            }
+            let reset = resets(event, *domain);
+            take_register(*w, reset, initial, word_at(words, *a), next);
         }
-        Cell::Ram(w, domain, _, inputs) => {
-            if ticks(event, *domain) {
-                let address = word_at(words, inputs.read);
-                take_ram(*w, address, memory_at(memories, *w), next);
-            }
+        Cell::Ram(w, _, _, inputs) => {
+            let address = word_at(words, inputs.read);
+            take_ram(*w, address, memory_at(memories, *w), next);
         }
         _ => {}
     }
 }
 
-// Writes a cell's word, if it is a RAM that moves in an event.
-fn write(cell: &Cell, event: &Event, words: &[Word], memories: &mut [Memory])
+// Writes a cell's word at a tick of its domain, if it is a RAM.
+fn write(cell: &Cell, words: &[Word], memories: &mut [Memory])
     requires fits { (domains : ℕ) × FitsCell domains (map length words.now) cell.now }
     requires memories { MemoriesFit words.now memories.old }
-    ensures written { Writes (List (List Bool)) [] (MovesWords event.now)
-        (λ w cell old. moved_words words.now cell old) cell.now memories.old memories.new }
+    ensures written { Writes (List (List Bool)) [] IsRam (λ w cell old. moved_words words.now cell old)
+        cell.now memories.old memories.new }
     ensures memories { MemoriesFit words.now memories.new }
 {
-    match cell {
-        Cell::Ram(w, domain, _, inputs) => {
-            if ticks(event, *domain) {
-                write_ram(
-                    word_at(words, inputs.enable),
-                    word_at(words, inputs.place),
-                    word_at(words, inputs.value),
-                    &mut memories[w.number as usize],
-                );
-            }
-        }
-        _ => {}
+    if let Cell::Ram(w, _, _, inputs) = cell {
+        write_ram(
+            word_at(words, inputs.enable),
+            word_at(words, inputs.place),
+            word_at(words, inputs.value),
+            &mut memories[w.number as usize],
+        );
     }
 }
 
-// Puts what a cell shows after an event, if it moves in it.
-fn put(cell: &Cell, event: &Event, next: &[Word], words: &mut [Word])
+// Puts what a cell shows after a tick of its domain, if it is a register or a RAM.
+fn put(cell: &Cell, next: &[Word], words: &mut [Word])
     requires fits { (domains : ℕ) × FitsCell domains (map length words.old) cell.now }
     requires widths { map length next.now ≡ map length words.old }
-    ensures put { Writes (List Bool) [] (Moves event.now) (λ w cell old. value_in next.now w) cell.now
+    ensures put { Writes (List Bool) [] IsKeeper (λ w cell old. value_in next.now w) cell.now
         words.old words.new }
     ensures widths { map length words.new ≡ map length words.old }
 {
     match cell {
-        Cell::Reg(w, domain, _, _) | Cell::Ram(w, domain, _, _) => {
-            if ticks(event, *domain) {
-                put_word_at(words, *w, word_at(next, *w));
-            }
+        Cell::Reg(w, _, _, _) | Cell::Ram(w, _, _, _) => {
+            put_word_at(words, *w, word_at(next, *w));
         }
         _ => {}
     }
 }
 
-// Takes what all registers and RAMs show after an event in which they move.
-fn take_all(
+// Takes what the registers and RAMs of a domain show after a tick of it.
+fn take_domain(
     flat: &Flat,
-    keepers: &[u32],
+    keepers: &[Keepers],
+    number: usize,
     event: &Event,
     words: &[Word],
     memories: &[Memory],
     next: &mut [Word],
 )
     requires sound { Sound flat.now }
-    requires keepers { ListsKeepers flat.now keepers.now (length flat.now.cells) }
+    requires keepers { HaveKeepers flat.now keepers.now (length flat.now.cells) }
+    requires within { number < length keepers.now }
+    requires table { map length words.now ≡ flat.now.widths }
+    requires widths { map length next.old ≡ map length words.now }
+    requires memories { MemoriesFit words.now memories.now }
+    ensures taken { WrittenBefore (List Bool) [] (IsKeeperOf number)
+        (λ w cell old. moved_bits event.now words.now memories.now cell) flat.now next.old next.new
+        (length flat.now.cells) }
+    ensures widths { map length next.new ≡ map length words.now }
+{
+    for place in places_of(keepers, number) {
+        take(cell_at(flat, *place as usize), event, words, memories, next);
+    }
+}
+
+// Writes the words of the RAMs of a domain at a tick of it.
+fn write_domain(
+    flat: &Flat,
+    keepers: &[Keepers],
+    number: usize,
+    words: &[Word],
+    memories: &mut [Memory],
+)
+    requires sound { Sound flat.now }
+    requires keepers { HaveKeepers flat.now keepers.now (length flat.now.cells) }
+    requires within { number < length keepers.now }
+    requires table { map length words.now ≡ flat.now.widths }
+    requires memories { MemoriesFit words.now memories.old }
+    ensures written { WrittenBefore (List (List Bool)) [] (IsRamOf number)
+        (λ w cell old. moved_words words.now cell old) flat.now memories.old memories.new
+        (length flat.now.cells) }
+    ensures memories { MemoriesFit words.now memories.new }
+{
+    for place in places_of(keepers, number) {
+        write(cell_at(flat, *place as usize), words, memories);
+    }
+}
+
+// Puts what the registers and RAMs of a domain show after a tick of it.
+fn put_domain(flat: &Flat, keepers: &[Keepers], number: usize, next: &[Word], words: &mut [Word])
+    requires sound { Sound flat.now }
+    requires keepers { HaveKeepers flat.now keepers.now (length flat.now.cells) }
+    requires within { number < length keepers.now }
+    requires table { map length words.old ≡ flat.now.widths }
+    requires widths { map length next.now ≡ map length words.old }
+    ensures put { WrittenBefore (List Bool) [] (IsKeeperOf number) (λ w cell old. value_in next.now w)
+        flat.now words.old words.new (length flat.now.cells) }
+    ensures widths { map length words.new ≡ map length words.old }
+{
+    for place in places_of(keepers, number) {
+        put(cell_at(flat, *place as usize), next, words);
+    }
+}
+
+// Takes what all registers and RAMs show after an event in which they move.
+fn take_all(
+    flat: &Flat,
+    keepers: &[Keepers],
+    event: &Event,
+    words: &[Word],
+    memories: &[Memory],
+    next: &mut [Word],
+)
+    requires sound { Sound flat.now }
+    requires keepers { HaveKeepers flat.now keepers.now (length flat.now.cells) }
     requires table { map length words.now ≡ flat.now.widths }
     requires widths { map length next.old ≡ map length words.now }
     requires memories { MemoriesFit words.now memories.now }
@@ -177,15 +228,24 @@ fn take_all(
         (length flat.now.cells) }
     ensures widths { map length next.new ≡ map length words.now }
 {
-    for place in keepers {
-        take(cell_at(flat, *place as usize), event, words, memories, next);
+    for number in 0..keepers.len() {
+        if !ticks(event, number) {
+            continue;
+        }
+        take_domain(flat, keepers, number, event, words, memories, next);
     }
 }
 
 // Writes the words of all RAMs that move in an event.
-fn write_all(flat: &Flat, keepers: &[u32], event: &Event, words: &[Word], memories: &mut [Memory])
+fn write_all(
+    flat: &Flat,
+    keepers: &[Keepers],
+    event: &Event,
+    words: &[Word],
+    memories: &mut [Memory],
+)
     requires sound { Sound flat.now }
-    requires keepers { ListsKeepers flat.now keepers.now (length flat.now.cells) }
+    requires keepers { HaveKeepers flat.now keepers.now (length flat.now.cells) }
     requires table { map length words.now ≡ flat.now.widths }
     requires memories { MemoriesFit words.now memories.old }
     ensures written { WrittenBefore (List (List Bool)) [] (MovesWords event.now)
@@ -193,37 +253,45 @@ fn write_all(flat: &Flat, keepers: &[u32], event: &Event, words: &[Word], memori
         (length flat.now.cells) }
     ensures memories { MemoriesFit words.now memories.new }
 {
-    for place in keepers {
-        write(cell_at(flat, *place as usize), event, words, memories);
+    for number in 0..keepers.len() {
+        if !ticks(event, number) {
+            continue;
+        }
+        write_domain(flat, keepers, number, words, memories);
     }
 }
 
 // Puts what all registers and RAMs show after an event in which they move.
-fn put_all(flat: &Flat, keepers: &[u32], event: &Event, next: &[Word], words: &mut [Word])
+fn put_all(flat: &Flat, keepers: &[Keepers], event: &Event, next: &[Word], words: &mut [Word])
     requires sound { Sound flat.now }
-    requires keepers { ListsKeepers flat.now keepers.now (length flat.now.cells) }
+    requires keepers { HaveKeepers flat.now keepers.now (length flat.now.cells) }
     requires table { map length words.old ≡ flat.now.widths }
     requires widths { map length next.now ≡ map length words.old }
     ensures put { WrittenBefore (List Bool) [] (Moves event.now) (λ w cell old. value_in next.now w)
         flat.now words.old words.new (length flat.now.cells) }
     ensures widths { map length words.new ≡ map length words.old }
 {
-    for place in keepers {
-        put(cell_at(flat, *place as usize), event, next, words);
+    for number in 0..keepers.len() {
+        if !ticks(event, number) {
+            continue;
+        }
+        put_domain(flat, keepers, number, next, words);
     }
 }
 
 /// Moves all registers and RAMs that move in an event: each takes what it takes before any moves.
+///
+/// It costs what the domains that tick have, and a step for each other domain.
 pub(crate) fn advance(
     flat: &Flat,
-    keepers: &[u32],
+    keepers: &[Keepers],
     event: &Event,
     words: &mut [Word],
     next: &mut [Word],
     memories: &mut [Memory],
 )
     requires sound { Sound flat.now }
-    requires keepers { ListsKeepers flat.now keepers.now (length flat.now.cells) }
+    requires keepers { HaveKeepers flat.now keepers.now (length flat.now.cells) }
     requires table { map length words.old ≡ flat.now.widths }
     requires widths { map length next.old ≡ map length words.old }
     requires memories { MemoriesFit words.old memories.old }

@@ -15,7 +15,7 @@ pub(crate) const NARROW: u32 = 128;
 ///
 /// A word of at most 128 bits is kept as its number, a wider one as the list of its bits.
 #[derive(Debug, Drop)]
-pub struct Word {
+pub(crate) struct Word {
     width: u32,
     number: u128,
     list: Vec<bool>,
@@ -32,8 +32,8 @@ impl Model for Word {
     ghost invariant = { λ w. IsKept w.width w.number w.list.items };
 }
 
-// So many bits that are not set.
-fn no_bits(alloc: Global, count: usize) -> Result<Vec<bool>, NoMemory>
+/// So many bits that are not set.
+pub(crate) fn no_bits(alloc: Global, count: usize) -> Result<Vec<bool>, NoMemory>
     ensures { IfOk result (λ bits. bits.items ≡ replicate count false) }
 {
     Ok(vec![in alloc; false; count]?)
@@ -60,14 +60,14 @@ impl Word {
     }
 
     /// How many bits there are.
-    pub fn len(&self) -> u32
+    pub(crate) fn len(&self) -> u32
         ensures { result ≡ length self.now }
     {
         self.width
     }
 
     /// The number of a narrow word.
-    pub fn number(&self) -> u128
+    pub(crate) fn number(&self) -> u128
         requires { length self.now ≤ 128 }
         ensures bits { self.now ≡ bits_of (length self.now) result }
         ensures below { result < 2 ^ length self.now }
@@ -77,7 +77,7 @@ impl Word {
     }
 
     /// The bit at this place of the list, the most significant at 0.
-    pub fn bit(&self, i: u32) -> bool
+    pub(crate) fn bit(&self, i: u32) -> bool
         requires { i < length self.now }
         ensures { result ≡ slice_index_or self.now i false }
     {
@@ -88,15 +88,16 @@ impl Word {
         }
     }
 
-    /// The bits of the word once more.
-    pub fn copy(&self, alloc: Global) -> Result<Bits, NoMemory>
-        ensures { IfOk result (λ bits. bits ≡ self.now) }
+    /// Puts these bits in place of others, which are as many.
+    pub(crate) fn put_into(&self, bits: &mut Bits)
+        requires { length self.now ≡ length bits.old }
+        ensures { bits.new ≡ self.now }
     {
-        let mut bits = Vec::new(alloc);
-        for i in 0..self.len() {
-            bits.push(self.bit(i))?;
+        if self.width > NARROW {
+            bits.put_list(&self.list);
+        } else {
+            bits.put_number(self.number);
         }
-        Ok(Bits::of_list(bits))
     }
 
     /// Makes a narrow word the one of a number.

@@ -1,13 +1,11 @@
 -- The numbers of types in a table, and what they tell of the types that are found.
-use Rattle.std.proofs.Common.{◌≡◌, ℕ, suc, zero, ◌+◌, ◌<◌, ◌≤◌, Option, Some, None, refl, sym, ap, ◌∙◌, subst, List, [], ◌∷◌, ◌++◌, length, map, take, get_or}
+use Rattle.std.proofs.Common.{◌≡◌, ℕ, suc, zero, ◌+◌, ◌<◌, ◌≤◌, Option, Some, None, refl, sym, ap, ◌∙◌, subst, List, [], ◌∷◌, ◌++◌, length, take, get_or}
 use Rattle.std.specs.Prelude.{IfSome}
 use Rattle.std.specs.List.{slice_get, AllZip}
 use Rattle.std.proofs.lemmas.List.{take_all}
 use Rattle.std.proofs.lemmas.Option.{same_Some}
-use Rattle.chw_types.specs.declared.kind.Kind.{Kind}
 use Rattle.chw_types.specs.TypeTree.{TypeTree}
-use Rattle.chw_terms.specs.Constructors.{Constructor, con_at}
-use Rattle.chw_terms.specs.TermTree.{TermTree, global, con}
+use Rattle.chw_terms.specs.TermTree.{global, con}
 use Rattle.chw_terms.specs.declared.program.Def.{Def}
 use Rattle.chw_terms.specs.declared.scene.Scene.{Scene}
 use Rattle.chw_typing.specs.HeadTypes.{con_type}
@@ -17,7 +15,7 @@ use Rattle.found_types.specs.Finding.{Finds, f_global, f_con}
 use Rattle.found_types.proofs.FoundOnce.{one_found}
 use Rattle.type_numbers.specs.Nodes.{Grows}
 use Rattle.term_types.specs.Numbers.{IsNumberOf, IsNumberFound, AreNumbered, IsHeadNumbered, AreHeadsNumbered}
-use Rattle.term_types.specs.Signatures.{IsSignature, IsOfConstructor}
+use Rattle.term_types.specs.Signatures.{IsSignature}
 use Rattle.term_types.specs.Spines.{IsNumbered}
 use Rattle.term_types.specs.declared.found.Found.{Found}
 use Rattle.term_types.specs.declared.signature.HeadType.{HeadType}

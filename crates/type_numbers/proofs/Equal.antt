@@ -1,5 +1,5 @@
 -- Nodes that are found equal.
-use Rattle.std.proofs.Common.{rules, ◌≡◌, ℕ, Bool, true, ◌&&◌, eqb, eqb-true, refl, sym, ap, ◌∙◌}
+use Rattle.std.proofs.Common.{rules, ◌≡◌, ℕ, true, ◌&&◌, eqb, eqb-true}
 use Rattle.std.proofs.lemmas.Bool.{and_parts, false≢true}
 use denote.Enum.Bare.{sameb, same_true}
 use Rattle.chw_types.specs.contracts.kind.Kind as kind_type

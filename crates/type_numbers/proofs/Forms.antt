@@ -1,7 +1,7 @@
 -- Nodes of the forms of types.
-use Rattle.std.proofs.Common.{◌≡◌, ℕ, ◌+◌, ◌<◌, ◌≤◌, List, [], ◌∷◌, ◌++◌, length, take, get_or, Some, slice_get, refl, sym, ap, ◌∙◌, subst}
+use Rattle.std.proofs.Common.{◌≡◌, ℕ, ◌+◌, ◌<◌, List, [], ◌∷◌, ◌++◌, length, take, get_or, Some, slice_get, refl, sym, ap, ◌∙◌}
 use Rattle.std.proofs.lemmas.List.{take_more}
-use Rattle.chw_types.specs.TypeTree.{TypeTree, data_of, no_types, type_and}
+use Rattle.chw_types.specs.TypeTree.{TypeTree, data_of, type_and}
 use Rattle.chw_types.specs.TypeView.{trees_of}
 use Rattle.type_numbers.specs.Nodes.{IsNode, Grows, and_last, pair, pair_of}
 use Rattle.type_numbers.specs.declared.node.Node.TheVariants.{OfPair}

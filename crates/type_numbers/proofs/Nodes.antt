@@ -1,6 +1,6 @@
 -- How a table of types grows by a node.
-use Rattle.std.proofs.Common.{◌≡◌, ℕ, zero, suc, ◌+◌, inl, inr, Bool, true, false, cond, List, [], ◌∷◌, ◌++◌, length, Some, slice_get, refl, sym, ap, ◌∙◌, subst, arith}
-use Rattle.std.proofs.lemmas.Option.{get_or_from_slice_get, same_Some}
+use Rattle.std.proofs.Common.{◌≡◌, ℕ, suc, ◌+◌, inl, inr, Bool, true, false, cond, List, [], ◌∷◌, ◌++◌, length, Some, slice_get, refl, sym, ap, ◌∙◌, subst, arith}
+use Rattle.std.proofs.lemmas.Option.{get_or_from_slice_get}
 use Rattle.chw_types.specs.TypeTree.{TypeTree, nat_lit, scalar, for_all}
 use Rattle.type_numbers.specs.Nodes.{IsNode, AreNodes, Grows, made_of, types_after, types_of, pair, type_at}
 use Rattle.type_numbers.specs.declared.node.Node.{Node}

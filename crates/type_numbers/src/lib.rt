@@ -1,5 +1,5 @@
-//! Types by number. A table has each type once, with the types that it is made of, so types of one number are equal, and that they are is
-//! told without a look at their parts.
+//! Types by number. Two types of one number in a table are equal, and no look at their parts is needed to tell so. Equal types that are put
+//! into a table get one number, but no clause says this.
 #![tactic(auto)]
 
 mod node;

@@ -1,7 +1,6 @@
--- A primitive that is called, and the letrec that takes its place: what the call gives, and what is left to show of the body.
-use Rattle.std.proofs.Common.{◌≡◌, ℕ, suc, zero, ◌≤◌, refl, sym, ap, ◌∙◌, subst, List, [], ◌∷◌, ◌++◌, map, length, reverse, arith}
-use Rattle.std.specs.Prelude.{Some}
-use Rattle.std.specs.List.{fold, slice_get, AllByRecursion}
+-- The letrec that takes the place of a primitive that is called: what is left to show of its body.
+use Rattle.std.proofs.Common.{ℕ, suc, zero, ◌≤◌, sym, subst, List, [], ◌∷◌, ◌++◌, map, length, reverse, arith}
+use Rattle.std.specs.List.{AllByRecursion}
 use Rattle.std.proofs.lemmas.List.{append-nil}
 use Rattle.chw_types.specs.declared.kind.Kind.{Kind}
 use Rattle.chw_types.specs.TypeTree.{TypeTree}
@@ -10,12 +9,10 @@ use Rattle.chw_types.specs.TypeMoves.{sub}
 use Rattle.chw_types.specs.Arguments.{list_of, given, arguments}
 use Rattle.chw_types.specs.Kinds.{degree, KindsOf}
 use Rattle.chw_types.specs.SameTypes.{SameTypes}
-use Rattle.chw_types.proofs.KindsKept.{kind_put, closed_anywhere}
-use Rattle.chw_types.proofs.SameLaws.{same_self, same_turned, same_through}
-use Rattle.chw_types.proofs.TypeLaws.{sub_ids}
+use Rattle.chw_types.proofs.KindsKept.{kind_put}
+use Rattle.chw_types.proofs.SameLaws.{same_turned, same_through}
 use Rattle.chw_prims.specs.declared.prim.Primitive.{Primitive as Prim}
-use Rattle.chw_prims.specs.Schemas.{schema_type}
-use Rattle.chw_terms.specs.TermTree.{TermTree, ty_app, letrec, prim}
+use Rattle.chw_terms.specs.TermTree.{TermTree, letrec}
 use Rattle.chw_terms.specs.TermMoves.{shift}
 use Rattle.chw_terms.specs.Unrolled.{named, at_types}
 use Rattle.type_laws.proofs.Arguing.{kinds_of_arguments}
@@ -23,62 +20,15 @@ use Rattle.chw_typing.specs.Scopes.{Setting, HasKind, IsTermType, AreTermTypes, 
 use Rattle.chw_typing.specs.HeadTypes.{for_each, from_each}
 use Rattle.chw_typing.specs.Laws.{PutsTypes}
 use Rattle.chw_typing.specs.Programs.{IsSound}
-use Rattle.chw_typing.specs.Typing.{HasType, HasTypeUpTo, h_prim}
+use Rattle.chw_typing.specs.Typing.{HasType, HasTypeUpTo}
 use Rattle.chw_typing.proofs.EvaluatedTypes.{same_evaluated, kind_evaluated}
 use Rattle.chw_typing.proofs.Heads.{functions_of_terms}
 use Rattle.chw_typing.proofs.Kinded.{term_type, function_parts, bound_part, typed_more, type_kinded}
 use Rattle.chw_typing.proofs.Lists.{turned_onto}
 use Rattle.chw_typing.proofs.TermsPut.{kind_same}
-use Rattle.unroll_laws.specs.Laws.{called}
-use Rattle.unroll_laws.proofs.Applied.{TypesTaken, types_taken, TermsTaken, terms_taken}
-use Rattle.unroll_laws.proofs.Given.{TypesGiven, types_given, terms_given, AreGiven}
-use Rattle.unroll_laws.proofs.Lets.{AllAllow, let_typed}
-
--- a schema for these kinds, with these parameters and this result, at these types and on these arguments: the type of the whole
-pub record IsCalled (s : Setting) (kinds : List Kind) (vars : List TypeTree) (ks : List Kind) (ps : List TypeTree) (r : TypeTree) (types : List TypeTree) (args : List TermTree) (t : TypeTree) : Type 0 where
-  pub have : KindsOf s.datas s.domains kinds (trees_of types) ks
-  pub args_given : AreGiven s kinds vars (map (λ p. sub p (arguments (trees_of types))) ps) args
-  pub gives : SameTypes (sub r (arguments (trees_of types))) t
-
-list_of_trees : (ts : List TypeTree) → list_of (trees_of ts) ≡ ts
-list_of_trees [] = refl
-list_of_trees (t ∷ ts) = ap (λ us. t ∷ us) (list_of_trees ts)
-
-prim_head : {s : Setting} {kinds : List Kind} {vars : List TypeTree} {p : Prim} {t : TypeTree} → HasType s kinds vars (prim p) t → schema_type p ≡ t
-prim_head h_prim = refl
-
-nothing_in_scope : {A : Type 0} (x : ℕ) (k : A) → slice_get [] x ≡ Some k → ⊥
-nothing_in_scope x k e = absurd (cc)
-
-pub call_parts : (s : Setting) (kinds : List Kind) (vars : List TypeTree) (p : Prim) (ks : List Kind) (ps : List TypeTree) (r : TypeTree) (types : List TypeTree) (args : List TermTree) (t : TypeTree) → IsSound s → AreTermTypes s kinds vars → schema_type p ≡ for_each ks (from_each ps r) → IsTermType s [] (for_each ks (from_each ps r)) → length types ≡ length ks → length args ≡ length ps → HasType s kinds vars (called p types args) t → IsCalled s kinds vars ks ps r types args t
-call_parts s kinds vars p ks ps r types args t h g is schema l m d =
-    record { have = types_in.have; args_given = terms_in.0; gives = terms_in.1 }
-  where
-    outer : TermsTaken s kinds vars (fold ty_app (prim p) types) args t
-    outer = terms_taken s kinds vars args (fold ty_app (prim p) types) t d
-
-    inner : TypesTaken s kinds vars (prim p) types outer.head
-    inner = types_taken s kinds vars types (prim p) outer.head outer.has
-
-    whole : TypeTree
-    whole = for_each ks (from_each ps r)
-
-    head_is : whole ≡ inner.head
-    head_is = sym is ∙ prim_head inner.has
-
-    head_same : SameTypes (sub whole (given [])) inner.head
-    head_same = subst (SameTypes (sub whole (given []))) head_is (subst (λ w. SameTypes w whole) (sym (sub_ids whole)) (same_self whole))
-
-    types_in : TypesGiven s kinds ks (from_each ps r) [] types outer.head
-    types_in =
-        types_given inner.takes h ks (from_each ps r) [] [] schema.kind schema.kind l schema.has head_same
-        (subst (λ w. HasKind s kinds w schema.kind) head_is (closed_anywhere schema.has kinds)) (λ x k e. absurd (nothing_in_scope x k e))
-
-    at : reverse types ++ [] ≡ reverse (list_of (trees_of types))
-    at = append-nil (reverse types) ∙ ap reverse (sym (list_of_trees types))
-
-    terms_in : AreGiven s kinds vars (map (λ p. sub p (arguments (trees_of types))) ps) args × SameTypes (sub r (arguments (trees_of types))) t
-    terms_in = terms_given outer.takes ps r (arguments (trees_of types)) m (subst (λ ts. SameTypes (sub (from_each ps r) (given ts)) outer.head) at types_in.same_type)
+use Rattle.spine_types.specs.Given.{AreGiven, AllAllow, IsSaturated}
+use Rattle.spine_types.proofs.Lets.{let_typed}
+use Rattle.spine_types.proofs.Saturated.{turned_arguments}
 
 -- each of these types has a degree of at most 1, as a numeral, a variable, and what has no naturals at its top
 abbrev pub AllSmall : List TypeTree → Type 0
@@ -97,7 +47,7 @@ puts_arguments : (s : Setting) (kinds ks : List Kind) (types : List TypeTree) �
 puts_arguments s kinds ks types have small x k e = (kinds_of_arguments s.datas s.domains kinds ks (trees_of types) have x k e, small_given (reverse (list_of (trees_of types))) x here)
   where
     here : AllSmall (reverse (list_of (trees_of types)))
-    here = subst AllSmall (append-nil (reverse types) ∙ ap reverse (sym (list_of_trees types))) (small_onto types [] small tt)
+    here = subst AllSmall (turned_arguments types) (small_onto types [] small tt)
 
 unbound : (s : Setting) (ks scope : List Kind) (t : TypeTree) (k : Kind) → HasKind s scope (for_each ks t) k → HasKind s (reverse ks ++ scope) t k
 unbound s [] scope t k d = d
@@ -123,7 +73,7 @@ given_evaluated s kinds vars types [] (e ∷ es) h = absurd h
 given_evaluated s kinds vars types (p ∷ ps) [] h = absurd h
 
 -- a body that has the result's type, where the arguments have names of their parameters' types: the letrec has the type of the call
-pub let_keeps : (s : Setting) (kinds : List Kind) (vars : List TypeTree) (ks : List Kind) (ps : List TypeTree) (r : TypeTree) (types : List TypeTree) (args : List TermTree) (t : TypeTree) (e : TermTree) (u : TypeTree) → IsSound s → AreTermTypes s kinds vars → IsTermType s [] (for_each ks (from_each ps r)) → AllSmall types → IsCalled s kinds vars ks ps r types args t → HasType s kinds (with_more (map (at_types types) ps) vars) e u → SameTypes (at_types types r) u → HasTypeUpTo s kinds vars (letrec (named (map (at_types types) ps) (map (λ e. shift e 0 (length args)) args)) e) t
+pub let_keeps : (s : Setting) (kinds : List Kind) (vars : List TypeTree) (ks : List Kind) (ps : List TypeTree) (r : TypeTree) (types : List TypeTree) (args : List TermTree) (t : TypeTree) (e : TermTree) (u : TypeTree) → IsSound s → AreTermTypes s kinds vars → IsTermType s [] (for_each ks (from_each ps r)) → AllSmall types → IsSaturated s kinds vars ks ps r types args t → HasType s kinds (with_more (map (at_types types) ps) vars) e u → SameTypes (at_types types r) u → HasTypeUpTo s kinds vars (letrec (named (map (at_types types) ps) (map (λ e. shift e 0 (length args)) args)) e) t
 let_keeps s kinds vars ks ps r types args t e u h g schema small call d x =
     record {
       type = u;

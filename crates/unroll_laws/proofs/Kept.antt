@@ -16,8 +16,10 @@ use Rattle.chw_typing.specs.HeadTypes.{for_each, from_each}
 use Rattle.chw_typing.specs.Programs.{IsSound}
 use Rattle.chw_typing.specs.Typing.{HasType, HasTypeUpTo}
 use Rattle.chw_typing.proofs.Kinded.{schema_kind}
+use Rattle.spine_types.specs.Given.{IsSaturated}
+use Rattle.spine_types.proofs.Saturated.{prim_at_arguments}
 use Rattle.unroll_laws.specs.Laws.{called}
-use Rattle.unroll_laws.proofs.Called.{IsCalled, call_parts, AllSmall, let_keeps}
+use Rattle.unroll_laws.proofs.Called.{AllSmall, let_keeps}
 
 -- a primitive of this line that is called
 pub record Call (row : Row) (types : List TypeTree) (args : List TermTree) : Type 0 where
@@ -41,10 +43,10 @@ Keeps row types args c body =
 schema_typed : (row : Row) (types : List TypeTree) (args : List TermTree) (c : Call row types args) (w : TypeTree) → row_type row ≡ w → IsTermType c.s [] w
 schema_typed row types args c w e = subst (IsTermType c.s []) (ap row_type c.is ∙ e) (schema_kind c.s c.p c.sound)
 
-pub call_of : (row : Row) (types : List TypeTree) (args : List TermTree) (c : Call row types args) (ks : List Kind) (ps : List TypeTree) (r : TypeTree) → row_type row ≡ for_each ks (from_each ps r) → length types ≡ length ks → length args ≡ length ps → IsCalled c.s c.kinds c.vars ks ps r types args c.t
+pub call_of : (row : Row) (types : List TypeTree) (args : List TermTree) (c : Call row types args) (ks : List Kind) (ps : List TypeTree) (r : TypeTree) → row_type row ≡ for_each ks (from_each ps r) → length types ≡ length ks → length args ≡ length ps → IsSaturated c.s c.kinds c.vars ks ps r types args c.t
 call_of row types args c ks ps r e l m =
-    call_parts c.s c.kinds c.vars c.p ks ps r types args c.t c.sound c.typed (ap row_type c.is ∙ e) (schema_typed row types args c (for_each ks (from_each ps r)) e) l m c.has
+    prim_at_arguments c.s c.kinds c.vars c.p ks ps r types args c.t c.sound c.typed (ap row_type c.is ∙ e) l m c.has
 
-pub kept : (row : Row) (types : List TypeTree) (args : List TermTree) (c : Call row types args) (ks : List Kind) (ps : List TypeTree) (r : TypeTree) (e : TermTree) (u : TypeTree) → row_type row ≡ for_each ks (from_each ps r) → AllSmall types → IsCalled c.s c.kinds c.vars ks ps r types args c.t → HasType c.s c.kinds (with_more (map (at_types types) ps) c.vars) e u → SameTypes (at_types types r) u → HasTypeUpTo c.s c.kinds c.vars (letrec (named (map (at_types types) ps) (map (λ e. shift e 0 (length args)) args)) e) c.t
+pub kept : (row : Row) (types : List TypeTree) (args : List TermTree) (c : Call row types args) (ks : List Kind) (ps : List TypeTree) (r : TypeTree) (e : TermTree) (u : TypeTree) → row_type row ≡ for_each ks (from_each ps r) → AllSmall types → IsSaturated c.s c.kinds c.vars ks ps r types args c.t → HasType c.s c.kinds (with_more (map (at_types types) ps) c.vars) e u → SameTypes (at_types types r) u → HasTypeUpTo c.s c.kinds c.vars (letrec (named (map (at_types types) ps) (map (λ e. shift e 0 (length args)) args)) e) c.t
 kept row types args c ks ps r e u is small call d x =
     let_keeps c.s c.kinds c.vars ks ps r types args c.t e u c.sound c.typed (schema_typed row types args c (for_each ks (from_each ps r)) is) small call d x

@@ -1,12 +1,9 @@
-pub mod Applied
 pub mod ByIndex
 pub mod Called
 pub mod Elements
 pub mod Folds
-pub mod Given
 pub mod Joins
 pub mod Kept
-pub mod Lets
 pub mod Makes
 pub mod Maps
 pub mod Places

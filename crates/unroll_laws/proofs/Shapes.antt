@@ -14,7 +14,7 @@ use Rattle.chw_typing.specs.Scopes.{HasKind, with_more}
 use Rattle.chw_typing.specs.HeadTypes.{for_each, from_each}
 use Rattle.chw_typing.specs.Typing.{HasTypeUpTo}
 use Rattle.chw_typing.proofs.EvaluatedTypes.{kind_evaluated}
-use Rattle.unroll_laws.proofs.Called.{IsCalled}
+use Rattle.spine_types.specs.Given.{IsSaturated}
 use Rattle.unroll_laws.proofs.Kept.{Call, call_of, kept}
 use Rattle.unroll_laws.proofs.Sized.{IsNumber, number_small, term_small, first_kind, later_kinds}
 
@@ -30,7 +30,7 @@ pub kept_1 : (row : Row) (size a : TypeTree) (args : List TermTree) (c : Call ro
 kept_1 row size a args c n k ps r e num o is l fits =
     kept row (size ∷ a ∷ []) args c (Nat ∷ k ∷ []) ps r e body.type is (number_small size n num, (term_small of_a o, tt)) call body.has body.same
   where
-    call : IsCalled c.s c.kinds c.vars (Nat ∷ k ∷ []) ps r (size ∷ a ∷ []) args c.t
+    call : IsSaturated c.s c.kinds c.vars (Nat ∷ k ∷ []) ps r (size ∷ a ∷ []) args c.t
     call = call_of row (size ∷ a ∷ []) args c (Nat ∷ k ∷ []) ps r is refl l
 
     of_a : HasKind c.s c.kinds a k
@@ -43,7 +43,7 @@ pub kept_2 : (row : Row) (size a b : TypeTree) (args : List TermTree) (c : Call 
 kept_2 row size a b args c n k ps r e num o is l fits =
     kept row (size ∷ a ∷ b ∷ []) args c (Nat ∷ k ∷ k ∷ []) ps r e body.type is (number_small size n num, (term_small of_a o, (term_small of_b o, tt))) call body.has body.same
   where
-    call : IsCalled c.s c.kinds c.vars (Nat ∷ k ∷ k ∷ []) ps r (size ∷ a ∷ b ∷ []) args c.t
+    call : IsSaturated c.s c.kinds c.vars (Nat ∷ k ∷ k ∷ []) ps r (size ∷ a ∷ b ∷ []) args c.t
     call = call_of row (size ∷ a ∷ b ∷ []) args c (Nat ∷ k ∷ k ∷ []) ps r is refl l
 
     of_a : HasKind c.s c.kinds a k
@@ -59,7 +59,7 @@ pub kept_3 : (row : Row) (size a b d : TypeTree) (args : List TermTree) (c : Cal
 kept_3 row size a b d args c n k ps r e num o is l fits =
     kept row (size ∷ a ∷ b ∷ d ∷ []) args c (Nat ∷ k ∷ k ∷ k ∷ []) ps r e body.type is (number_small size n num, (term_small of_a o, (term_small of_b o, (term_small of_d o, tt)))) call body.has body.same
   where
-    call : IsCalled c.s c.kinds c.vars (Nat ∷ k ∷ k ∷ k ∷ []) ps r (size ∷ a ∷ b ∷ d ∷ []) args c.t
+    call : IsSaturated c.s c.kinds c.vars (Nat ∷ k ∷ k ∷ k ∷ []) ps r (size ∷ a ∷ b ∷ d ∷ []) args c.t
     call = call_of row (size ∷ a ∷ b ∷ d ∷ []) args c (Nat ∷ k ∷ k ∷ k ∷ []) ps r is refl l
 
     of_a : HasKind c.s c.kinds a k
@@ -78,7 +78,7 @@ pub kept_twice : (row : Row) (size other a : TypeTree) (args : List TermTree) (c
 kept_twice row size other a args c n m k ps r e num also o is l fits =
     kept row (size ∷ other ∷ a ∷ []) args c (Nat ∷ Nat ∷ k ∷ []) ps r e body.type is (number_small size n num, (number_small other m also, (term_small of_a o, tt))) call body.has body.same
   where
-    call : IsCalled c.s c.kinds c.vars (Nat ∷ Nat ∷ k ∷ []) ps r (size ∷ other ∷ a ∷ []) args c.t
+    call : IsSaturated c.s c.kinds c.vars (Nat ∷ Nat ∷ k ∷ []) ps r (size ∷ other ∷ a ∷ []) args c.t
     call = call_of row (size ∷ other ∷ a ∷ []) args c (Nat ∷ Nat ∷ k ∷ []) ps r is refl l
 
     of_a : HasKind c.s c.kinds a k

@@ -1,18 +1,19 @@
 -- What is promised of the types of unrolled primitives.
 use Rattle.std.specs.Prelude.{◌≡◌, List, Some}
-use Rattle.std.specs.List.{fold}
 use Rattle.chw_types.specs.declared.kind.Kind.{Kind}
 use Rattle.chw_types.specs.TypeTree.{TypeTree}
 use Rattle.chw_prims.specs.declared.prim.Primitive.{Primitive as Prim}
-use Rattle.chw_terms.specs.TermTree.{TermTree, app, ty_app, prim}
+use Rattle.chw_terms.specs.TermTree.{TermTree, prim}
+use Rattle.chw_terms.specs.TermView.{applied}
 use Rattle.chw_terms.specs.Unrolled.{CanUnroll, unrolled}
 use Rattle.chw_typing.specs.Scopes.{Setting, AreTermTypes}
 use Rattle.chw_typing.specs.Typing.{HasType, HasTypeUpTo}
 use Rattle.chw_typing.specs.Programs.{IsSound}
+use Rattle.spine_types.specs.Given.{types_then}
 
 -- a primitive at these types and on these arguments, as a term
 abbrev pub called : Prim → List TypeTree → List TermTree → TermTree
-called p types args = fold app (fold ty_app (prim p) types) args
+called p types args = applied (prim p) (types_then types args)
 
 -- what a primitive on vectors is unrolled to has the type that the primitive has there, up to naturals
 abbrev pub UnrollingKeepsType : Type 0

@@ -32,7 +32,7 @@ one_of_right (x ∷ xs) ys k is = or_true (eqb x k) (is_one_of (xs ++ ys) k) (on
 pub one_of_last : (xs : List ℕ) (k : ℕ) → is_one_of (xs ++ k ∷ []) k ≡ true
 one_of_last xs k = one_of_right xs (k ∷ []) k (left_true (eqb k k) false (eq-eqb k k refl))
 
-neither : (a b : Bool) → a ≡ false → b ≡ false → (a || b) ≡ false
+pub neither : (a b : Bool) → a ≡ false → b ≡ false → (a || b) ≡ false
 neither true b e f = e
 neither false b e f = f
 

@@ -124,7 +124,7 @@ wires_said mt =
     ∙ ap (λ (rest : List Declared). map said (input_wires mt) ++ rest) (declared_said mt.items)
     ∙ sym (map-append said (input_wires mt) (flat_map wires_by mt.items))
 
-widths_said : (ws : List Wire) → map (λ (w : Wire). width w.line.range) ws ≡ map (λ (d : Declared). width_of d.line.range) (map said ws)
+pub widths_said : (ws : List Wire) → map (λ (w : Wire). width w.line.range) ws ≡ map (λ (d : Declared). width_of d.line.range) (map said ws)
 widths_said [] = refl
 widths_said (w ∷ ws) = ap (λ (rest : List ℕ). width w.line.range ∷ rest) (widths_said ws)
 
@@ -151,7 +151,7 @@ lines_long : (drivers : List Driver) (k : ℕ) (ls : List Line) → length (show
 lines_long drivers k [] = refl
 lines_long drivers k (l ∷ ls) = ap suc (lines_long drivers (k + 1) ls)
 
-abbrev a_scene : Ports → List Module → List LineItem → Scene
+abbrev pub a_scene : Ports → List Module → List LineItem → Scene
 a_scene ports earl outs = record { ports = ports; outputs = outs; earlier = map module_of earl }
 
 pub module_denotes : (ports : Ports) (earl : List Module) (er : List ResolvedModule) (mt : Module) → ModuleChecked ports earl er mt

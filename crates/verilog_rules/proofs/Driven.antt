@@ -108,7 +108,7 @@ each_checked inputs wires ops names least count once = (
 
 -- OUTPUTS
 
-none_shown : (ds : List Driver) (k : ℕ) → is_one_of (all_shown ds) k ≡ false → flat_map (shown_by k) ds ≡ []
+pub none_shown : (ds : List Driver) (k : ℕ) → is_one_of (all_shown ds) k ≡ false → flat_map (shown_by k) ds ≡ []
 none_shown [] k none = refl
 none_shown (driver.Assign w value ∷ ds) k none = none_shown ds k none
 none_shown (driver.Register w domain reset a ∷ ds) k none = none_shown ds k none

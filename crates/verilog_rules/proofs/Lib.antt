@@ -25,3 +25,11 @@ pub mod Wells
 pub mod ModulesWell
 pub mod TextWell
 pub mod WholeText
+pub mod WasModules
+pub mod WasChecked
+pub mod WasModule
+pub mod SignalsBack
+pub mod TopsBack
+pub mod WasText
+pub mod WasDenoted
+pub mod LeastPlace

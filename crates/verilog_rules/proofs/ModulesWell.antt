@@ -89,7 +89,7 @@ shown_wide domains earlier m (driver.Output j at a ∷ ds) k all is = by_case (e
     by_case true same so later = subst (λ (n : ℕ). HasWidth (wire_widths m) a.wire (slice_index (widths_of m.outputs) n)) (eqb-true j k same) all.0
     by_case false other so later = later so
 
-width_at : (ls : List Line) (k : ℕ) (l : Line) → slice_get ls k ≡ Some l → slice_index (widths_of ls) k ≡ width l.range
+pub width_at : (ls : List Line) (k : ℕ) (l : Line) → slice_get ls k ≡ Some l → slice_index (widths_of ls) k ≡ width l.range
 width_at [] k l found = absurd (cc)
 width_at (n ∷ ls) zero l found = ap (λ (x : Line). width x.range) (same_Some n l found)
 width_at (n ∷ ls) (suc k) l found = width_at ls k l found
@@ -179,13 +179,13 @@ Fits [] [] = Unit {0}
 Fits (mt ∷ earl) (ur ∷ er) = ModuleFits mt ur × Fits earl er
 Fits _ _ = ⊥
 
-fits_more : (earl : List Module) (er : List ResolvedModule) (mt : Module) (ur : ResolvedModule) → Fits earl er → ModuleFits mt ur → Fits (earl ++ mt ∷ []) (er ++ ur ∷ [])
+pub fits_more : (earl : List Module) (er : List ResolvedModule) (mt : Module) (ur : ResolvedModule) → Fits earl er → ModuleFits mt ur → Fits (earl ++ mt ∷ []) (er ++ ur ∷ [])
 fits_more [] [] mt ur fits new = (new, tt)
 fits_more [] (u ∷ er) mt ur fits new = absurd fits
 fits_more (n ∷ earl) [] mt ur fits new = absurd fits
 fits_more (n ∷ earl) (u ∷ er) mt ur fits new = (fits.0, fits_more earl er mt ur fits.1 new)
 
-earlier_fit : (earl : List Module) (er : List ResolvedModule) → Fits earl er → EarlierFit earl er
+pub earlier_fit : (earl : List Module) (er : List ResolvedModule) → Fits earl er → EarlierFit earl er
 earlier_fit [] [] fits k used found = absurd (cc)
 earlier_fit [] (u ∷ er) fits k used found = absurd fits
 earlier_fit (n ∷ earl) [] fits k used found = absurd fits
@@ -205,7 +205,7 @@ well_at ports earl er (mt ∷ ms) all fits zero m found =
     (module_well ports earl er mt all.0 (earlier_fit earl er fits)))
 well_at ports earl er (mt ∷ ms) all fits (suc i) m found =
     let new : ModuleFits mt (made ports earl mt) = (module_fits ports earl er mt all.0 (earlier_fit earl er fits)).1 in
-    let later = well_at ports (earl ++ mt ∷ []) (er ++ made ports earl mt ∷ []) ms all.3 (fits_more earl er mt (made ports earl mt) fits new) i m found in
+    let later = well_at ports (earl ++ mt ∷ []) (er ++ made ports earl mt ∷ []) ms all.2 (fits_more earl er mt (made ports earl mt) fits new) i m found in
     let split : map net_module (er ++ made ports earl mt ∷ []) ≡ map net_module er ++ net_module (made ports earl mt) ∷ [] = map-append net_module er (made ports earl mt ∷ []) in
     subst (λ (e : List NetModule). ModuleWell (length ports.domains) e m) (append_assoc (map net_module er) (net_module (made ports earl mt) ∷ []) (take i (net_modules ports (earl ++ mt ∷ []) ms)))
     (subst (λ (e : List NetModule). ModuleWell (length ports.domains) (e ++ take i (net_modules ports (earl ++ mt ∷ []) ms)) m) split later)
@@ -217,7 +217,7 @@ last_checked ports earl er [] last all fits =
     (er, subst (λ (e : List Module). ModuleChecked ports e er last) (sym (append-nil earl)) all.0, subst (λ (e : List Module). Fits e er) (sym (append-nil earl)) fits)
 last_checked ports earl er (mt ∷ ms) last all fits =
     let new : ModuleFits mt (made ports earl mt) = (module_fits ports earl er mt all.0 (earlier_fit earl er fits)).1 in
-    let later = last_checked ports (earl ++ mt ∷ []) (er ++ made ports earl mt ∷ []) ms last all.3 (fits_more earl er mt (made ports earl mt) fits new) in (
+    let later = last_checked ports (earl ++ mt ∷ []) (er ++ made ports earl mt ∷ []) ms last all.2 (fits_more earl er mt (made ports earl mt) fits new) in (
       later.0,
       subst (λ (e : List Module). ModuleChecked ports e later.0 last) (append_assoc earl (mt ∷ []) ms) later.1,
       subst (λ (e : List Module). Fits e later.0) (append_assoc earl (mt ∷ []) ms) later.2,

@@ -118,7 +118,7 @@ driver_shown m k (driver.Ram ram) rest = refl
 driver_shown m k (driver.Use used reads driven) rest = refl
 
 -- an item has at most one driver
-one_or_none : (place : Place) (names : List (List ℕ)) (ws : List Wire) (it : Item) (P : List Driver → Type 0) → P [] → ((d : Driver) → P (d ∷ [])) → P (driver_of place names ws it)
+pub one_or_none : (place : Place) (names : List (List ℕ)) (ws : List Wire) (it : Item) (P : List Driver → Type 0) → P [] → ((d : Driver) → P (d ∷ [])) → P (driver_of place names ws it)
 one_or_none place names ws (item.Wire l) P none one = none
 one_or_none place names ws (item.Register l literal memory) P none one = none
 one_or_none place names ws (item.Assign name r) P none one = one _

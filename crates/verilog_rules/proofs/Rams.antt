@@ -104,21 +104,21 @@ pub record RamIs (scene : Scene) (ws full : List Wire) (ram : Ram) : Type 0 wher
   pub few : length (words_of (ram_of scene.ports ws ram)) ≤ RAM_WORDS
 
 -- the checks of a RAM's widths from the value that is written on, and from the `end` on
-abbrev from_written : List ℕ → (n count : ℕ) → RamOf → List Check
+abbrev pub from_written : List ℕ → (n count : ℕ) → RamOf → List Check
 from_written widths n count ram =
     width_check widths n ram.value ∷ (address_checks widths count ram.read ++ check ram.zeros.at (is_literal_of n 0 ram.zeros) ∷ [])
 
-abbrev from_end : List ℕ → (n count : ℕ) → RamOf → List Check
+abbrev pub from_end : List ℕ → (n count : ℕ) → RamOf → List Check
 from_end widths n count ram =
     check ram.end (eqb (length ram.words) count) ∷ width_check widths 1 ram.enable ∷ (address_checks widths count ram.write ++ from_written widths n count ram)
 
 -- the checks of a RAM from its clock on, and from the value that is written on
-abbrev from_value : List Wire → Ram → List Check
+abbrev pub from_value : List Wire → Ram → List Check
 from_value ws ram =
     operand_check ws ram.value ∷ check ram.register.at (shows (bytes_of ram.first.memory) (kind_of ws (bytes_of ram.register)))
     ∷ access_checks ws ram.first.memory ram.read
 
-abbrev from_clock : Ports → List Wire → Ram → List Check
+abbrev pub from_clock : Ports → List Wire → Ram → List Check
 from_clock ports ws ram =
     clock_check ports ram.clock ∷ operand_check ws ram.enable ∷ (access_checks ws ram.first.memory ram.write ++ from_value ws ram)
 

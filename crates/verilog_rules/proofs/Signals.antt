@@ -18,7 +18,7 @@ use Rattle.verilog_rules.specs.NameRules.{is_signal_behind, signal_checks, texts
 use Rattle.verilog_rules.specs.Texts.{begins_then, begins_with, is_lower_word, is_upper}
 use Rattle.verilog_rules.proofs.Holding.{AllTrue}
 
-abbrev dom : ℕ → DomId
+abbrev pub dom : ℕ → DomId
 dom n = record { number = n }
 
 all_of_test : (test : ℕ → Bool) (bs : List ℕ) → list_all test bs ≡ true → AllOf test bs
@@ -52,7 +52,7 @@ clock_text name is = front_is (codes "clk_") name is
 no_reset_clock : (name d : List ℕ) → name ≡ reset_name d → is_clock name ≡ false
 no_reset_clock name d is = ap is_clock is
 
-none_below : (least end j : ℕ) (domains : List DomId) → RiseWithin least end domains → j < least → is_one_of domains (dom j) ≡ false
+pub none_below : (least end j : ℕ) (domains : List DomId) → RiseWithin least end domains → j < least → is_one_of domains (dom j) ≡ false
 none_below least end j [] rise less = refl
 none_below least end j (d ∷ domains) rise less =
     let from = rise.0 in
@@ -102,11 +102,17 @@ behind_clock b name is c clock = elim (or_cases (is_clock name && is_upper (sign
     at_reset true so reset = absurd (false≢true (sym (no_reset_clock name (signal_domain b) reset) ∙ so))
     at_reset false so reset = reset
 
-clock_domains : (s : Word) (rest : List Word) → is_clock (bytes_of s) ≡ true → domains_of (s ∷ rest) ≡ signal_domain (bytes_of s) ∷ domains_of rest
+pub clock_domains : (s : Word) (rest : List Word) → is_clock (bytes_of s) ≡ true → domains_of (s ∷ rest) ≡ signal_domain (bytes_of s) ∷ domains_of rest
 clock_domains s rest is = rw is refl
 
-clock_resets : (k : ℕ) (s : Word) (rest : List Word) → is_clock (bytes_of s) ≡ true → resets_of k (s ∷ rest) ≡ resets_of (k + 1) rest
+pub clock_resets : (k : ℕ) (s : Word) (rest : List Word) → is_clock (bytes_of s) ≡ true → resets_of k (s ∷ rest) ≡ resets_of (k + 1) rest
 clock_resets k s rest is = rw is refl
+
+pub reset_domains : (r : Word) (rest : List Word) → is_clock (bytes_of r) ≡ false → domains_of (r ∷ rest) ≡ domains_of rest
+reset_domains r rest is = rw is refl
+
+pub reset_resets : (k : ℕ) (r : Word) (rest : List Word) → is_clock (bytes_of r) ≡ false → resets_of (k + 1) (r ∷ rest) ≡ dom k ∷ resets_of (k + 1) rest
+reset_resets k r rest is = let back : k + 1 - 1 ≡ k = omega arith in rw (is, back) refl
 
 -- a clock without a reset
 alone : (k : ℕ) (s : Word) (rest : List Word) → is_clock (bytes_of s) ≡ true → is_upper (signal_domain (bytes_of s)) ≡ true → SignalsAre (k + 1) rest → SignalsAre k (s ∷ rest)
@@ -170,12 +176,6 @@ with_reset k s r rest clock upper no_clock reset later =
 
     three : (x y : List ℕ) (xs : List (List ℕ)) (u v : List ℕ) (us : List (List ℕ)) → x ≡ u → y ≡ v → xs ≡ us → x ∷ y ∷ xs ≡ u ∷ v ∷ us
     three x y xs u v us p q t = λ i. p i ∷ q i ∷ t i
-
-    reset_domains : (r : Word) (rest : List Word) → is_clock (bytes_of r) ≡ false → domains_of (r ∷ rest) ≡ domains_of rest
-    reset_domains r rest is = rw is refl
-
-    reset_resets : (k : ℕ) (r : Word) (rest : List Word) → is_clock (bytes_of r) ≡ false → resets_of (k + 1) (r ∷ rest) ≡ dom k ∷ resets_of (k + 1) rest
-    reset_resets k r rest is = let back : k + 1 - 1 ≡ k = omega arith in rw (is, back) refl
 
 pub signals_are : (k : ℕ) (before : Option (List ℕ)) (signals : List Word) → NoClock before → AllTrue (signal_checks before signals) → SignalsAre k signals
 signals_are k before [] no_clock all = record { names = λ given agree. refl; uppers = tt; rise = tt }

@@ -41,7 +41,7 @@ abbrev pub AllChecked : Ports → List Module → List ResolvedModule → List M
 AllChecked ports earl er [] = Unit {0}
 AllChecked ports earl er (mt ∷ ms) =
     ModuleChecked ports earl er mt × (texts (signals_of (ports_in mt)) ≡ clock_names ports.resets 0 ports.domains)
-    × (ms ≡ [] → Unit {0}) × AllChecked ports (earl ++ mt ∷ []) (er ++ made ports earl mt ∷ []) ms
+    × AllChecked ports (earl ++ mt ∷ []) (er ++ made ports earl mt ∷ []) ms
 
 same_names : (xs ys : List (List ℕ)) → pointwise bytes_eq xs ys ≡ true → xs ≡ ys
 same_names [] [] is = refl
@@ -80,7 +80,6 @@ all_checked ports last k earl er [] formed ordered limits names lasts widths dri
           (second_part (flat_map (port_form ports.domains) (ports_in last)) (module_checks (place_in ports earl) last) lasts_so.1)
           (first_part (module_width_checks er (made ports earl last)) [] widths) drivers,
       signals,
-      (λ none. tt),
       tt,
     )
 all_checked ports last k earl er (m ∷ ms) formed ordered limits names lasts widths drivers signals =
@@ -94,7 +93,6 @@ all_checked ports last k earl er (m ∷ ms) formed ordered limits names lasts wi
     (first_part (module_width_checks er (made ports earl m)) (widths_from (er ++ made ports earl m ∷ []) (resolved_modules ports (earl ++ m ∷ []) rest)) widths) split.1 in (
       mine,
       same_names (texts (signals_of (ports_in m))) (texts (signals_of (ports_in last))) names.0 ∙ signals,
-      (λ none. tt),
       all_checked ports last (k + 1) (earl ++ m ∷ []) (er ++ made ports earl m ∷ []) ms formed.1
           (all_both (λ (n : Module). Ordered 0 (ports_in n)) earl (m ∷ []) ordered (mine.order, tt))
           (second_part (module_limits k m) (limits_from (k + 1) rest) limits) more_names
@@ -108,7 +106,7 @@ modules_denote ports earl er [] all = tt
 modules_denote ports earl er (mt ∷ ms) all = (
   module_denotes ports earl er mt all.0 all.1,
   subst (λ (e : List ModuleItem). DenoteModules ports e (map module_of ms) (map net_module (resolved_modules ports (earl ++ mt ∷ []) ms))) (map-append module_of earl (mt ∷ []))
-      (modules_denote ports (earl ++ mt ∷ []) (er ++ made ports earl mt ∷ []) ms all.3),
+      (modules_denote ports (earl ++ mt ∷ []) (er ++ made ports earl mt ∷ []) ms all.2),
 )
 
 -- THE TEXT
@@ -155,10 +153,10 @@ all_new ports earl er [] all = tt
 all_new ports earl er (m ∷ ms) all = (
   ap not all.0.new,
   subst (λ (ns : List (List ℕ)). AllTrue (once_checks ns (map (λ (m : Module). m.name) ms))) (map-append (λ (m : Module). bytes_of m.name) earl (m ∷ []))
-      (all_new ports (earl ++ m ∷ []) (er ++ made ports earl m ∷ []) ms all.3),
+      (all_new ports (earl ++ m ∷ []) (er ++ made ports earl m ∷ []) ms all.2),
 )
 
-module_texts : (ms : List Module) → texts (map (λ (m : Module). m.name) ms) ≡ map (λ (m : ModuleItem). m.name) (map module_of ms)
+pub module_texts : (ms : List Module) → texts (map (λ (m : Module). m.name) ms) ≡ map (λ (m : ModuleItem). m.name) (map module_of ms)
 module_texts [] = refl
 module_texts (m ∷ ms) = ap (λ (rest : List (List ℕ)). bytes_of m.name ∷ rest) (module_texts ms)
 

@@ -2,6 +2,7 @@ pub mod Checks
 pub mod Declarations
 pub mod DriverRules
 pub mod Faults
+pub mod Least
 pub mod Limits
 pub mod NameRules
 pub mod NetOf

@@ -1,36 +1,39 @@
-use Rattle.std.proofs.Common.{◌≡◌, List, [], Bool, length, map, sym, ◌∙◌, arith}
-use Rattle.std.proofs.lemmas.List.{length-map}
-use Rattle.net_sim.specs.Ticking.{MovesWords, moved_words}
-use Rattle.net_sim.proofs.Writing.{moves_words_keeper, behind_within, fits_table, listed_all, listed_more, moves_words_cases, moves_words_there}
+use Rattle.std.proofs.Common.{◌≡◌, List, [], Bool, length, rules, arith}
+use Rattle.net_sim.specs.Ticking.{IsRamOf, MovesWords, moved_words}
+use Rattle.net_sim.proofs.Domains.{Below, below_words, domain_moved, domain_none, domain_still, ram_keeper, words_below, written_as}
 use Rattle.net_sim.proofs.tick.write_all.Goals as goal
 
-pub write-requires-clause-fits : goal.write-requires-clause-fits
-write-requires-clause-fits c =
-    fits_table c.args.flat.now c.args.words.now c.cell_at.result.now c.requires.sound (c.requires.table) (_, c.cell_at.ensures)
+pub loop-number-init : goal.loop-number-init
+loop-number-init c = record {
+  written = domain_none (List (List Bool)) [] IsRamOf ram_keeper (λ w cell old. moved_words c.args.words.now cell old) c.args.flat.now c.args.event.now c.requires.sound c.args.memories.now;
+  memories = c.requires.memories;
+}
 
-pub loop-place-preserved : goal.loop-place-preserved
-loop-place-preserved c =
-    let flat = c.args.flat.now in
-    let event = c.args.event.now in
-    let l = c.loop-place in
-    let cell = c.cell_at.result.now in
-    let fits = fits_table flat c.args.words.now cell c.requires.sound (c.requires.table) (_, c.cell_at.ensures) in
-    let size : length (map length c.args.words.now) ≡ length l.memories = length-map c.args.words.now length ∙ sym l.invariant.memories.count in
+pub loop-number-preserved : goal.loop-number-preserved
+loop-number-preserved c =
+    let l = c.loop-number in
     record {
       written =
-          listed_more (List (List Bool)) [] (MovesWords event) (λ w cell old. moved_words c.args.words.now cell old) flat c.args.keepers.now c.args.memories.now l.memories c.write.new.memories l.place-index cell
-          c.requires.sound c.requires.keepers (moves_words_keeper event) c.loop-place-test.true
-          (moves_words_cases event cell) (moves_words_there event fits.0 (length l.memories) (map length c.args.words.now) cell fits.1 size) c.cell_at.ensures
-          l.invariant.written c.write.ensures.written;
-      memories = c.write.ensures.memories;
+          domain_moved (List (List Bool)) [] IsRamOf ram_keeper (λ w cell old. moved_words c.args.words.now cell old) c.args.flat.now c.args.event.now c.requires.sound l.number c.args.memories.now l.memories c.write_domain.new.memories
+          (let t = c.ticks.ensures in search rules) l.invariant.written c.write_domain.ensures.written;
+      memories = c.write_domain.ensures.memories;
+    }
+
+pub loop-number-preserved-then-not-ticks : goal.loop-number-preserved-then-not-ticks
+loop-number-preserved-then-not-ticks c =
+    let l = c.loop-number in
+    record {
+      written =
+          domain_still (List (List Bool)) [] IsRamOf ram_keeper (λ w cell old. moved_words c.args.words.now cell old) c.args.flat.now c.args.event.now c.requires.sound l.number c.args.memories.now l.memories
+          (let t = c.ticks.ensures in search rules) l.invariant.written;
+      memories = l.invariant.memories;
     }
 
 pub returns-clause-written : goal.returns-clause-written
 returns-clause-written c =
     let flat = c.args.flat.now in
     let event = c.args.event.now in
-    let l = c.loop-place in
-    let keepers = c.args.keepers.now in
-    let all : l.place-index ≡ length keepers = omega arith in
-    listed_all (List (List Bool)) [] (MovesWords event) (λ w cell old. moved_words c.args.words.now cell old) flat keepers c.args.memories.now l.memories l.place-index c.requires.keepers (moves_words_keeper event) all
-    (behind_within flat keepers (length flat.cells) l.place-index c.requires.keepers (omega arith)) l.invariant.written
+    let l = c.loop-number in
+    let all : l.number ≡ length flat.ports.domains = omega (arith, c.requires.keepers.count) in
+    written_as (List (List Bool)) [] (Below IsRamOf event l.number) (MovesWords event) (λ w cell old. moved_words c.args.words.now cell old) flat c.args.memories.now l.memories (length flat.cells)
+    (words_below flat event l.number c.requires.sound all) (below_words event l.number) l.invariant.written

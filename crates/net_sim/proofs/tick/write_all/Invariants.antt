@@ -1,10 +1,11 @@
--- the cells so far
-use Rattle.std.proofs.Common.{List, [], Bool}
-use Rattle.net_sim.specs.Ticking.{behind, MemoriesFit, MovesWords, WrittenBefore, moved_words}
+-- the domains so far
+use Rattle.std.proofs.Common.{List, [], Bool, length}
+use Rattle.net_sim.specs.Ticking.{IsRamOf, MemoriesFit, WrittenBefore, moved_words}
+use Rattle.net_sim.proofs.Domains.{Below}
 use Rattle.net_sim.proofs.tick.write_all.Given as goal
 
-abbrev pub invariant-loop-place : goal.invariant-loop-place
-invariant-loop-place l = record {
-  written : WrittenBefore (List (List Bool)) [] (MovesWords l.event) (λ w cell old. moved_words l.words cell old) l.flat l.fn.memories l.memories (behind l.keepers l.place-index);
+abbrev pub invariant-loop-number : goal.invariant-loop-number
+invariant-loop-number l = record {
+  written : WrittenBefore (List (List Bool)) [] (Below IsRamOf l.event l.number) (λ w cell old. moved_words l.words cell old) l.flat l.fn.memories l.memories (length l.flat.cells);
   memories : MemoriesFit l.words l.memories;
 }

@@ -1,5 +1,4 @@
-use Rattle.std.proofs.Common.{subst, sym, arith, [], take}
-use Rattle.term_types.specs.Numbers.{AreNumbered}
+use Rattle.std.proofs.Common.{arith}
 use Rattle.term_types.proofs.Numbered.{definition_next, definitions_all}
 use Rattle.term_types.proofs.numbering.definition_numbers.Goals as goal
 

@@ -1,5 +1,4 @@
 use Rattle.std.proofs.Common.{take}
-use Rattle.type_numbers.specs.Nodes.{Grows}
 use Rattle.term_types.specs.Numbers.{AreNumbered}
 use Rattle.term_types.proofs.numbering.definition_numbers.Given as goal
 

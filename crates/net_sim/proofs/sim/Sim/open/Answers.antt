@@ -19,6 +19,7 @@ returns-clause-table c =
           c.in_ok-memories.ensures.count c.in_ok-memories.ensures.loaded;
       sizes = sizes_first flat c.in_ok-memories.memories.items sound c.in_ok-memories.ensures.loaded;
       room = sym c.in_ok-room.room.ok.0 ∙ c.in_ok-room.ensures.len;
+      outputs = c.in_ok-outputs.ensures;
     }
 
 pub returns-clause-past : goal.returns-clause-past

@@ -26,6 +26,7 @@ returns-clause-table c =
       sizes = subst (HaveSizes old.flat.now) (sym all)
           (sizes_after old.flat.now c.args.event.now old.words.items c.advance.new.words old.memories.items c.advance.new.memories table.sizes step);
       room = table.room;
+      outputs = table.outputs;
     }
 
 pub returns-clause-stands : goal.returns-clause-stands

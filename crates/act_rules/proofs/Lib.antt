@@ -1,0 +1,4 @@
+pub mod Beta
+pub mod Lets
+pub mod Moves
+pub mod Scrutinees

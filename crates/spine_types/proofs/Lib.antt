@@ -1,0 +1,4 @@
+pub mod Asked
+pub mod Lets
+pub mod Saturated
+pub mod Spines

@@ -1,0 +1,5 @@
+pub mod Complete
+pub mod OneChanged
+pub mod Places
+pub mod Plugged
+pub mod Typed

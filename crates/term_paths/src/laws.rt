@@ -1,0 +1,23 @@
+//! The laws, each as the contract of a call that does nothing.
+ghost use Rattle.term_paths.specs.Laws.{ChildOfWithChild, WithSameChild, WithChildTwice, ChildApart, PartOfWithPart, WithSamePart, WithPartTwice, PartBehind, WithPartBehind};
+
+/// A child in another's place: it is found there, and the other children stay.
+pub fn children()
+    ensures found { ChildOfWithChild }
+    ensures same { WithSameChild }
+    ensures twice { WithChildTwice }
+    ensures apart { ChildApart }
+{}
+
+/// A part in another's place: it is found there, and one part put after another stays.
+pub fn parts()
+    ensures found { PartOfWithPart }
+    ensures same { WithSamePart }
+    ensures twice { WithPartTwice }
+{}
+
+/// A path behind a path leads to a part of the part.
+pub fn parts_of_parts()
+    ensures found { PartBehind }
+    ensures changed { WithPartBehind }
+{}
