@@ -1,0 +1,13 @@
+pub mod Holding
+pub mod Operands
+pub mod Literals
+pub mod Values
+pub mod Wires
+pub mod Registers
+pub mod Rams
+pub mod Connections
+pub mod Connected
+pub mod Uses
+pub mod Items
+pub mod Used
+pub mod WasItems
