@@ -1,0 +1,6 @@
+mod Digits
+mod Firsts
+mod Grown
+mod LimitsOn
+mod Steps
+mod WiresFound
