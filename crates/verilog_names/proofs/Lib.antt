@@ -1,0 +1,13 @@
+mod Digits
+mod Domains
+mod Ends
+mod Firsts
+mod Grown
+mod ItemsMore
+mod Joined
+mod LimitsOn
+mod OnceNames
+mod Sorted
+mod Steps
+mod Used
+mod WiresFound

@@ -1,0 +1,6 @@
+pub mod Clocked
+pub mod Connected
+pub mod Declares
+pub mod Firsts
+pub mod Found
+pub mod Least

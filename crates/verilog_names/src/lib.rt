@@ -1,0 +1,19 @@
+//! The limits on a Verilog text, and its names, each of which is resolved to a wire, a clock or a module.
+#![tactic(auto)]
+
+mod clocks;
+mod cut;
+mod forms;
+mod items;
+mod known;
+mod least;
+mod limiting;
+mod numbers;
+mod once;
+mod places;
+mod ports;
+mod uses;
+mod values;
+mod wires;
+
+pub use limiting::limits;
