@@ -35,11 +35,7 @@ fn input_wire<'t>(line: &Line<'t>) -> Wire<'t>
 }
 
 // The wires of inputs, behind others.
-fn add_inputs<'t>(
-    alloc: Global,
-    wires: &mut Wires<'t>,
-    inputs: &[Line<'t>],
-) -> Result<(), NoMemory>
+fn add_inputs<'t>(alloc: Global, wires: &mut Wires<'t>, inputs: &[Line<'t>]) -> Result<(), NoMemory>
     ensures { OnOk result (wires.new ≡ wires.old ++ map input_wire inputs.now) }
 {
     for line in inputs {
@@ -209,7 +205,9 @@ fn resolve_modules<'t>(
     let mut made = Vec::new(alloc);
     let mut names = Places::new(alloc);
     let earlier = tree.earlier.as_slice();
-    resolve_earlier(alloc, clocks, signals, &mut names, least, earlier, &mut made)?;
+    resolve_earlier(
+        alloc, clocks, signals, &mut names, least, earlier, &mut made,
+    )?;
     let last = resolve_last(alloc, clocks, &names, least, tree)?;
     made.push(last)?;
     Ok(made)

@@ -13,6 +13,6 @@ invariant-loop-i l =
       names : l.names ≡ module_names (take l.i l.earlier);
       modules : l.made.items ++ resolved_modules l.clocks (take l.i l.earlier) (drop l.i l.earlier) ≡ l.initial.made.items ++ resolved_modules l.clocks [] l.earlier;
       checks :
-        (last : Module) → l.signals ≡ signals_of (ports_in last)
-        → least_after l.least (earlier_checks l.clocks last (take l.i l.earlier) (drop l.i l.earlier)) ≡ least_after l.initial.least (earlier_checks l.clocks last [] l.earlier);
+          (last : Module) → l.signals ≡ signals_of (ports_in last)
+          → least_after l.least (earlier_checks l.clocks last (take l.i l.earlier) (drop l.i l.earlier)) ≡ least_after l.initial.least (earlier_checks l.clocks last [] l.earlier);
     }

@@ -14,7 +14,7 @@ returns-clause-checks c =
     let ports = c.args.clocks.now in
     on_ok_weaker c.resolve_behind.result
     (λ taken. last_taken ports c.args.tree.now.earlier last c.args.least.now c.check.new.self c.check_top_ports.new.least c.resolve_behind.new.least
-      (c.check.ensures ∙ ap (λ b. lesser c.args.least.now (broken_at (check last.name.at b))) c.are_same.ensures)
-      (c.check_top_ports.ensures ∙ ap (λ ds. least_after c.check.new.self (flat_map (port_form ds) (ports_in last))) c.domains.ensures)
-      (taken ∙ ap (λ ms. least_after c.check_top_ports.new.least (module_checks (placed ports ms) last)) c.as_slice.ensures))
+    (c.check.ensures ∙ ap (λ b. lesser c.args.least.now (broken_at (check last.name.at b))) c.are_same.ensures)
+    (c.check_top_ports.ensures ∙ ap (λ ds. least_after c.check.new.self (flat_map (port_form ds) (ports_in last))) c.domains.ensures)
+    (taken ∙ ap (λ ms. least_after c.check_top_ports.new.least (module_checks (placed ports ms) last)) c.as_slice.ensures))
     c.resolve_behind.ensures.checks
