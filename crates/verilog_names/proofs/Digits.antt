@@ -1,5 +1,5 @@
 -- Numbers read up to the greatest of their type.
-use Rattle.std.proofs.Common.{◌≡◌, ℕ, ◌+◌, ◌*◌, ◌-◌, ◌^◌, ◌<◌, ◌≤◌, arith, nat_lt}
+use Rattle.std.proofs.Common.{◌≡◌, ℕ, ◌+◌, ◌*◌, arith}
 use Rattle.std.specs.Prelude.{min}
 
 -- one more digit, up to the greatest number

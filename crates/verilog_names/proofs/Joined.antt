@@ -2,7 +2,6 @@
 use Rattle.std.proofs.Common.{◌≡◌, ℕ, ◌+◌, ◌<◌, ◌≤◌, List, [], ◌∷◌, ◌++◌, length, get_or, drop, Option, refl, sym, ap, ◌∙◌, append_assoc, arith}
 use Rattle.std.specs.Prelude.{min}
 use Rattle.std.proofs.lemmas.List.{append-nil, at_drop_more, length-drop}
-use Rattle.verilog_names.proofs.Steps.{least_after_both}
 use Rattle.verilog_names.specs.Connected.{joined_checks}
 use Rattle.verilog_names.specs.Least.{least_after}
 use Rattle.verilog_rules.specs.NameRules.{connection_checks}

@@ -6,6 +6,7 @@ mod Grown
 mod ItemsMore
 mod Joined
 mod LimitsOn
+mod ModuleRules
 mod OnceNames
 mod Sorted
 mod Steps

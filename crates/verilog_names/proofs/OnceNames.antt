@@ -1,5 +1,5 @@
 -- Names declared one list after the other.
-use Rattle.std.proofs.Common.{◌≡◌, ℕ, ◌+◌, ◌<◌, ◌≤◌, List, [], ◌∷◌, ◌++◌, length, get_or, drop, take, map, Option, not, refl, sym, ap, ◌∙◌, subst, append_assoc}
+use Rattle.std.proofs.Common.{◌≡◌, ℕ, ◌+◌, ◌<◌, ◌≤◌, List, [], ◌∷◌, ◌++◌, length, get_or, take, map, Option, not, refl, sym, ap, ◌∙◌, subst, append_assoc}
 use Rattle.std.specs.List.{flat_map}
 use Rattle.std.proofs.lemmas.Grind.{flat_map-append}
 use Rattle.std.proofs.lemmas.List.{append-nil, map-append, take_all, take_more}
@@ -7,7 +7,7 @@ use Rattle.name_tables.specs.Names.{is_among}
 use Rattle.verilog_names.proofs.Steps.{least_after_both}
 use Rattle.verilog_names.specs.Declares.{Declares}
 use Rattle.verilog_names.specs.Least.{least_after}
-use Rattle.verilog_rules.specs.Checks.{Check, check}
+use Rattle.verilog_rules.specs.Checks.{check}
 use Rattle.verilog_rules.specs.Declarations.{port_word}
 use Rattle.verilog_rules.specs.NameRules.{once_checks, texts}
 use Rattle.verilog_tree.specs.Sources.{bytes_of}

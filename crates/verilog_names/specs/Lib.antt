@@ -4,3 +4,4 @@ pub mod Declares
 pub mod Firsts
 pub mod Found
 pub mod Least
+pub mod Resolves

@@ -280,11 +280,7 @@ fn register<'t>(line: &Line<'t>, literal: &Word<'t>, memory: &Option<Memory<'t>>
 }
 
 // The wire that an item declares, behind others.
-fn declare<'t>(
-    alloc: Global,
-    wires: &mut Wires<'t>,
-    item: &Item<'t>,
-) -> Result<(), NoMemory>
+fn declare<'t>(alloc: Global, wires: &mut Wires<'t>, item: &Item<'t>) -> Result<(), NoMemory>
     ensures { OnOk result (wires.new ≡ wires.old ++ wires_by item.now) }
 {
     match item {

@@ -8,12 +8,15 @@ mod items;
 mod known;
 mod least;
 mod limiting;
+mod modules;
 mod numbers;
 mod once;
 mod places;
 mod ports;
+mod resolving;
 mod uses;
 mod values;
 mod wires;
 
 pub use limiting::limits;
+pub use resolving::{NameFault, resolve};

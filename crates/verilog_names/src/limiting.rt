@@ -98,7 +98,12 @@ fn limit_item(least: &mut Least, item: &Item<'_>)
 {
     match item {
         Item::Wire(line) => limit_range(least, &line.range),
-        Item::Register(line, literal, memory) => limit_register(least, &line.range, literal, memory),
+        Item::Register(line, literal, memory) => limit_register(
+            least,
+            &line.range,
+            literal,
+            memory,
+        ),
         Item::Assign(_, right) => limit_right(least, right),
         Item::Edge(edge) => limit_reset(least, &edge.reset),
         Item::Ram(ram) => limit_ram(least, ram),

@@ -15,11 +15,7 @@ use std::alloc::Global;
 use verilog_tree::{Item, Memory, Module, Port, Word};
 
 // Declares a name, which is none of those before it.
-fn declare<'t>(
-    known: &mut Places<'t>,
-    least: &mut Least,
-    word: &Word<'t>,
-) -> Result<(), NoMemory>
+fn declare<'t>(known: &mut Places<'t>, least: &mut Least, word: &Word<'t>) -> Result<(), NoMemory>
     ensures { OnOk result (Declares known.old known.new least.old least.new (word.now ∷ [])) }
 {
     least.check(word.at, !known.has(word.bytes));

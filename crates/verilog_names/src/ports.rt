@@ -8,7 +8,9 @@ ghost use Rattle.verilog_rules.specs.Declarations.{inputs_of, outputs_of, port_w
 ghost use Rattle.verilog_rules.specs.NameRules.{is_port_name, is_signal_behind, order_checks, port_form, rank, signal_checks, texts};
 ghost use Rattle.verilog_tree.specs.Sources.{bytes_of};
 
-use crate::forms::{are_same, domain_part, is_clock, is_lower_word, is_reset_of, is_upper, name_part, without};
+use crate::forms::{
+    are_same, domain_part, is_clock, is_lower_word, is_reset_of, is_upper, name_part, without,
+};
 use crate::least::Least;
 use crate::places::Places;
 use chw_base::NoMemory;

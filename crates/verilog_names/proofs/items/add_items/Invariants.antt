@@ -12,9 +12,9 @@ invariant-loop-item l =
     record {
       wires : l.wires ++ flat_map wires_by (drop l.item-index l.items) ≡ l.initial.wires ++ flat_map wires_by l.items;
       drivers :
-        l.drivers.items ++ drivers_of l.place l.outputs l.wires (drop l.item-index l.items)
-        ≡ l.initial.drivers.items ++ drivers_of l.place l.outputs l.initial.wires l.items;
+          l.drivers.items ++ drivers_of l.place l.outputs l.wires (drop l.item-index l.items)
+          ≡ l.initial.drivers.items ++ drivers_of l.place l.outputs l.initial.wires l.items;
       checks :
-        least_after l.least (items_checks l.place l.outputs l.wires (drop l.item-index l.items))
-        ≡ least_after l.initial.least (items_checks l.place l.outputs l.initial.wires l.items);
+          least_after l.least (items_checks l.place l.outputs l.wires (drop l.item-index l.items))
+          ≡ least_after l.initial.least (items_checks l.place l.outputs l.initial.wires l.items);
     }

@@ -1,4 +1,4 @@
-use Rattle.std.proofs.Common.{◌≡◌, ℕ, ◌+◌, ◌-◌, ◌*◌, ◌^◌, get_or, arith, ap, ◌∙◌}
+use Rattle.std.proofs.Common.{◌+◌, ◌-◌, ◌^◌, get_or, ap, ◌∙◌}
 use Rattle.std.specs.Char.{digit_value}
 use Rattle.std.specs.Prelude.{min}
 use Rattle.std.proofs.lemmas.Int.Digits.{digits_value_more}

@@ -11,6 +11,6 @@ invariant-loop-i l =
       reads : l.reads.items ++ reads_of l.wires (drop l.i l.ports) (drop l.i l.connections) ≡ l.initial.reads.items ++ reads_of l.wires l.ports l.connections;
       drives : l.drives.items ++ drives_of l.wires (drop l.i l.ports) (drop l.i l.connections) ≡ l.initial.drives.items ++ drives_of l.wires l.ports l.connections;
       checks :
-        least_after l.least (connection_checks l.wires l.close (drop l.i l.ports) (drop l.i l.connections))
-        ≡ least_after l.initial.least (connection_checks l.wires l.close l.ports l.connections);
+          least_after l.least (connection_checks l.wires l.close (drop l.i l.ports) (drop l.i l.connections))
+          ≡ least_after l.initial.least (connection_checks l.wires l.close l.ports l.connections);
     }

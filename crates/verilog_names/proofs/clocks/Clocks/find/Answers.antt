@@ -1,4 +1,4 @@
-use Rattle.std.proofs.Common.{◌≡◌, ap, sym, ◌∙◌}
+use Rattle.std.proofs.Common.{ap, sym, ◌∙◌}
 use Rattle.chw_clock.specs.declared.event.Ports.{Ports}
 use Rattle.name_tables.specs.Names.{place_of}
 use Rattle.verilog_names.proofs.Domains.{clock_found, clock_missed}

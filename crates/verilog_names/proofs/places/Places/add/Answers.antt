@@ -1,7 +1,7 @@
 use Rattle.std.proofs.Common.{◌≡◌, ◌+◌, ◌<◌, ◌^◌, [], ◌∷◌, ◌++◌, length, true, false, sym, ap, ◌∙◌, subst, arith}
 use Rattle.std.specs.Option.{is_some}
 use Rattle.verilog_names.specs.Firsts.{AreFirsts}
-use Rattle.verilog_names.proofs.Firsts.{IsWith, kept, noted, place_at}
+use Rattle.verilog_names.proofs.Firsts.{kept, noted, place_at}
 use Rattle.verilog_names.proofs.places.Places.add.Goals as goal
 use Rattle.verilog_names.proofs.places.Places.add.Goals.{then-not-contains_key+in_ok-insert, else-not-contains_key}
 
@@ -12,18 +12,19 @@ invariant_of-self-2 c =
     let inside = c.if-not-contains_key.self-inside in
     let few : length names + 1 < 2 ^ 32 = omega arith in
     elim c.if-not-contains_key.branch [
-      then-not-contains_key+in_ok-insert w ↦
-        let are : c.push.new.self.items ≡ names ++ c.args.name ∷ [] =
-        c.in_ok-push.ensures.items ∙ ap (λ s. s.names.items ++ c.args.name ∷ []) w.self-inside-is ∙ ap (λ ns. ns ++ c.args.name ∷ []) c.in_ok-reserve.ensures.items in
-        let place : c.len-place.result ≡ length names = omega arith in
-        let unknown : is_some (place_at old c.args.name) ≡ false = sym c.contains_key.ensures ∙ w.if-not-contains_key.true in
-        let table : inside.firsts ≡ w.insert.new.self = ap (λ s. s.firsts) w.self-inside-is in
-        subst (λ ns. AreFirsts inside.firsts ns) (sym are) (subst (λ t. AreFirsts t (names ++ c.args.name ∷ [])) (sym table)
-        (noted old w.insert.new.self names c.args.name c.len-place.result c.self.invariant few place unknown w.in_ok-insert.ensures.updates.0))
-    | else-not-contains_key w ↦
-        let are : c.push.new.self.items ≡ names ++ c.args.name ∷ [] =
-        c.in_ok-push.ensures.items ∙ ap (λ s. s.names.items ++ c.args.name ∷ []) w.self-inside-is ∙ ap (λ ns. ns ++ c.args.name ∷ []) c.in_ok-reserve.ensures.items in
-        let known : is_some (place_at old c.args.name) ≡ true = sym c.contains_key.ensures ∙ w.if-not-contains_key.false in
-        let table : inside.firsts ≡ old = ap (λ s. s.firsts) w.self-inside-is in
-        subst (λ ns. AreFirsts inside.firsts ns) (sym are) (subst (λ t. AreFirsts t (names ++ c.args.name ∷ [])) (sym table)
-        (kept old names c.args.name c.self.invariant few known)) ]
+      | then-not-contains_key+in_ok-insert w ↦
+          let are : c.push.new.self.items ≡ names ++ c.args.name ∷ [] =
+          c.in_ok-push.ensures.items ∙ ap (λ s. s.names.items ++ c.args.name ∷ []) w.self-inside-is ∙ ap (λ ns. ns ++ c.args.name ∷ []) c.in_ok-reserve.ensures.items in
+          let place : c.len-place.result ≡ length names = omega arith in
+          let unknown : is_some (place_at old c.args.name) ≡ false = sym c.contains_key.ensures ∙ w.if-not-contains_key.true in
+          let table : inside.firsts ≡ w.insert.new.self = ap (λ s. s.firsts) w.self-inside-is in
+          subst (λ ns. AreFirsts inside.firsts ns) (sym are) (subst (λ t. AreFirsts t (names ++ c.args.name ∷ [])) (sym table)
+          (noted old w.insert.new.self names c.args.name c.len-place.result c.self.invariant few place unknown w.in_ok-insert.ensures.updates.0))
+      | else-not-contains_key w ↦
+          let are : c.push.new.self.items ≡ names ++ c.args.name ∷ [] =
+          c.in_ok-push.ensures.items ∙ ap (λ s. s.names.items ++ c.args.name ∷ []) w.self-inside-is ∙ ap (λ ns. ns ++ c.args.name ∷ []) c.in_ok-reserve.ensures.items in
+          let known : is_some (place_at old c.args.name) ≡ true = sym c.contains_key.ensures ∙ w.if-not-contains_key.false in
+          let table : inside.firsts ≡ old = ap (λ s. s.firsts) w.self-inside-is in
+          subst (λ ns. AreFirsts inside.firsts ns) (sym are) (subst (λ t. AreFirsts t (names ++ c.args.name ∷ [])) (sym table)
+          (kept old names c.args.name c.self.invariant few known))
+    ]

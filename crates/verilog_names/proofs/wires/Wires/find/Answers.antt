@@ -1,12 +1,8 @@
-use Rattle.std.proofs.Common.{◌≡◌, ℕ, List, Option, map, sym, ap, ◌∙◌}
-use Rattle.std.specs.Option.{unwrap_or}
+use Rattle.std.proofs.Common.{◌≡◌, map, sym, ap, ◌∙◌}
 use Rattle.name_tables.specs.Names.{place_of}
 use Rattle.verilog_names.proofs.WiresFound.{kind_by_place, operand_found}
 use Rattle.verilog_names.specs.Found.{kind_at}
 use Rattle.verilog_rules.specs.Declarations.{wire_name}
-use Rattle.verilog_rules.specs.NameRules.{kind_of}
-use Rattle.verilog_rules.specs.Resolving.{operand}
-use Rattle.verilog_rules.specs.declared.resolved.Operand.{Operand}
 use Rattle.verilog_names.proofs.wires.Wires.find.Goals as goal
 
 pub returns : goal.returns

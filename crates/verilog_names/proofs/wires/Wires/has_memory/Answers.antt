@@ -1,4 +1,4 @@
-use Rattle.std.proofs.Common.{ap, ◌∙◌, sym}
+use Rattle.std.proofs.Common.{ap, ◌∙◌}
 use Rattle.name_tables.specs.Names.{is_among}
 use Rattle.verilog_names.proofs.WiresFound.{memories_found}
 use Rattle.verilog_rules.specs.NameRules.{is_memory}
