@@ -9,7 +9,8 @@ use Rattle.chw_types.specs.Kinds.{HasFunctions}
 use Rattle.chw_types.specs.SameTypes.{SameTypes}
 use Rattle.chw_terms.specs.declared.scene.Scene.{Scene}
 use Rattle.chw_terms.specs.TermTree.{TermTree, Group, Alts}
-use Rattle.chw_terms.specs.TermMoves.{rename, rename_group, rename_alts, Substitution, sub, sub_group}
+use Rattle.chw_terms.specs.TermMoves.{rename, rename_group, rename_alts}
+use Rattle.chw_terms.specs.TermMoves.{Substitution, sub, sub_group}
 use Rattle.chw_terms.specs.TermMoves.{lowered, in_place_of}
 use Rattle.chw_terms.specs.Occurs.{occurs, occurs_group, occurs_alts}
 use Rattle.chw_typing.specs.Scopes.{Setting, setting_in, HasKind, AreTermTypes}
