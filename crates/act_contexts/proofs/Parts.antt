@@ -37,6 +37,7 @@ pub data AltsAt (p : Program) (types : List TypeTree) (o : ℕ → TermTree) (ki
   alts_and : {q : Pattern} {e' e : TermTree} {more' more : Alts} → BodyAt p types o kinds vars u q e' e → AltsAt p types o kinds vars u more' more → AltsAt p types o kinds vars u (alt q e' more') (alt q e more)
 
 module _ (p : Program) (sound : IsSound (setting_of p)) (typed : IsTyped p) (types : List TypeTree) (o : ℕ → TermTree) (are_closed : AreClosed (setting_of p) types) (have : OriginsTyped p types o) where
+  -- a typed term acts as itself
   pub itself_acts : {kinds : List Kind} {vars : List TypeTree} (e : TermTree) → AreTermTypes (setting_with p types) kinds vars → ActsAtTypes p types o kinds vars e e
   itself_acts e h u d n δ γ' γ known names = same_term_acts p sound typed types o are_closed have h d (acts_from p n) (from_turns p n) δ γ' γ known names
 
@@ -44,6 +45,7 @@ module _ (p : Program) (sound : IsSound (setting_of p)) (typed : IsTyped p) (typ
   sides_itself no_bindings h = no_sides
   sides_itself (bind t e g) h = sides_and (itself_acts e h) (sides_itself g h)
 
+  -- the right sides, of which the one at this place may change
   pub one_side : {kinds : List Kind} {vars : List TypeTree} (g : Group) (e b y : TermTree) (i : ℕ) → AreTermTypes (setting_with p types) kinds vars → part_of_group g e i ≡ Some b → ActsAtTypes p types o kinds vars y b → SidesAt p types o kinds vars (with_side g i y) g
   one_side no_bindings e b y i h at f = no_sides
   one_side {kinds} {vars} (bind t r g) e b y zero h at f =
@@ -51,6 +53,7 @@ module _ (p : Program) (sound : IsSound (setting_of p)) (typed : IsTyped p) (typ
       sides_and (subst (ActsAtTypes p types o kinds vars y) (sym is) f) (sides_itself g h)
   one_side (bind t r g) e b y (suc i) h at f = sides_and (itself_acts r h) (one_side g e b y i h at f)
 
+  -- the body, if this is its place
   pub one_body : {kinds : List Kind} {vars : List TypeTree} (g : Group) (e b y : TermTree) (i : ℕ) → AreTermTypes (setting_with p types) kinds vars → part_of_group g e i ≡ Some b → ActsAtTypes p types o kinds vars y b → ActsAtTypes p types o kinds vars (with_body g e i y) e
   one_body {kinds} {vars} no_bindings e b y zero h at f =
       let is : e ≡ b = same_some refl at in
@@ -63,6 +66,7 @@ module _ (p : Program) (sound : IsSound (setting_of p)) (typed : IsTyped p) (typ
   elements_itself no_terms h = no_elements
   elements_itself (term_and e es) h = elements_and (itself_acts e h) (elements_itself es h)
 
+  -- the elements
   pub one_element : {kinds : List Kind} {vars : List TypeTree} (es : Terms) (b y : TermTree) (i : ℕ) → AreTermTypes (setting_with p types) kinds vars → element_at es i ≡ Some b → ActsAtTypes p types o kinds vars y b → ElementsAt p types o kinds vars (with_element es i y) es
   one_element no_terms b y i h at f = no_elements
   one_element {kinds} {vars} (term_and e es) b y zero h at f =
@@ -74,6 +78,7 @@ module _ (p : Program) (sound : IsSound (setting_of p)) (typed : IsTyped p) (typ
   alts_itself u no_alts h = no_alts_at
   alts_itself {kinds} {vars} u (alt q e more) h = alts_and (λ bound b. itself_acts e (typed_more (setting_with p types) kinds bound vars b.typed h)) (alts_itself u more h)
 
+  -- the alternatives
   pub one_alt : {kinds : List Kind} {vars : List TypeTree} (u : TypeTree) (alts : Alts) (a : Branch) (y : TermTree) (i : ℕ) → AreTermTypes (setting_with p types) kinds vars → branch_at alts i ≡ Some a → BodyAt p types o kinds vars u a.pattern y a.body → AltsAt p types o kinds vars u (with_branch alts i y) alts
   one_alt u no_alts a y i h at f = no_alts_at
   one_alt {kinds} {vars} u (alt q e more) a y zero h at f =

@@ -23,6 +23,7 @@ use Rattle.acts.specs.Acts.{acts_from}
 use Rattle.acts.specs.Terms.{ActsUnder, OriginsTyped, with_origins, setting_with}
 use Rattle.acts.proofs.Closing.{closed_kind, closed_same, opens_as, put_closes}
 use Rattle.acts.proofs.Forms.{TermsAct, app_acts, lam_acts, ty_lam_acts, ty_app_acts}
+use Rattle.acts.proofs.Globals.{sound_with}
 use Rattle.acts.proofs.Levels.{from_turns, at_later}
 use Rattle.acts.proofs.SameActs.{same_acts}
 use Rattle.acts.proofs.Tied.{tied_later}
@@ -34,11 +35,11 @@ use Rattle.term_contexts.proofs.Plugged.{same_variables}
 use Rattle.act_contexts.specs.Laws.{ActsAtTypes}
 use Rattle.act_contexts.proofs.Parts.{itself_acts, one_side, one_body, one_element, alts_itself, one_alt}
 use Rattle.act_contexts.proofs.Variables.{same_variables_act}
-use Rattle.act_contexts.proofs.Wholes.{full, acts_at, acts_at_same, let_both, vector_both, case_both}
+use Rattle.act_contexts.proofs.Wholes.{acts_at, acts_at_same, let_both, vector_both, case_both}
 
 module _ (p : Program) (sound : IsSound (setting_of p)) (typed : IsTyped p) (types : List TypeTree) (o : ℕ → TermTree) (are_closed : AreClosed (setting_of p) types) (have : OriginsTyped p types o) where
   whole : IsSound (setting_with p types)
-  whole = full p sound types o are_closed
+  whole = sound_with p types sound are_closed
 
   itself : {kinds : List Kind} {vars : List TypeTree} (e : TermTree) → AreTermTypes (setting_with p types) kinds vars → ActsAtTypes p types o kinds vars e e
   itself = itself_acts p sound typed types o are_closed have
@@ -87,6 +88,7 @@ module _ (p : Program) (sound : IsSound (setting_of p)) (typed : IsTyped p) (typ
       (acts_at p sound types o are_closed e' e es d (later i (acts_from p n)) (at_later i l) (type_and c δ) γ' γ (kd, ev, known)
       (tied_type c vars (λ x. x) (λ x. x) δ γ' γ (tied_later l i vars (λ x. x) (λ x. x) δ γ' γ names))))
 
+  -- the part at a place, and the term
   pub plugged_acts : {kinds ks : List Kind} {vars vs : List TypeTree} {e x : TermTree} {path : List ℕ} → Around (setting_with p types) kinds vars e path ks vs x → (y : TermTree) → ActsAtTypes p types o ks vs y x → AreTermTypes (setting_with p types) kinds vars → ActsAtTypes p types o kinds vars (with_part e path y) e
   plugged_acts here y f g t d = f t d
   plugged_acts {kinds} (in_lam {a = a} {e = e} {p = q} r) y f g t (h_lam {b = b} {k = k} d fk) =

@@ -33,7 +33,7 @@ use Rattle.act_contexts.proofs.Parts.{SidesAt, no_sides, sides_and, ElementsAt, 
 use Rattle.act_contexts.proofs.Variables.{VariablesAct, joined_act, fields_tied, unbound_act, members_tied}
 
 module _ (p : Program) (sound : IsSound (setting_of p)) (types : List TypeTree) (o : ℕ → TermTree) (are_closed : AreClosed (setting_of p) types) where
-  pub full : IsSound (setting_with p types)
+  full : IsSound (setting_with p types)
   full = sound_with p types sound are_closed
 
   -- a part after any number of turns
@@ -46,6 +46,7 @@ module _ (p : Program) (sound : IsSound (setting_of p)) (types : List TypeTree) 
   acts_at_same e' e f g d kt x r l δ γ' γ known names =
       same_acts sound l (closed_same p sound δ known (type_kinded d full g).has kt (same_turned x)) (term_runs p (with_origins o e') γ' δ) (term_has p (with_origins o e) γ δ) (acts_at e' e f d r l δ γ' γ known names)
 
+  -- right sides, inside their groups
   sides_act : {kinds : List Kind} {vars : List TypeTree} {k : Kind} {g' g : Group} → AreBound (setting_with p types) kinds vars k g → SidesAt p types o kinds vars g' g → AreTermTypes (setting_with p types) kinds vars → (r : Levels) → IsLevels p r → (δ : TypeTrees) (γ' γ : Thunks) → Kinded p kinds δ → VariablesAct p r vars δ γ' γ → (i : ℕ) (u : TypeTree) → slice_get (map (λ t. closed_type t δ) (declared g)) i ≡ Some u → SideOf p r i u (with_origins_group o g') γ' δ (with_origins_group o g) γ δ
   unfolding with_origins
   sides_act none_bound no_sides g r l δ γ' γ known names i v q = cc
@@ -62,6 +63,7 @@ module _ (p : Program) (sound : IsSound (setting_of p)) (types : List TypeTree) 
   sizes no_sides = (refl, refl)
   sizes (sides_and f more) = let q = sizes more in (ap suc q.0, ap suc q.1)
 
+  -- a letrec
   pub let_both : {kinds : List Kind} (vars : List TypeTree) {g' g : Group} (e' e : TermTree) {t : TypeTree} {k : Kind} → AreTermTypes (setting_with p types) kinds vars → HasType (setting_with p types) kinds (with_more (declared g) vars) e t → AreBound (setting_with p types) kinds (with_more (declared g) vars) k g → SidesAt p types o kinds (with_more (declared g) vars) g' g → ActsAtTypes p types o kinds (with_more (declared g) vars) e' e → ActsUnder p kinds vars (with_origins o (letrec g' e')) (with_origins o (letrec g e)) t
   unfolding with_origins
   let_both {kinds} vars {g'} {g} e' e {t} vs d bs sides f n δ γ' γ known names =
@@ -82,6 +84,7 @@ module _ (p : Program) (sound : IsSound (setting_of p)) (types : List TypeTree) 
   elements_act (have_and d x ds) (elements_and {e' = e'} {e = e} f more) kt g r l δ γ' γ known names =
       (acts_at_same e' e f g d kt x r l δ γ' γ known names, elements_act ds more kt g r l δ γ' γ known names)
 
+  -- a vector
   pub vector_both : {kinds : List Kind} {vars : List TypeTree} (t : TypeTree) (es' es : Terms) {u : TypeTree} → AreTermTypes (setting_with p types) kinds vars → HasType (setting_with p types) kinds vars (vec_lit t es) u → ElementsAt p types o kinds vars es' es → ActsUnder p kinds vars (with_origins o (vec_lit t es')) (with_origins o (vec_lit t es)) u
   unfolding with_origins sub
   vector_both t es' es g (h_vec kt ds) all n δ γ' γ known names =
@@ -92,6 +95,7 @@ module _ (p : Program) (sound : IsSound (setting_of p)) (types : List TypeTree) 
   no_alts_both no_alts_at = (λ e. refl, λ e. refl)
   no_alts_both (alts_and f more) = (λ e. absurd (cc), λ e. absurd (cc))
 
+  -- the alternatives on two values, of which one acts as the other
   alts_act : {kinds : List Kind} {vars : List TypeTree} {u t : TypeTree} {alts' alts : Alts} → AllGive (setting_with p types) kinds vars u t alts → AltsAt p types o kinds vars u alts' alts → (j : Kind) → HasKind (setting_of p) kinds u j → (k : Kind) → HasKind (setting_of p) kinds t k → AreTermTypes (setting_with p types) kinds vars → (r : Levels) → IsLevels p r → (δ : TypeTrees) (γ' γ : Thunks) → Kinded p kinds δ → VariablesAct p r vars δ γ' γ → (v w : Value) → Seen p r (closed_type u δ) v w → (a : Arm) → arm_of v (with_origins_alts o alts') ≡ Some a → ArmOf p r (closed_type t δ) (with_origins_alts o alts) w γ' δ γ δ a
   unfolding with_origins
   alts_act none_give no_alts_at j ku k kt g r l δ γ' γ known names v w s a found = cc
@@ -103,6 +107,7 @@ module _ (p : Program) (sound : IsSound (setting_of p)) (types : List TypeTree) 
       (joined_act (reverse bnd) vars δ (bound v q) (bound w q) γ' γ (pattern_acts l sound kinds δ known bs.pattern j ku bnd bs.same bnd_typed s refl hit) names))
       (alts_act rest others j ku k kt g r l δ γ' γ known names v w s) a found
 
+  -- a case, part by part
   case_given : {kinds : List Kind} {vars bnd : List TypeTree} {q : Pattern} {more alts' : Alts} {u t : TypeTree} {e a : TermTree} {j k : Kind} (e' : TermTree) → AreTermTypes (setting_with p types) kinds vars → HasType (setting_with p types) kinds vars e u → IsLookedAt u → HasKind (setting_of p) kinds u j → Binds (setting_with p types) kinds u q bnd → HasType (setting_with p types) kinds (with_more bnd vars) a t → HasKind (setting_of p) kinds t k → AllGive (setting_with p types) kinds vars u t more → ActsAtTypes p types o kinds vars e' e → AltsAt p types o kinds vars u alts' (alt q a more) → ActsUnder p kinds vars (with_origins o (case_of e' alts')) (with_origins o (case_of e (alt q a more))) t
   unfolding with_origins
   case_given {kinds} {vars} {bnd} {q} {more} {u = u} {t = t} {e = e} {a = a} {j = j} {k = k} e' g d looked ku bs da kt alts on (alts_and {e' = a'} {more' = more'} f others) n δ γ' γ known names =
@@ -127,5 +132,6 @@ module _ (p : Program) (sound : IsSound (setting_of p)) (types : List TypeTree) 
       (alts_act alts others j ku k kt g (later (suc i) r) (at_later (suc i) l) δ γ' γ known down v s.0 s.2) arm found in
       record { value = s.0; has_value = s.1; second = one.second; is_arm = one.is_arm; acts = one.acts })
 
+  -- a case
   pub case_both : {kinds : List Kind} {vars : List TypeTree} {alts' alts : Alts} {t : TypeTree} (e' e : TermTree) → AreTermTypes (setting_with p types) kinds vars → HasType (setting_with p types) kinds vars (case_of e alts) t → ActsAtTypes p types o kinds vars e' e → ((u : TypeTree) → HasType (setting_with p types) kinds vars e u → AltsAt p types o kinds vars u alts' alts) → ActsUnder p kinds vars (with_origins o (case_of e' alts')) (with_origins o (case_of e alts)) t
   case_both e' e g (h_case {u = u} d looked ku bs da kt fs alts hidden) on parts = case_given e' g d looked ku bs da kt alts on (parts u d)

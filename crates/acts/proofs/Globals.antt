@@ -191,7 +191,7 @@ group_tied p sound typed types o closed has {kinds} vars {b = b} g bs n δ γ' �
     let r = acts_from p n in
     let σ = variables_by (λ x. x) in
     let h = group_ties p types (sound_with p types sound closed) o o (λ t. t) (λ t. t) itself_keeps itself_keeps Any (λ c δ' δ h. tt) (made_typed p sound typed types o closed has) (heads_act p sound) Unrelated (unrelated_lasts p) (λ r l t e' e δ' δ γ' γ h. absurd h) bs g r (from_turns p n) σ σ ty_var ty_var δ δ δ γ' γ
-      (record { known = known; first = evaluated_at p kinds δ known; second = evaluated_at p kinds δ known; types = tt; names = named_by p Unrelated r vars (λ x. x) (λ x. x) δ δ δ γ' γ names; globals = globals_from p sound typed n }) in
+    (record { known = known; first = evaluated_at p kinds δ known; second = evaluated_at p kinds δ known; types = tt; names = named_by p Unrelated r vars (λ x. x) (λ x. x) δ δ δ γ' γ names; globals = globals_from p sound typed n }) in
     unnamed p r (with_more (declared b) vars) δ (in_group (with_origins_group o b) γ' δ) (in_group (with_origins_group o b) γ δ)
     (subst (λ c. Named p Unrelated r (with_more (declared b) vars) σ σ δ δ δ (in_group c γ' δ) (in_group c γ δ)) group
     (subst (λ υ. Named p Unrelated r (with_more (declared b) vars) υ υ δ δ δ (in_group (filled_group o (λ t. t) b υ ty_var) γ' δ) (in_group (filled_group o (λ t. t) b υ ty_var) γ δ)) stays h.names))
