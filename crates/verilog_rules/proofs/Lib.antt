@@ -1,0 +1,17 @@
+pub mod Holding
+pub mod Operands
+pub mod Literals
+pub mod Values
+pub mod Wires
+pub mod Registers
+pub mod Rams
+pub mod Connections
+pub mod Connected
+pub mod Uses
+pub mod Items
+pub mod Used
+pub mod WasItems
+pub mod Parts
+pub mod Apart
+pub mod Driven
+pub mod Distinct

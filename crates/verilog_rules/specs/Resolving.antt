@@ -8,7 +8,7 @@ use Rattle.name_tables.specs.Names.{place_of}
 use Rattle.verilog_rules.specs.Declarations.{inputs_of, input_wires, line_name, modules_of}
 use Rattle.verilog_rules.specs.Declarations.{outputs_of, ports_in, ports_of, wire_name, wires_by}
 use Rattle.verilog_rules.specs.Declarations.{wires_of}
-use Rattle.verilog_rules.specs.NameRules.{Place, domain_of, module_named}
+use Rattle.verilog_rules.specs.NameRules.{Place, domain_of, module_named, module_names}
 use Rattle.verilog_rules.specs.declared.resolved.Address.{Address}
 use Rattle.verilog_rules.specs.declared.resolved.Driver.{Driver}
 use Rattle.verilog_rules.specs.declared.resolved.Driver.TheVariants as driver
@@ -47,7 +47,8 @@ operand wires name = record {
 abbrev pub value_of : List Wire → Right → Value
 value_of wires (Constant literal) = value.Constant literal
 value_of wires (Copy a) = value.Copy (operand wires a)
-value_of wires (Join parts) = value.Join (map (operand wires) (parts.first ∷ parts.others)) parts.close
+value_of wires (Join parts) =
+    value.Join (map (operand wires) (parts.first ∷ parts.others)) parts.close
 value_of wires (Cut a range) = value.Cut (operand wires a) range
 value_of wires (Unary op sign a) = value.Unary op sign (operand wires a)
 value_of wires (Binary op sign a b) = value.Binary op sign (operand wires a) (operand wires b)
@@ -112,7 +113,7 @@ use_driver earlier wires u =
     let connections : List Connection = u.first ∷ u.others in
     driver.Use
     (record {
-      number = unwrap_or (place_of (map (λ (m : Module). bytes_of m.name) earlier) (bytes_of u.used)) 0;
+      number = unwrap_or (place_of (module_names earlier) (bytes_of u.used)) 0;
     })
     (reads_of wires ports connections) (drives_of wires ports connections)
 
