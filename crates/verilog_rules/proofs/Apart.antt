@@ -1,5 +1,5 @@
 -- Numbers of which none stands twice.
-use Rattle.std.proofs.Common.{◌≡◌, ℕ, zero, suc, ◌+◌, ◌<◌, ◌≤◌, Bool, true, false, not, cond, eqb, ◌||◌, List, [], ◌∷◌, ◌++◌, length, map, Option, Some, None, refl, sym, ap, ◌∙◌, subst, arith, inl, inr}
+use Rattle.std.proofs.Common.{◌≡◌, ℕ, zero, suc, Bool, true, false, eqb, ◌||◌, List, [], ◌∷◌, ◌++◌, Some, refl, sym, ap, ◌∙◌, subst, arith, inl, inr}
 use Rattle.std.specs.Prelude.{slice_get}
 use Rattle.std.proofs.lemmas.Bool.{eq-eqb, eqb-true, false≢true, ne_eqb, or_cases}
 use Rattle.std.proofs.lemmas.Option.{same_Some}
@@ -21,9 +21,9 @@ left_true false b e = absurd (false≢true e)
 pub one_of_left : (xs ys : List ℕ) (k : ℕ) → is_one_of xs k ≡ true → is_one_of (xs ++ ys) k ≡ true
 one_of_left [] ys k is = absurd (false≢true is)
 one_of_left (x ∷ xs) ys k is = elim (or_cases (eqb x k) (is_one_of xs k) is) [
-    | inl here ↦ left_true (eqb x k) (is_one_of (xs ++ ys) k) here
-    | inr later ↦ or_true (eqb x k) (is_one_of (xs ++ ys) k) (one_of_left xs ys k later)
-  ]
+  | inl here ↦ left_true (eqb x k) (is_one_of (xs ++ ys) k) here
+  | inr later ↦ or_true (eqb x k) (is_one_of (xs ++ ys) k) (one_of_left xs ys k later)
+]
 
 pub one_of_right : (xs ys : List ℕ) (k : ℕ) → is_one_of ys k ≡ true → is_one_of (xs ++ ys) k ≡ true
 one_of_right [] ys k is = is
@@ -60,9 +60,9 @@ one_of_at (n ∷ ns) (suc p) k found = or_true (eqb n k) (is_one_of ns k) (one_o
 pub at_one_of : (ns : List ℕ) (k : ℕ) → is_one_of ns k ≡ true → (p : ℕ) × (slice_get ns p ≡ Some k)
 at_one_of [] k is = absurd (false≢true is)
 at_one_of (n ∷ ns) k is = elim (or_cases (eqb n k) (is_one_of ns k) is) as (λ _. (p : ℕ) × (slice_get (n ∷ ns) p ≡ Some k)) [
-    | inl here ↦ (0, ap Some (eqb-true n k here))
-    | inr later ↦ (let more = at_one_of ns k later in (suc more.0, more.1))
-  ]
+  | inl here ↦ (0, ap Some (eqb-true n k here))
+  | inr later ↦ (let more = at_one_of ns k later in (suc more.0, more.1))
+]
 
 -- each stands at one place
 pub apart_once : (before ns : List ℕ) (p q k : ℕ) → Apart before ns → slice_get ns p ≡ Some k → slice_get ns q ≡ Some k → p ≡ q
@@ -80,13 +80,15 @@ apart_once before (n ∷ ns) (suc p) zero k apart first second =
 pub apart_from : (before ns : List ℕ) → ((p q k : ℕ) → slice_get ns p ≡ Some k → slice_get ns q ≡ Some k → p ≡ q)
     → ((p k : ℕ) → slice_get ns p ≡ Some k → is_one_of before k ≡ false) → Apart before ns
 apart_from before [] once none = tt
-apart_from before (n ∷ ns) once none =
-    (none 0 n refl,
-     apart_from (before ++ n ∷ []) ns (λ p q k first second. same_suc p q (once (suc p) (suc q) k first second))
-     (λ p k found. not_one_of_both before (n ∷ []) k (none (suc p) k found)
-       (neither (eqb n k) false (ne_eqb n k (λ same. zero_not p (once 0 (suc p) k (ap Some same) found))) refl)))
+apart_from before (n ∷ ns) once none = (
+  none 0 n refl,
+  apart_from (before ++ n ∷ []) ns (λ p q k first second. same_suc p q (once (suc p) (suc q) k first second))
+      (λ p k found. not_one_of_both before (n ∷ []) k (none (suc p) k found)
+      (neither (eqb n k) false (ne_eqb n k (λ same. zero_not p (once 0 (suc p) k (ap Some same) found))) refl)),
+)
   where
     same_suc : (p q : ℕ) → suc p ≡ suc q → p ≡ q
     same_suc p q same = omega arith
+
     zero_not : (p : ℕ) → 0 ≡ suc p → ⊥
     zero_not p is = omega arith

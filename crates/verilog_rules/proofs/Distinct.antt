@@ -1,14 +1,14 @@
 -- Names that are declared once, however they are listed.
-use Rattle.std.proofs.Common.{◌≡◌, ℕ, zero, suc, ◌+◌, ◌<◌, ◌≤◌, Bool, true, false, not, cond, ◌||◌, List, [], ◌∷◌, ◌++◌, length, map, Option, Some, None, refl, sym, ap, ◌∙◌, subst, append_assoc, arith}
+use Rattle.std.proofs.Common.{◌≡◌, ℕ, ◌+◌, ◌≤◌, Bool, true, false, not, cond, ◌||◌, List, [], ◌∷◌, ◌++◌, map, Some, None, refl, sym, ap, ◌∙◌, subst, append_assoc, arith}
 use Rattle.std.specs.List.{flat_map}
 use Rattle.std.specs.Str.{bytes_eq}
 use Rattle.std.proofs.lemmas.Bool.{false≢true, not-true}
 use Rattle.std.proofs.lemmas.List.{map-append}
 use Rattle.std.proofs.lemmas.Slice.Eq.{bytes_eq-Decides}
 use Rattle.name_tables.specs.Names.{AreDistinct, is_among}
-use Rattle.verilog_text.specs.Declared.{Declared, declared_by, declared_input, name_of, names_of, other_names}
+use Rattle.verilog_text.specs.Declared.{declared_by, declared_input, name_of, names_of, other_names}
 use Rattle.verilog_text.specs.Declared.{inputs_of as said_inputs, outputs_of as said_outputs, signals_of as said_signals}
-use Rattle.verilog_text.specs.Source.{Item as SourceItem, Line as LineItem, Memory as MemoryItem}
+use Rattle.verilog_text.specs.Source.{Line as LineItem}
 use Rattle.verilog_text.proofs.Places.{among}
 use Rattle.verilog_tree.specs.Sources.{bytes_of, item_of, module_of, port_of}
 use Rattle.verilog_tree.specs.declared.item.Item.{Item}
@@ -69,6 +69,7 @@ distinct_once (x ∷ xs) once = (uncounted x xs (none x xs (self_counts x) (once
   where
     none : (x : List ℕ) (xs : List (List ℕ)) → one_if (bytes_eq x x) ≡ 1 → one_if (bytes_eq x x) + count x xs ≤ 1 → count x xs ≡ 0
     none x xs self few = omega arith
+
     fewer : (name : List ℕ) → one_if (bytes_eq name x) + count name xs ≤ 1 → count name xs ≤ 1
     fewer name few = omega arith
 
@@ -106,11 +107,12 @@ once_names before [] once = tt
 once_names before (w ∷ words) once =
     let here : count (bytes_of w) (before ++ texts (w ∷ words)) ≤ 1 = once (bytes_of w) in
     let sum : count (bytes_of w) (before ++ texts (w ∷ words)) ≡ count (bytes_of w) before + (one_if (bytes_eq (bytes_of w) (bytes_of w)) + count (bytes_of w) (texts words)) =
-        count_both (bytes_of w) before (texts (w ∷ words)) in
+    count_both (bytes_of w) before (texts (w ∷ words)) in
     let self : one_if (bytes_eq (bytes_of w) (bytes_of w)) ≡ 1 = self_counts (bytes_of w) in
-    let none : count (bytes_of w) before ≡ 0 = omega arith in
-    (ap not (uncounted (bytes_of w) before none),
-     once_names (before ++ bytes_of w ∷ []) words (subst Once (sym (append_assoc before (bytes_of w ∷ []) (texts words))) once))
+    let none : count (bytes_of w) before ≡ 0 = omega arith in (
+      ap not (uncounted (bytes_of w) before none),
+      once_names (before ++ bytes_of w ∷ []) words (subst Once (sym (append_assoc before (bytes_of w ∷ []) (texts words))) once),
+    )
 
 -- A MODULE'S NAMES
 
@@ -119,20 +121,20 @@ said_line_names ls = map (λ (l : LineItem). l.name) ls
 
 port_counts : (name : List ℕ) (ports : List Port) → count name (texts (map port_word ports))
     ≡ count name (said_signals (map port_of ports)) + (count name (map (λ (l : LineItem). l.name) (said_outputs (map port_of ports)))
-      + count name (map name_of (map declared_input (said_inputs (map port_of ports)))))
+    + count name (map name_of (map declared_input (said_inputs (map port_of ports)))))
 port_counts name [] = refl
 port_counts name (Signal s ∷ ports) =
     let more : count name (texts (map port_word ports))
-        ≡ count name (said_signals (map port_of ports)) + (count name (map (λ (l : LineItem). l.name) (said_outputs (map port_of ports)))
-          + count name (map name_of (map declared_input (said_inputs (map port_of ports))))) = port_counts name ports in omega arith
+    ≡ count name (said_signals (map port_of ports)) + (count name (map (λ (l : LineItem). l.name) (said_outputs (map port_of ports)))
+    + count name (map name_of (map declared_input (said_inputs (map port_of ports))))) = port_counts name ports in omega arith
 port_counts name (Input l ∷ ports) =
     let more : count name (texts (map port_word ports))
-        ≡ count name (said_signals (map port_of ports)) + (count name (map (λ (l : LineItem). l.name) (said_outputs (map port_of ports)))
-          + count name (map name_of (map declared_input (said_inputs (map port_of ports))))) = port_counts name ports in omega arith
+    ≡ count name (said_signals (map port_of ports)) + (count name (map (λ (l : LineItem). l.name) (said_outputs (map port_of ports)))
+    + count name (map name_of (map declared_input (said_inputs (map port_of ports))))) = port_counts name ports in omega arith
 port_counts name (Output l ∷ ports) =
     let more : count name (texts (map port_word ports))
-        ≡ count name (said_signals (map port_of ports)) + (count name (map (λ (l : LineItem). l.name) (said_outputs (map port_of ports)))
-          + count name (map name_of (map declared_input (said_inputs (map port_of ports))))) = port_counts name ports in omega arith
+    ≡ count name (said_signals (map port_of ports)) + (count name (map (λ (l : LineItem). l.name) (said_outputs (map port_of ports)))
+    + count name (map name_of (map declared_input (said_inputs (map port_of ports))))) = port_counts name ports in omega arith
 
 -- of one item
 one_item : (name : List ℕ) (it : Item) → count name (texts (words_by it)) ≡ count name (map name_of (declared_by (item_of it))) + count name (other_names (item_of it))
@@ -149,15 +151,15 @@ item_counts : (name : List ℕ) (items : List Item) → count name (texts (flat_
 item_counts name [] = refl
 item_counts name (it ∷ items) =
     let more : count name (texts (flat_map words_by items))
-        ≡ count name (map name_of (flat_map declared_by (map item_of items))) + count name (flat_map other_names (map item_of items)) = item_counts name items in
+    ≡ count name (map name_of (flat_map declared_by (map item_of items))) + count name (flat_map other_names (map item_of items)) = item_counts name items in
     let words : count name (texts (words_by it ++ flat_map words_by items)) ≡ count name (texts (words_by it)) + count name (texts (flat_map words_by items)) =
-        ap (count name) (map-append bytes_of (words_by it) (flat_map words_by items)) ∙ count_both name (texts (words_by it)) (texts (flat_map words_by items)) in
+    ap (count name) (map-append bytes_of (words_by it) (flat_map words_by items)) ∙ count_both name (texts (words_by it)) (texts (flat_map words_by items)) in
     let wires : count name (map name_of (declared_by (item_of it) ++ flat_map declared_by (map item_of items)))
-        ≡ count name (map name_of (declared_by (item_of it))) + count name (map name_of (flat_map declared_by (map item_of items))) =
-        ap (count name) (map-append name_of (declared_by (item_of it)) (flat_map declared_by (map item_of items)))
-        ∙ count_both name (map name_of (declared_by (item_of it))) (map name_of (flat_map declared_by (map item_of items))) in
+    ≡ count name (map name_of (declared_by (item_of it))) + count name (map name_of (flat_map declared_by (map item_of items))) =
+    ap (count name) (map-append name_of (declared_by (item_of it)) (flat_map declared_by (map item_of items)))
+    ∙ count_both name (map name_of (declared_by (item_of it))) (map name_of (flat_map declared_by (map item_of items))) in
     let others : count name (other_names (item_of it) ++ flat_map other_names (map item_of items)) ≡ count name (other_names (item_of it)) + count name (flat_map other_names (map item_of items)) =
-        count_both name (other_names (item_of it)) (flat_map other_names (map item_of items)) in
+    count_both name (other_names (item_of it)) (flat_map other_names (map item_of items)) in
     let here : count name (texts (words_by it)) ≡ count name (map name_of (declared_by (item_of it))) + count name (other_names (item_of it)) = one_item name it in
     omega arith
 
@@ -165,7 +167,7 @@ pub declared_counts : (name : List ℕ) (m : Module) → count name (names_of (m
 declared_counts name m =
     let ports = ports_in m in
     let words : count name (texts (map port_word ports ++ flat_map words_by m.items)) ≡ count name (texts (map port_word ports)) + count name (texts (flat_map words_by m.items)) =
-        ap (count name) (map-append bytes_of (map port_word ports) (flat_map words_by m.items)) ∙ count_both name (texts (map port_word ports)) (texts (flat_map words_by m.items)) in
+    ap (count name) (map-append bytes_of (map port_word ports) (flat_map words_by m.items)) ∙ count_both name (texts (map port_word ports)) (texts (flat_map words_by m.items)) in
     let by_ports = port_counts name ports in
     let by_items = item_counts name m.items in
     let signals = said_signals (map port_of ports) in
@@ -174,11 +176,11 @@ declared_counts name m =
     let declared = flat_map declared_by (map item_of m.items) in
     let others = flat_map other_names (map item_of m.items) in
     let wires : count name (map name_of (inputs ++ declared)) ≡ count name (map name_of inputs) + count name (map name_of declared) =
-        ap (count name) (map-append name_of inputs declared) ∙ count_both name (map name_of inputs) (map name_of declared) in
+    ap (count name) (map-append name_of inputs declared) ∙ count_both name (map name_of inputs) (map name_of declared) in
     let first : count name (signals ++ (outputs ++ (map name_of (inputs ++ declared) ++ others))) ≡ count name signals + count name (outputs ++ (map name_of (inputs ++ declared) ++ others)) =
-        count_both name signals (outputs ++ (map name_of (inputs ++ declared) ++ others)) in
+    count_both name signals (outputs ++ (map name_of (inputs ++ declared) ++ others)) in
     let second : count name (outputs ++ (map name_of (inputs ++ declared) ++ others)) ≡ count name outputs + count name (map name_of (inputs ++ declared) ++ others) =
-        count_both name outputs (map name_of (inputs ++ declared) ++ others) in
+    count_both name outputs (map name_of (inputs ++ declared) ++ others) in
     let third : count name (map name_of (inputs ++ declared) ++ others) ≡ count name (map name_of (inputs ++ declared)) + count name others = count_both name (map name_of (inputs ++ declared)) others in
     omega arith
 

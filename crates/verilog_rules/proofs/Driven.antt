@@ -1,15 +1,14 @@
 -- What the checks of drivers say of the wires and outputs of a module.
-use Rattle.std.proofs.Common.{◌≡◌, ℕ, zero, suc, ◌+◌, ◌-◌, ◌<◌, ◌≤◌, Bool, true, false, not, cond, eqb, leb, ◌&&◌, ◌||◌, List, [], ◌∷◌, ◌++◌, length, map, drop, Option, Some, None, refl, sym, ap, ◌∙◌, subst, arith}
-use Rattle.std.specs.Prelude.{slice_get, option_map}
+use Rattle.std.proofs.Common.{◌≡◌, ℕ, zero, suc, ◌+◌, ◌-◌, ◌<◌, ◌≤◌, Bool, true, false, not, cond, eqb, leb, ◌||◌, List, [], ◌∷◌, ◌++◌, length, map, Some, refl, sym, ap, ◌∙◌, subst, arith}
+use Rattle.std.specs.Prelude.{slice_get}
 use Rattle.std.specs.List.{AllByRecursion, flat_map}
-use Rattle.std.proofs.lemmas.Bool.{and_from, and_parts, eq-eqb, eqb-true, eqb-false, false≢true, le-leb, leb-true, not-true}
-use Rattle.std.proofs.lemmas.List.{length-drop, length-map}
-use Rattle.std.proofs.lemmas.Option.{same_Some, slice_get_within}
+use Rattle.std.proofs.lemmas.Bool.{and_from, and_parts, eqb-true, false≢true, le-leb, leb-true, not-true}
+use Rattle.std.proofs.lemmas.Option.{same_Some}
 use Rattle.chw_base.specs.declared.index.WireId.{WireId}
 use Rattle.net_rules.specs.WellFormed.{wire_driven_at}
 use Rattle.netlist.specs.Sound.{EachOnce}
 use Rattle.verilog_tree.specs.declared.word.Word.{Word}
-use Rattle.verilog_rules.specs.DriverRules.{OutputAt, all_driven, all_shown, driven_checks, drives, is_one_of, shown_checks, shows, undriven_checks, wire_number}
+use Rattle.verilog_rules.specs.DriverRules.{OutputAt, all_shown, driven_checks, is_one_of, shown_checks, undriven_checks, wire_number}
 use Rattle.verilog_rules.specs.NetOf.{shown_wire, wire}
 use Rattle.verilog_rules.specs.declared.resolved.Driver.{Driver}
 use Rattle.verilog_rules.specs.declared.resolved.Driver.TheVariants as driver
@@ -31,9 +30,10 @@ driven_apart inputs before (a ∷ ops) all =
 
 pub driven_hold : (inputs : ℕ) (before : List ℕ) (ops : List Operand) → Apart before (map wire_number ops) → NotBelow inputs ops → AllTrue (driven_checks inputs before ops)
 driven_hold inputs before [] apart above = tt
-driven_hold inputs before (a ∷ ops) apart above =
-    (and_from (leb inputs (wire_number a)) (not (is_one_of before (wire_number a))) (le-leb inputs (wire_number a) above.0) (ap not apart.0),
-     driven_hold inputs (before ++ wire_number a ∷ []) ops apart.1 above.1)
+driven_hold inputs before (a ∷ ops) apart above = (
+  and_from (leb inputs (wire_number a)) (not (is_one_of before (wire_number a))) (le-leb inputs (wire_number a) above.0) (ap not apart.0),
+  driven_hold inputs (before ++ wire_number a ∷ []) ops apart.1 above.1,
+)
 
 pub shown_apart : (before : List ℕ) (os : List OutputAt) → AllTrue (shown_checks before os) → Apart before (map (λ (o : OutputAt). o.number) os)
 shown_apart before [] all = tt
@@ -58,8 +58,10 @@ undriven_hold driven from (name ∷ names) all =
   where
     some : (xs : List Word) → 0 < suc (length xs)
     some xs = omega arith
+
     above : (k : ℕ) (xs : List Word) → k < length xs → suc k < suc (length xs)
     above k xs below = omega arith
+
     next : (k : ℕ) → is_one_of driven (from + suc k) ≡ true → is_one_of driven (from + 1 + k) ≡ true
     next k is = let same : from + suc k ≡ from + 1 + k = omega arith in rw same at is
 
@@ -81,23 +83,24 @@ each_once inputs wires ops names count driven undriven =
     record {
       free = λ p n found. above_at inputs ops p n apart.1 (sym (wire_numbers ops p) ∙ found);
       driven = λ w least below.
-        let is : is_one_of (map wire_number ops) (inputs + (w - inputs)) ≡ true = undriven_at (map wire_number ops) inputs names undriven (w - inputs) (omega arith) in
-        let same : inputs + (w - inputs) ≡ w = omega arith in
-        let found = at_one_of (map wire_number ops) w (rw same at is) in
-        (found.0, wire_numbers ops found.0 ∙ found.1);
+          let is : is_one_of (map wire_number ops) (inputs + (w - inputs)) ≡ true = undriven_at (map wire_number ops) inputs names undriven (w - inputs) (omega arith) in
+          let same : inputs + (w - inputs) ≡ w = omega arith in
+          let found = at_one_of (map wire_number ops) w (rw same at is) in
+          (found.0, wire_numbers ops found.0 ∙ found.1);
       once = λ p q n first second. apart_once [] (map wire_number ops) p q n apart.0 (sym (wire_numbers ops p) ∙ first) (sym (wire_numbers ops q) ∙ second);
     }
 
 -- and back
 pub each_checked : (inputs wires : ℕ) (ops : List Operand) (names : List Word) → inputs ≤ wires → length names ≡ wires - inputs → EachOnce inputs wires (wire_driven_at (map wire ops))
     → AllTrue (driven_checks inputs [] ops) × AllTrue (undriven_checks (map wire_number ops) inputs names)
-each_checked inputs wires ops names least count once =
-    (driven_hold inputs [] ops
-       (apart_from [] (map wire_number ops) (λ p q n first second. once.once p q n (wire_numbers ops p ∙ first) (wire_numbers ops q ∙ second)) (λ p n found. refl))
-       (all_above ops (λ p n found. once.free p n (wire_numbers ops p ∙ found))),
-     undriven_hold (map wire_number ops) inputs names (λ k below.
-       let found = once.driven (inputs + k) (omega arith) (omega arith) in
-       one_of_at (map wire_number ops) found.0 (inputs + k) (sym (wire_numbers ops found.0) ∙ found.1)))
+each_checked inputs wires ops names least count once = (
+  driven_hold inputs [] ops
+      (apart_from [] (map wire_number ops) (λ p q n first second. once.once p q n (wire_numbers ops p ∙ first) (wire_numbers ops q ∙ second)) (λ p n found. refl))
+      (all_above ops (λ p n found. once.free p n (wire_numbers ops p ∙ found))),
+  undriven_hold (map wire_number ops) inputs names (λ k below.
+      let found = once.driven (inputs + k) (omega arith) (omega arith) in
+      one_of_at (map wire_number ops) found.0 (inputs + k) (sym (wire_numbers ops found.0) ∙ found.1)),
+)
   where
     all_above : (xs : List Operand) → ((p n : ℕ) → slice_get (map wire_number xs) p ≡ Some n → inputs ≤ n) → NotBelow inputs xs
     all_above [] free = tt

@@ -15,3 +15,13 @@ pub mod Parts
 pub mod Apart
 pub mod Driven
 pub mod Distinct
+pub mod Signals
+pub mod Formed
+pub mod WiresHold
+pub mod Denoting
+pub mod Tops
+pub mod Texts
+pub mod Wells
+pub mod ModulesWell
+pub mod TextWell
+pub mod WholeText

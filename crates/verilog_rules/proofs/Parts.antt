@@ -1,6 +1,6 @@
 -- The items of a module, their parts and their drivers, in order.
-use Rattle.std.proofs.Common.{◌≡◌, ℕ, zero, suc, ◌+◌, ◌<◌, ◌≤◌, Bool, true, false, cond, eqb, List, [], ◌∷◌, ◌++◌, length, map, Option, Some, None, refl, sym, ap, ◌∙◌, subst, append_assoc, arith}
-use Rattle.std.specs.Prelude.{is_some, slice_get, option_map}
+use Rattle.std.proofs.Common.{◌≡◌, ℕ, zero, suc, cond, eqb, List, [], ◌∷◌, ◌++◌, map, Some, refl, sym, ap, ◌∙◌, subst, append_assoc}
+use Rattle.std.specs.Prelude.{slice_get}
 use Rattle.std.specs.List.{AllByRecursion, flat_map}
 use Rattle.std.proofs.lemmas.List.{append-nil, map-append}
 use Rattle.std.proofs.lemmas.List.Concat.{flat_map-append}
@@ -9,13 +9,10 @@ use Rattle.chw_clock.specs.declared.event.Ports.{Ports}
 use Rattle.netlist.specs.Wires.{driven}
 use Rattle.netlist.specs.declared.net.Cell.{Cell}
 use Rattle.verilog_text.specs.Declared.{Declared, declared_by}
-use Rattle.verilog_text.specs.Denotes.{ItemIs, ItemsAre, Part, assigned_to, cells_of}
-use Rattle.verilog_text.specs.Denotes.Part.{a_cell, an_output, declaration}
-use Rattle.verilog_text.specs.Source.{Item as SourceItem}
+use Rattle.verilog_text.specs.Denotes.{ItemsAre, Part, assigned_to, cells_of}
 use Rattle.verilog_tree.specs.Sources.{item_of}
 use Rattle.verilog_tree.specs.declared.item.Item.{Item}
 use Rattle.verilog_tree.specs.declared.item.Item.TheVariants as item
-use Rattle.verilog_tree.specs.declared.item.Memory.{Memory}
 use Rattle.verilog_tree.specs.declared.module.Module.{Module}
 use Rattle.verilog_rules.specs.Declarations.{wires_by}
 use Rattle.verilog_rules.specs.DriverRules.{drives}
@@ -25,7 +22,6 @@ use Rattle.verilog_rules.specs.Resolving.{driver_of, drivers_of}
 use Rattle.verilog_rules.specs.WidthRules.{driver_width_checks}
 use Rattle.verilog_rules.specs.declared.resolved.Driver.{Driver}
 use Rattle.verilog_rules.specs.declared.resolved.Driver.TheVariants as driver
-use Rattle.verilog_rules.specs.declared.resolved.Operand.{Operand}
 use Rattle.verilog_rules.specs.declared.resolved.ResolvedModule.{ResolvedModule}
 use Rattle.verilog_rules.specs.declared.resolved.Value.{Value}
 use Rattle.verilog_rules.specs.declared.resolved.Value.TheVariants as value
@@ -84,20 +80,21 @@ items_are ports earl er m ws (it ∷ items) around full formed names widths none
     let here : List Driver = driver_of p (output_names m) ws it in
     let later : List Driver = drivers_of p (output_names m) (ws ++ wires_by it) items in
     let split : flat_map (driver_width_checks er m) (here ++ later) ≡ flat_map (driver_width_checks er m) here ++ flat_map (driver_width_checks er m) later =
-        flat_map-append (driver_width_checks er m) here later in
+    flat_map-append (driver_width_checks er m) here later in
     let all : AllTrue (flat_map (driver_width_checks er m) here ++ flat_map (driver_width_checks er m) later) = subst AllTrue split widths in
     let driven_split : flat_map drives (here ++ later) ≡ flat_map drives here ++ flat_map drives later = flat_map-append drives here later in
     let no_input : AllByRecursion (NoInput m.wires) (flat_map drives here ++ flat_map drives later) = subst (AllByRecursion (NoInput m.wires)) driven_split none in
-    let more : m.wires ≡ (ws ++ wires_by it) ++ flat_map wires_by items = full ∙ sym (append_assoc ws (wires_by it) (flat_map wires_by items)) in
-    (item_is ports earl er m ws it around (extends_by ws (wires_by it ++ flat_map wires_by items) m.wires full) formed.0
-       (first_part (item_checks p (output_names m) ws it) (items_checks p (output_names m) (ws ++ wires_by it) items) names)
-       (first_part (flat_map (driver_width_checks er m) here) (flat_map (driver_width_checks er m) later) all)
-       (all_front (NoInput m.wires) (flat_map drives here) (flat_map drives later) no_input),
-     subst (λ (wires : List Declared). ItemsAre (scene_in ports earl m) wires (map item_of items) (parts_in m p (ws ++ wires_by it) items)) (said_more ws it)
-       (items_are ports earl er m (ws ++ wires_by it) items around more formed.1
-         (second_part (item_checks p (output_names m) ws it) (items_checks p (output_names m) (ws ++ wires_by it) items) names)
-         (second_part (flat_map (driver_width_checks er m) here) (flat_map (driver_width_checks er m) later) all)
-         (all_back (NoInput m.wires) (flat_map drives here) (flat_map drives later) no_input)))
+    let more : m.wires ≡ (ws ++ wires_by it) ++ flat_map wires_by items = full ∙ sym (append_assoc ws (wires_by it) (flat_map wires_by items)) in (
+      item_is ports earl er m ws it around (extends_by ws (wires_by it ++ flat_map wires_by items) m.wires full) formed.0
+          (first_part (item_checks p (output_names m) ws it) (items_checks p (output_names m) (ws ++ wires_by it) items) names)
+          (first_part (flat_map (driver_width_checks er m) here) (flat_map (driver_width_checks er m) later) all)
+          (all_front (NoInput m.wires) (flat_map drives here) (flat_map drives later) no_input),
+      subst (λ (wires : List Declared). ItemsAre (scene_in ports earl m) wires (map item_of items) (parts_in m p (ws ++ wires_by it) items)) (said_more ws it)
+          (items_are ports earl er m (ws ++ wires_by it) items around more formed.1
+          (second_part (item_checks p (output_names m) ws it) (items_checks p (output_names m) (ws ++ wires_by it) items) names)
+          (second_part (flat_map (driver_width_checks er m) here) (flat_map (driver_width_checks er m) later) all)
+          (all_back (NoInput m.wires) (flat_map drives here) (flat_map drives later) no_input)),
+    )
 
 -- CELLS AND OUTPUTS
 
