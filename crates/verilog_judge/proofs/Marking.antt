@@ -42,7 +42,7 @@ marks_more marks before n are within = λ k below. elim (cases_eq k n) [
 ]
 
 -- the rules by marks are those by numbers
-pub marking_is : (inputs : ℕ) (before : List ℕ) (marks : List Bool) (driven : List Operand) → AreMarks marks before
+marking_is : (inputs : ℕ) (before : List ℕ) (marks : List Bool) (driven : List Operand) → AreMarks marks before
     → AllByRecursion (λ a. wire_number a < length marks) driven → marking_checks inputs marks driven ≡ driven_checks inputs before driven
 marking_is inputs before marks [] are within = refl
 marking_is inputs before marks (a ∷ driven) are within =

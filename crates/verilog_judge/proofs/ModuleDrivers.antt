@@ -1,5 +1,5 @@
 -- The rules on the drivers of modules, in the order in which they are looked at.
-use Rattle.std.proofs.Common.{◌≡◌, ℕ, suc, ◌+◌, ◌-◌, ◌<◌, ◌≤◌, Bool, true, false, not, ◌&&◌, ◌==◌, nat_le, List, [], ◌∷◌, ◌++◌, length, get_or, drop, map, Option, Some, None, refl, sym, ap, ◌∙◌, arith}
+use Rattle.std.proofs.Common.{◌≡◌, ℕ, suc, ◌+◌, ◌-◌, ◌<◌, ◌≤◌, Bool, true, not, ◌&&◌, ◌==◌, nat_le, List, [], ◌∷◌, ◌++◌, length, get_or, drop, map, Option, Some, None, refl, sym, ap, ◌∙◌, arith}
 use Rattle.std.specs.Prelude.{min}
 use Rattle.std.specs.List.{flat_map}
 use Rattle.std.proofs.lemmas.Bool.{le-leb, ne_eqb}
@@ -101,24 +101,6 @@ placed_more ms k m d is_last least next whole lt is last taken left =
     ∙ sym (least_after_both least (placed_checks (length rest == 0) (get_or ms k d)) (drivers_from rest))
     ∙ ap (least_after least) (sym (placed_first (get_or ms k d) rest))
     ∙ sym (at_drop_more (λ xs. least_after least (drivers_from xs)) ms k d lt) ∙ left
-
-pub all_placed : (ms : List ResolvedModule) (k : ℕ) (least whole : Option ℕ) → length ms ≤ k → least_after least (drivers_from (drop k ms)) ≡ whole → least ≡ whole
-all_placed ms k least whole le left = sym (at_drop_all (λ xs. least_after least (drivers_from xs)) ms k le) ∙ left
-
--- one name more
-pub name_more : (marks : List Bool) (names : List Word) (k : ℕ) (mark : Bool) (name d : Word) (least next whole : Option ℕ) → k < length names → name ≡ get_or names k d
-    → k < length marks → mark ≡ get_or marks k false → next ≡ least_after least (check name.at mark ∷ [])
-    → least_after least (unmarked_checks (drop k marks) (drop k names)) ≡ whole
-    → least_after next (unmarked_checks (drop (k + 1) marks) (drop (k + 1) names)) ≡ whole
-name_more marks names k mark name d least next whole lt is within mark_is taken left =
-    ap (λ l. least_after l (unmarked_checks (drop (k + 1) marks) (drop (k + 1) names)))
-    (taken ∙ ap (λ (x : Word). least_after least (check x.at mark ∷ [])) is ∙ ap (λ b. least_after least (check (get_or names k d).at b ∷ [])) mark_is)
-    ∙ sym (at_drop_more (λ xs. least_after least (unmarked_checks (get_or marks k false ∷ drop (k + 1) marks) xs)) names k d lt)
-    ∙ sym (at_drop_more (λ ms. least_after least (unmarked_checks ms (drop k names))) marks k false within) ∙ left
-
-pub no_mark : (marks : List Bool) (names : List Word) (k : ℕ) (least whole : Option ℕ) → length marks ≤ k
-    → least_after least (unmarked_checks (drop k marks) (drop k names)) ≡ whole → least ≡ whole
-no_mark marks names k least whole le left = sym (at_drop_all (λ ms. least_after least (unmarked_checks ms (drop k names))) marks k le) ∙ left
 
 without_names : (marks : List Bool) (least : Option ℕ) → least ≡ least_after least (unmarked_checks marks [])
 without_names [] least = refl

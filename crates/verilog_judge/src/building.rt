@@ -1,13 +1,11 @@
 //! The net of a text that keeps the rules.
-ghost use Rattle.std.specs.Prelude.{◌≡◌, ◌++◌, ◌<◌, IfOk, OnOk, map, length, slice_index_or};
+ghost use Rattle.std.specs.Prelude.{◌≡◌, ◌++◌, ◌<◌, ℕ, IfOk, OnOk, map, length, slice_index_or};
 ghost use Rattle.std.specs.List.{flat_map};
 ghost use Rattle.verilog_judge.specs.Shown.{as_list, no_wire, shown_by};
-ghost use Rattle.verilog_rules.specs.NetOf.{bits, cells_by, first_bits, net_module, net_of, shown_wires, value_cell, wire, words_of};
+ghost use Rattle.verilog_rules.specs.NetOf.{bits, cells_by, first_bits, inputs_of, net_module, net_of, shown_wire, shown_wires, value_cell, wire, words_of};
 ghost use Rattle.netlist.specs.declared.net.Cell.TheVariants as cell;
-ghost use Rattle.verilog_rules.specs.NetOf.{inputs_of, shown_wire};
 ghost use Rattle.verilog_rules.specs.Texts.{number};
 ghost use Rattle.verilog_rules.specs.WidthRules.{kind_at, literal_of};
-ghost use Rattle.std.specs.Prelude.{ℕ};
 ghost use Rattle.verilog_tree.specs.declared.item.FirstWord.{FirstWord};
 
 use crate::registers::{kind_at, literal_of};

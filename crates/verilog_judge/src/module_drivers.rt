@@ -238,6 +238,8 @@ fn check_modules(
 /// The least place at which a wire or an output of a text has no driver or two, or a module that isn't the last has no output.
 ///
 /// It takes memory for the wires that a module drives, their names, and a mark for each. Its time is linear in the text.
+///
+/// Want of memory comes also where a driver's wire or output isn't one of the module, which no resolved name is.
 pub fn drivers(alloc: Global, text: &Resolved<'_>) -> Result<Option<usize>, NoMemory>
     ensures { IfOk result (λ place. place ≡ least_broken (driver_checks text.now)) }
 {

@@ -173,6 +173,9 @@ fn check_modules(
 /// The least place at which widths, literals or numbers of a text don't agree.
 ///
 /// It takes memory for the widths of a module's wires and for the bits of a literal. Its time is linear in the text.
+///
+/// Want of memory comes also where a width or a count passes 32 bits, which is over a limit, or a literal has a byte that is no digit,
+/// which no token has.
 pub fn widths(alloc: Global, text: &Resolved<'_>) -> Result<Option<usize>, NoMemory>
     ensures { IfOk result (λ place. place ≡ least_broken (width_checks text.now)) }
 {
