@@ -2,7 +2,8 @@
 use Rattle.std.specs.Prelude.{◌≡◌, ℕ, ◌<◌, Bool, false, true, not, ◌&&◌, nat_le}
 use Rattle.std.specs.Prelude.{List, [], ◌∷◌, ◌++◌, length, set, slice_index_or, if◌then◌else◌}
 use Rattle.verilog_rules.specs.Checks.{Check, check}
-use Rattle.verilog_rules.specs.DriverRules.{OutputAt, is_one_of, module_driver_checks, some_output, wire_number}
+use Rattle.verilog_rules.specs.DriverRules.{OutputAt, is_one_of, module_driver_checks}
+use Rattle.verilog_rules.specs.DriverRules.{some_output, wire_number}
 use Rattle.verilog_rules.specs.declared.resolved.Operand.{Operand}
 use Rattle.verilog_rules.specs.declared.resolved.ResolvedModule.{ResolvedModule}
 use Rattle.verilog_tree.specs.declared.word.Word.{Word}
