@@ -175,7 +175,7 @@ put_type_acts p sound typed types o {kinds} {vars} {e} {t} {a} {j} ρ' ρ closed
     put_filled = put_carries p kinds δ a j known
 
 -- variables that both sides keep
-unnamed : (p : Program) (r : Levels) (vars : List TypeTree) (δ : TypeTrees) (γ' γ : Thunks) → Named p Unrelated r vars (variables_by (λ x. x)) (variables_by (λ x. x)) δ δ δ γ' γ → TiedBy p r vars (λ x. x) (λ x. x) δ γ' γ
+pub unnamed : (p : Program) (r : Levels) (vars : List TypeTree) (δ : TypeTrees) (γ' γ : Thunks) → Named p Unrelated r vars (variables_by (λ x. x)) (variables_by (λ x. x)) δ δ δ γ' γ → TiedBy p r vars (λ x. x) (λ x. x) δ γ' γ
 unnamed p r vars δ γ' γ h x t e = look (h x t e)
   where
     look : Variables p r (closed_type t δ) (var x) (var x) γ' γ ⊎ ⊥ → LooksAlike p r (closed_type t δ) x x γ' γ

@@ -53,7 +53,7 @@ sound_without p types h =
       made = λ x t e. absurd (cc);
     }
 
-typed_without : (p : Program) (types : List TypeTree) (kinds : List Kind) (ts : List TypeTree) → AreTermTypes (setting_with p types) kinds ts → AreTermTypes (setting_of p) kinds ts
+pub typed_without : (p : Program) (types : List TypeTree) (kinds : List Kind) (ts : List TypeTree) → AreTermTypes (setting_with p types) kinds ts → AreTermTypes (setting_of p) kinds ts
 typed_without p types kinds [] h = tt
 typed_without p types kinds (t ∷ ts) h = (term_type (setting_of p) kinds t h.0.kind h.0.has h.0.of_terms, typed_without p types kinds ts h.1)
 
@@ -84,20 +84,20 @@ pub record Tied
     pub names : Named p related r vars σ' σ δ0 δ' δ γ' γ
     pub globals : GlobalsAct p r
 
-looked_closed : (u : TypeTree) (δ : TypeTrees) → IsLookedAt u → IsLookedAt (closed_type u δ)
+pub looked_closed : (u : TypeTree) (δ : TypeTrees) → IsLookedAt u → IsLookedAt (closed_type u δ)
 unfolding sub
 looked_closed (scalar x w) δ i = tt
 looked_closed (data_of d ts) δ i = tt
 looked_closed _ δ i = absurd i
 
 -- a pattern that isn't of a constructor, and binds nothing
-abbrev IsNoCon : Pattern → Type 0
+abbrev pub IsNoCon : Pattern → Type 0
 IsNoCon (OfCon c n) = ⊥
 IsNoCon (OfLit x b) = Unit {0}
 IsNoCon Default = Unit {0}
 
 -- a case of which the first alternatives have one pattern, and either both or neither has further ones
-case_acts : {p : Program} {r : Levels} → IsLevels p r → (u t : TypeTree) (q : Pattern) (s' s e' e : TermTree) (more' more : Alts) (γ' γ : Thunks) (δ' δ : TypeTrees) → IsLookedAt u → (more' ≡ no_alts → more ≡ no_alts) → (more ≡ no_alts → more' ≡ no_alts) → TermsAct p r u s' γ' δ' s γ δ → ((c n : ℕ) → q ≡ OfCon (record { number = c }) n → is_only (con_at p.datas c) ≡ true → TermsAct p r t e' (fields_from zero n (closed s' γ' δ') γ') δ' e (fields_from zero n (closed s γ δ) γ) δ) → (IsNoCon q → TermsAct p r t e' γ' δ' e γ δ) → ((k : ℕ) (v : Value) (set : Value → Type 0) (a : Arm) → act_step p (later (suc k) r) u v set → arm_of v (alt q e' more') ≡ Some a → ArmActs p (later (suc k) r) t (alt q e more) γ' δ' γ δ set a) → TermsAct p r t (case_of s' (alt q e' more')) γ' δ' (case_of s (alt q e more)) γ δ
+pub case_acts : {p : Program} {r : Levels} → IsLevels p r → (u t : TypeTree) (q : Pattern) (s' s e' e : TermTree) (more' more : Alts) (γ' γ : Thunks) (δ' δ : TypeTrees) → IsLookedAt u → (more' ≡ no_alts → more ≡ no_alts) → (more ≡ no_alts → more' ≡ no_alts) → TermsAct p r u s' γ' δ' s γ δ → ((c n : ℕ) → q ≡ OfCon (record { number = c }) n → is_only (con_at p.datas c) ≡ true → TermsAct p r t e' (fields_from zero n (closed s' γ' δ') γ') δ' e (fields_from zero n (closed s γ δ) γ) δ) → (IsNoCon q → TermsAct p r t e' γ' δ' e γ δ) → ((k : ℕ) (v : Value) (set : Value → Type 0) (a : Arm) → act_step p (later (suc k) r) u v set → arm_of v (alt q e' more') ≡ Some a → ArmActs p (later (suc k) r) t (alt q e more) γ' δ' γ δ set a) → TermsAct p r t (case_of s' (alt q e' more')) γ' δ' (case_of s (alt q e more)) γ δ
 case_acts {p} {r} l u t (OfCon c n) s' s e' e more' more γ' γ δ' δ looked same back ss fields plain arms = split (is_only (con_at p.datas c.number)) refl
   where
     split : (b : Bool) → is_only (con_at p.datas c.number) ≡ b → TermsAct p r t (case_of s' (alt (OfCon c n) e' more')) γ' δ' (case_of s (alt (OfCon c n) e more)) γ δ
@@ -119,7 +119,7 @@ nothing_bound p related r of_any plain [] vars x σ' σ δ0 δ' δ γ' γ h = h
 nothing_bound p related r of_any plain (b ∷ bnd) vars x σ' σ δ0 δ' δ γ' γ h = absurd x
 
 -- what a case's only pattern binds, as fields
-only_fields : {p : Program} {r : Levels} → IsLevels p r → IsSound (setting_of p) → (kinds : List Kind) (δ : TypeTrees) → Kinded p kinds δ → {u : TypeTree} {q : Pattern} {fields : List TypeTree} → PatternOf p.datas u q fields → (j : Kind) → HasKind (setting_of p) kinds u j → (bnd : List TypeTree) → AreSame fields bnd → AreTermTypes (setting_of p) kinds bnd → (x' x : Thunk) → ThunksAct p r (closed_type u δ) x' x → (c n : ℕ) → q ≡ OfCon (record { number = c }) n → is_only (con_at p.datas c) ≡ true → AllAct p r (map (λ t. closed_type t δ) (reverse bnd)) (fields_from zero n x' none) (fields_from zero n x none)
+pub only_fields : {p : Program} {r : Levels} → IsLevels p r → IsSound (setting_of p) → (kinds : List Kind) (δ : TypeTrees) → Kinded p kinds δ → {u : TypeTree} {q : Pattern} {fields : List TypeTree} → PatternOf p.datas u q fields → (j : Kind) → HasKind (setting_of p) kinds u j → (bnd : List TypeTree) → AreSame fields bnd → AreTermTypes (setting_of p) kinds bnd → (x' x : Thunk) → ThunksAct p r (closed_type u δ) x' x → (c n : ℕ) → q ≡ OfCon (record { number = c }) n → is_only (con_at p.datas c) ≡ true → AllAct p r (map (λ t. closed_type t δ) (reverse bnd)) (fields_from zero n x' none) (fields_from zero n x none)
 only_fields {p} {r} l sound kinds δ known (of_con {d = d} {n = m} {c = c1} {ts = ts} it e o i) j k bnd x typed x' y acts c n same only =
     let number : c1.number ≡ c = cc in
     let size : m ≡ n = cc in
@@ -138,7 +138,7 @@ pub record SideOf (p : Program) (r : Levels) (i : ℕ) (t : TypeTree) (g' : Grou
   pub has_second : body_at g i ≡ Some second
   pub acts : TermsAct p r t first γ' δ' second γ δ
 
-sides_of : {p : Program} {r : Levels} {i : ℕ} {t : TypeTree} {g' g : Group} {γ' γ : Thunks} {δ' δ : TypeTrees} → SideOf p r i t g' (in_group g' γ' δ') δ' g (in_group g γ δ) δ → SidesAct p r i t g' γ' δ' g γ δ
+pub sides_of : {p : Program} {r : Levels} {i : ℕ} {t : TypeTree} {g' g : Group} {γ' γ : Thunks} {δ' δ : TypeTrees} → SideOf p r i t g' (in_group g' γ' δ') δ' g (in_group g γ δ) δ → SidesAct p r i t g' γ' δ' g γ δ
 sides_of s = record { first = s.first; second = s.second; has_first = s.has_first; has_second = s.has_second; acts = s.acts }
 
 pub no_alts_filled : (o : ℕ → TermTree) (f : TypeTree → TypeTree) (alts : Alts) (σ : Substitution) (τ : TypeSubstitution) → filled_alts o f alts σ τ ≡ no_alts → alts ≡ no_alts

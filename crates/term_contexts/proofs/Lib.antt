@@ -1,4 +1,5 @@
 pub mod Complete
+pub mod Found
 pub mod OneChanged
 pub mod Places
 pub mod Plugged

@@ -23,13 +23,13 @@ HasSomeType s kinds vars e = (u : TypeTree) × HasType s kinds vars e u
 some_type : (s : Setting) (kinds : List Kind) (vars : List TypeTree) (e f : TermTree) (t : TypeTree) → e ≡ f → HasType s kinds vars e t → HasSomeType s kinds vars f
 some_type s kinds vars e f t is d = (t, subst (λ x. HasType s kinds vars x t) is d)
 
-part_of_group_typed : {s : Setting} {kinds : List Kind} {vars : List TypeTree} {k : Kind} {g : Group} → AreBound s kinds vars k g → (e : TermTree) (t : TypeTree) → HasType s kinds vars e t → (i : ℕ) (b : TermTree) → part_of_group g e i ≡ Some b → HasSomeType s kinds vars b
+pub part_of_group_typed : {s : Setting} {kinds : List Kind} {vars : List TypeTree} {k : Kind} {g : Group} → AreBound s kinds vars k g → (e : TermTree) (t : TypeTree) → HasType s kinds vars e t → (i : ℕ) (b : TermTree) → part_of_group g e i ≡ Some b → HasSomeType s kinds vars b
 part_of_group_typed {s} {kinds} {vars} none_bound e t d zero b at = let is : e ≡ b = cc in some_type s kinds vars e b t is d
 part_of_group_typed none_bound e t d (suc i) b at = absurd cc
 part_of_group_typed {s} {kinds} {vars} (bound_and {u = u} {e = r} l m c x bs) e t d zero b at = let is : r ≡ b = cc in some_type s kinds vars r b u is c
 part_of_group_typed (bound_and l m c x bs) e t d (suc i) b at = part_of_group_typed bs e t d i b at
 
-element_typed : {s : Setting} {kinds : List Kind} {vars : List TypeTree} {t : TypeTree} {es : Terms} → AllHave s kinds vars t es → (i : ℕ) (b : TermTree) → element_at es i ≡ Some b → HasSomeType s kinds vars b
+pub element_typed : {s : Setting} {kinds : List Kind} {vars : List TypeTree} {t : TypeTree} {es : Terms} → AllHave s kinds vars t es → (i : ℕ) (b : TermTree) → element_at es i ≡ Some b → HasSomeType s kinds vars b
 element_typed none_have i b at = absurd cc
 element_typed {s} {kinds} {vars} (have_and {u = u} {e = e} d x ds) zero b at = let is : e ≡ b = cc in some_type s kinds vars e b u is d
 element_typed (have_and d x ds) (suc i) b at = element_typed ds i b at
@@ -41,14 +41,14 @@ pub record BranchTyped (s : Setting) (kinds : List Kind) (vars : List TypeTree) 
   pub type : TypeTree
   pub has : HasType s kinds (with_more bound vars) a.body type
 
-branch_typed : (s : Setting) (kinds : List Kind) (vars bound : List TypeTree) (u v : TypeTree) (q : Pattern) (e : TermTree) (a : Branch) → Some (record { pattern = q; body = e }) ≡ Some a → Binds s kinds u q bound → HasType s kinds (with_more bound vars) e v → BranchTyped s kinds vars u a
+pub branch_typed : (s : Setting) (kinds : List Kind) (vars bound : List TypeTree) (u v : TypeTree) (q : Pattern) (e : TermTree) (a : Branch) → Some (record { pattern = q; body = e }) ≡ Some a → Binds s kinds u q bound → HasType s kinds (with_more bound vars) e v → BranchTyped s kinds vars u a
 branch_typed s kinds vars bound u v q e a at b d =
     let c : Branch = record { pattern = q; body = e } in
     let is : c ≡ a = cc in
     let it : BranchTyped s kinds vars u c = record { bound = bound; binds = b; type = v; has = d } in
     subst (BranchTyped s kinds vars u) is it
 
-given_typed : {s : Setting} {kinds : List Kind} {vars : List TypeTree} {u t : TypeTree} {alts : Alts} → AllGive s kinds vars u t alts → (i : ℕ) (a : Branch) → branch_at alts i ≡ Some a → BranchTyped s kinds vars u a
+pub given_typed : {s : Setting} {kinds : List Kind} {vars : List TypeTree} {u t : TypeTree} {alts : Alts} → AllGive s kinds vars u t alts → (i : ℕ) (a : Branch) → branch_at alts i ≡ Some a → BranchTyped s kinds vars u a
 given_typed none_give i a at = absurd cc
 given_typed {s} {kinds} {vars} {u} (give_and {bound = bound} {v = v} {q = q} {e = e} b d x ds) zero a at = branch_typed s kinds vars bound u v q e a at b d
 given_typed (give_and b d x ds) (suc i) a at = given_typed ds i a at

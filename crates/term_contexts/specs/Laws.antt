@@ -17,6 +17,22 @@ AroundIsPart =
     → Around s kinds vars e p ks vs x
     → part_at e p ≡ Some x
 
+-- the path leads to a place with this part
+pub record HasPlace (s : Setting) (kinds : List Kind) (vars : List TypeTree) (e : TermTree)
+    (p : List ℕ) (x : TermTree) : Type 0 where
+  pub inner_kinds : List Kind
+  pub inner_vars : List TypeTree
+  pub around : Around s kinds vars e p inner_kinds inner_vars x
+
+-- and each part of a typed term is at a place
+abbrev pub PartHasPlace : Type 0
+PartHasPlace =
+    (s : Setting) (kinds : List Kind) (vars : List TypeTree) (e x : TermTree) (t : TypeTree)
+    (p : List ℕ)
+    → HasType s kinds vars e t
+    → part_at e p ≡ Some x
+    → HasPlace s kinds vars e p x
+
 -- a place of what is at a place is a place of the whole
 abbrev pub AroundBehind : Type 0
 AroundBehind =

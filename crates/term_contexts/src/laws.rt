@@ -1,9 +1,10 @@
 //! The laws, each as the contract of a call that does nothing.
-ghost use Rattle.term_contexts.specs.Laws.{AroundIsPart, AroundBehind, PartIsTyped, PlugKeepsType, PartIsComplete, PlugKeepsComplete};
+ghost use Rattle.term_contexts.specs.Laws.{AroundIsPart, PartHasPlace, AroundBehind, PartIsTyped, PlugKeepsType, PartIsComplete, PlugKeepsComplete};
 
-/// A place is the part at its path, and a place of a part is one of the whole.
+/// A place is the part at its path, and each part of a typed term is at one. A place of a part is one of the whole.
 pub fn places()
     ensures part { AroundIsPart }
+    ensures found { PartHasPlace }
     ensures behind { AroundBehind }
 {}
 

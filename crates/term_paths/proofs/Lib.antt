@@ -1,2 +1,4 @@
 pub mod Children
+pub mod Order
 pub mod Parts
+pub mod Spines

@@ -1,7 +1,13 @@
 -- What is promised of children and parts of terms.
-use Rattle.std.specs.Prelude.{◌≡◌, ◌≢◌, ℕ, List, ◌++◌, Some, option_and_then}
+use Rattle.std.specs.Prelude.{◌≡◌, ◌≢◌, ◌⊎◌, ℕ, List, ◌++◌, length, set, Some}
+use Rattle.std.specs.Prelude.{option_and_then}
+use Rattle.std.specs.List.{slice_get}
+use Rattle.chw_terms.specs.declared.term.Arg.{Arg}
+use Rattle.chw_terms.specs.declared.term.Arg.TheVariants.{OfTerm}
 use Rattle.chw_terms.specs.TermTree.{TermTree}
+use Rattle.chw_terms.specs.TermView.{applied}
 use Rattle.term_paths.specs.Paths.{child, with_child, part_at, with_part}
+use Rattle.term_paths.specs.Paths.{IsEarlier, AreApart, argument_path}
 
 -- what is put in the place of a child is the child there
 abbrev pub ChildOfWithChild : Type 0
@@ -50,3 +56,35 @@ abbrev pub WithPartBehind : Type 0
 WithPartBehind =
     (e x y : TermTree) (p q : List ℕ)
     → part_at e p ≡ Some x → with_part e (p ++ q) y ≡ with_part e p (with_part x q y)
+
+-- a part stays where one apart from it changes
+abbrev pub PartsApart : Type 0
+PartsApart =
+    (e x : TermTree) (p q : List ℕ) → AreApart p q → part_at (with_part e p x) q ≡ part_at e q
+
+-- no place is earlier than itself
+abbrev pub NeverEarlier : Type 0
+NeverEarlier = (p : List ℕ) → IsEarlier p p → ⊥
+
+-- what is earlier than an earlier place is earlier
+abbrev pub EarlierThrough : Type 0
+EarlierThrough = (p q r : List ℕ) → IsEarlier p q → IsEarlier q r → IsEarlier p r
+
+-- of two places one is earlier
+abbrev pub OneIsEarlier : Type 0
+OneIsEarlier = (p q : List ℕ) → (p ≡ q) ⊎ (IsEarlier p q ⊎ IsEarlier q p)
+
+-- an argument of an application is the part at its path
+abbrev pub SpineArgument : Type 0
+SpineArgument =
+    (e a : TermTree) (args : List Arg) (i : ℕ)
+    → slice_get args i ≡ Some (OfTerm a)
+    → part_at (applied e args) (argument_path i (length args)) ≡ Some a
+
+-- and to change the part there is to change the argument
+abbrev pub WithSpineArgument : Type 0
+WithSpineArgument =
+    (e a x : TermTree) (args : List Arg) (i : ℕ)
+    → slice_get args i ≡ Some (OfTerm a)
+    → with_part (applied e args) (argument_path i (length args)) x
+    ≡ applied e (set args i (OfTerm x))

@@ -1,5 +1,6 @@
 -- Children and parts of a term, by numbers, and the order of places.
-use Rattle.std.specs.Prelude.{◌≡◌, ℕ, zero, suc, ◌-◌, ◌<◌, ◌⊎◌, List, [], ◌∷◌, ◌++◌, replicate}
+use Rattle.std.specs.Prelude.{◌≡◌, ◌≢◌, ℕ, zero, suc, ◌-◌, ◌<◌, ◌⊎◌}
+use Rattle.std.specs.Prelude.{List, [], ◌∷◌, ◌++◌, replicate}
 use Rattle.std.specs.Prelude.{Option, Some, None, unwrap_or, option_map, option_and_then}
 use Rattle.chw_terms.specs.declared.term.Pattern.{Pattern}
 use Rattle.chw_terms.specs.TermTree.{TermTree, lam, app, ty_lam, ty_app, letrec, vec_lit, case_of}
@@ -101,6 +102,12 @@ IsEarlier [] (j ∷ q) = Unit {0}
 IsEarlier (i ∷ p) [] = ⊥
 IsEarlier (i ∷ p) (j ∷ q) = (i < j) ⊎ ((i ≡ j) × IsEarlier p q)
 
--- the argument of this number, of n of an application
+-- neither of the paths leads to a place below the other's
+abbrev pub AreApart : List ℕ → List ℕ → Type 0
+AreApart [] q = ⊥
+AreApart (i ∷ p) [] = ⊥
+AreApart (i ∷ p) (j ∷ q) = (i ≢ j) ⊎ ((i ≡ j) × AreApart p q)
+
+-- from an application to n arguments to the one of this number
 abbrev pub argument_path : ℕ → ℕ → List ℕ
 argument_path i n = replicate (n - 1 - i) 0 ++ 1 ∷ []

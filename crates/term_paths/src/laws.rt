@@ -1,5 +1,5 @@
 //! The laws, each as the contract of a call that does nothing.
-ghost use Rattle.term_paths.specs.Laws.{ChildOfWithChild, WithSameChild, WithChildTwice, ChildApart, PartOfWithPart, WithSamePart, WithPartTwice, PartBehind, WithPartBehind};
+ghost use Rattle.term_paths.specs.Laws.{ChildOfWithChild, WithSameChild, WithChildTwice, ChildApart, PartOfWithPart, WithSamePart, WithPartTwice, PartBehind, WithPartBehind, PartsApart, NeverEarlier, EarlierThrough, OneIsEarlier, SpineArgument, WithSpineArgument};
 
 /// A child in another's place: it is found there, and the other children stay.
 pub fn children()
@@ -20,4 +20,22 @@ pub fn parts()
 pub fn parts_of_parts()
     ensures found { PartBehind }
     ensures changed { WithPartBehind }
+{}
+
+/// Parts at paths apart don't change each other.
+pub fn parts_apart()
+    ensures { PartsApart }
+{}
+
+/// Places are in one order.
+pub fn order_of_places()
+    ensures irreflexive { NeverEarlier }
+    ensures transitive { EarlierThrough }
+    ensures total { OneIsEarlier }
+{}
+
+/// The arguments of an application stand at their paths.
+pub fn arguments()
+    ensures found { SpineArgument }
+    ensures changed { WithSpineArgument }
 {}

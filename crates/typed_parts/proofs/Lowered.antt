@@ -58,7 +58,7 @@ lowered_where inner outer u e absent x t p f = at (cases_lt x (length inner)) (c
 pub lowered_typed : (s : Setting) (kinds : List Kind) (inner outer : List TypeTree) (u : TypeTree) (e : TermTree) (t : TypeTree) → occurs e (length inner) ≡ false → HasType s kinds (inner ++ u ∷ outer) e t → HasType s kinds (inner ++ outer) (rename e (lowered (length inner))) t
 lowered_typed s kinds inner outer u e t absent d = renamed_where d (lowered (length inner)) (inner ++ outer) (lowered_where inner outer u e absent)
 
-in_place_puts : (s : Setting) (kinds : List Kind) (inner outer : List TypeTree) (u : TypeTree) (a : TermTree) → HasTypeUpTo s kinds (inner ++ outer) a u → PutsTerms s kinds (in_place_of (length inner) a) (inner ++ u ∷ outer) (inner ++ outer)
+pub in_place_puts : (s : Setting) (kinds : List Kind) (inner outer : List TypeTree) (u : TypeTree) (a : TermTree) → HasTypeUpTo s kinds (inner ++ outer) a u → PutsTerms s kinds (in_place_of (length inner) a) (inner ++ u ∷ outer) (inner ++ outer)
 in_place_puts s kinds inner outer u a d x t f = at (cases_lt x (length inner)) (cases_eq x (length inner))
   where
     n : ℕ

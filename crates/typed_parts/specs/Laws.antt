@@ -9,10 +9,12 @@ use Rattle.chw_types.specs.Kinds.{HasFunctions}
 use Rattle.chw_types.specs.SameTypes.{SameTypes}
 use Rattle.chw_terms.specs.declared.scene.Scene.{Scene}
 use Rattle.chw_terms.specs.TermTree.{TermTree, Group, Alts}
-use Rattle.chw_terms.specs.TermMoves.{rename, rename_group, rename_alts, sub}
+use Rattle.chw_terms.specs.TermMoves.{rename, rename_group, rename_alts}
+use Rattle.chw_terms.specs.TermMoves.{Substitution, sub, sub_group}
 use Rattle.chw_terms.specs.TermMoves.{lowered, in_place_of}
 use Rattle.chw_terms.specs.Occurs.{occurs, occurs_group, occurs_alts}
 use Rattle.chw_typing.specs.Scopes.{Setting, setting_in, HasKind, AreTermTypes}
+use Rattle.chw_typing.specs.Laws.{PutsTerms}
 use Rattle.chw_typing.specs.Programs.{IsSound, AreClosed}
 use Rattle.chw_typing.specs.Typing.{HasType, HasTypeUpTo, AreBound, AllGive}
 use Rattle.group_laws.specs.Groups.{joined}
@@ -75,6 +77,25 @@ InPlaceKeepsType =
     → HasType s kinds (inner ++ u ∷ outer) e t
     → HasTypeUpTo s kinds (inner ++ outer) a u
     → HasTypeUpTo s kinds (inner ++ outer) (sub e (in_place_of (length inner) a)) t
+
+-- such a putting has for each variable a term of its type
+abbrev pub InPlacePutsTerms : Type 0
+InPlacePutsTerms =
+    (s : Setting) (kinds : List Kind) (inner outer : List TypeTree) (u : TypeTree) (a : TermTree)
+    → HasTypeUpTo s kinds (inner ++ outer) a u
+    → PutsTerms s kinds (in_place_of (length inner) a) (inner ++ u ∷ outer) (inner ++ outer)
+
+-- the bindings of a group are kept where terms of the variables' types are put for them
+abbrev pub PutGroupKept : Type 0
+PutGroupKept =
+    (s : Setting) (kinds : List Kind) (vars vars' : List TypeTree) (k : Kind) (g : Group)
+    (σ : Substitution)
+    → IsSound s
+    → AreTermTypes s kinds vars
+    → AreTermTypes s kinds vars'
+    → AreBound s kinds vars k g
+    → PutsTerms s kinds σ vars vars'
+    → AreBound s kinds vars' k (sub_group g σ)
 
 -- a term in which no variable occurs has its type wherever variables have other types
 abbrev pub ClosedTermsMove : Type 0

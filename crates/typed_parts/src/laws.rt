@@ -1,5 +1,5 @@
 //! The laws, each as the contract of a call that does nothing.
-ghost use Rattle.typed_parts.specs.Laws.{TypedInScope, LoweredKeepsType, InPlaceKeepsType, ClosedTermsMove, ClosedKeepsType, MoreMadeKeepsType, MoreMadeKeepsTermTypes, MoreMadeIsSound, BodiesDontMatter, FunctionsCompose, AppliedKeepsKind, TypeAppliedKeepsKind, RenameOccurringKeepsType, RenamedGroupKept, RenamedAltsKept, GroupsJoin, SameTypesKeepAlternatives};
+ghost use Rattle.typed_parts.specs.Laws.{TypedInScope, LoweredKeepsType, InPlaceKeepsType, InPlacePutsTerms, PutGroupKept, ClosedTermsMove, ClosedKeepsType, MoreMadeKeepsType, MoreMadeKeepsTermTypes, MoreMadeIsSound, BodiesDontMatter, FunctionsCompose, AppliedKeepsKind, TypeAppliedKeepsKind, RenameOccurringKeepsType, RenamedGroupKept, RenamedAltsKept, GroupsJoin, SameTypesKeepAlternatives};
 
 /// What occurs in a typed term is in scope.
 pub fn typed_in_scope()
@@ -17,6 +17,12 @@ pub fn renaming_occurring_keeps_types()
 pub fn one_variable_less()
     ensures lowered { LoweredKeepsType }
     ensures put { InPlaceKeepsType }
+    ensures terms { InPlacePutsTerms }
+{}
+
+/// A group keeps its types where terms of the variables' types are put for them.
+pub fn putting_keeps_groups()
+    ensures { PutGroupKept }
 {}
 
 /// A term without free variables keeps its type in every scope.
