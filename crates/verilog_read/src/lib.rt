@@ -1,4 +1,4 @@
-//! The net that a Verilog text denotes.
+//! The net that a Verilog text denotes, or the first rule that the text breaks.
 #![tactic(auto)]
 
 pub mod reading;
