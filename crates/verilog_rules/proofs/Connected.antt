@@ -1,5 +1,5 @@
 -- Connections that stand in a text pass their checks.
-use Rattle.std.proofs.Common.{◌≡◌, ℕ, zero, suc, ◌+◌, ◌<◌, ◌≤◌, Bool, true, false, List, [], ◌∷◌, ◌++◌, length, map, Option, Some, None, refl, sym, ap, ◌∙◌, subst, arith}
+use Rattle.std.proofs.Common.{◌≡◌, ℕ, suc, true, List, [], ◌∷◌, ◌++◌, length, map, refl, sym, ap, ◌∙◌, subst, arith}
 use Rattle.std.specs.List.{AllByRecursion}
 use Rattle.std.specs.Str.{bytes_eq}
 use Rattle.std.proofs.lemmas.Slice.Eq.{bytes_eq-Decides}
@@ -11,16 +11,15 @@ use Rattle.verilog_tree.specs.declared.item.Connection.{Connection}
 use Rattle.verilog_tree.specs.declared.module.Port.{Port}
 use Rattle.verilog_tree.specs.declared.module.Port.TheVariants.{Input, Output, Signal}
 use Rattle.verilog_tree.specs.declared.word.Word.{Word}
-use Rattle.verilog_rules.specs.Declarations.{inputs_of, outputs_of, port_word, signals_of}
+use Rattle.verilog_rules.specs.Declarations.{inputs_of, port_word, signals_of}
 use Rattle.verilog_rules.specs.NameRules.{connection_checks, kind_of, may_be_driven}
 use Rattle.verilog_rules.specs.NetOf.{wire}
 use Rattle.verilog_rules.specs.Resolving.{drives_of, operand, reads_of}
-use Rattle.verilog_rules.specs.declared.resolved.Kind.{Kind}
 use Rattle.verilog_rules.specs.declared.resolved.Kind.TheVariants as kind
 use Rattle.verilog_rules.specs.declared.resolved.Wire.{Wire}
 use Rattle.verilog_rules.proofs.Connections.{Ordered, no_inputs, no_signals}
 use Rattle.verilog_rules.proofs.Holding.{AllTrue}
-use Rattle.verilog_rules.proofs.Operands.{Known, is_known, named_back, said}
+use Rattle.verilog_rules.proofs.Operands.{is_known, named_back, said}
 use Rattle.verilog_rules.proofs.Wires.{plain_said, said_kind}
 
 pub record Connected (ws : List Wire) (close : ℕ) (ports : List Port) (cs : List Connection) (reads drives : List WireId) : Type 0 where
@@ -55,7 +54,7 @@ pub may_drive : (ws : List Wire) (a : Word) (w : WireId) → IsNameOf (map said 
 may_drive ws a w is of_kind =
     let back = named_back ws a w is in
     let plain : back.0.kind ≡ kind.Plain =
-        plain_said back.0.kind (said_kind ws a back.0 a_wire (subst (λ (v : WireId). IsOfKind (map said ws) v a_wire) (sym back.1) of_kind)) in
+    plain_said back.0.kind (said_kind ws a back.0 a_wire (subst (λ (v : WireId). IsOfKind (map said ws) v a_wire) (sym back.1) of_kind)) in
     (rw (back.0.has_kind, plain) refl, back.1)
 
 pub connected : (ws : List Wire) (close r : ℕ) (ports : List Port) (cs : List Connection) (rn dn : List (List ℕ)) (reads drives : List WireId) → Ordered r ports
@@ -73,7 +72,8 @@ connected ws close r (Signal s ∷ ports) (c ∷ cs) rn dn reads drives ordered 
     let rest : Connected ws close ports cs reads drives = connected ws close 0 ports cs rn dn reads drives ordered.1 (later_names names) (later_names wires) count are also kinds in
     record {
       checks = (are_equal (bytes_of c.port) (bytes_of s) (first_name names), (are_equal (bytes_of c.wire) (bytes_of s) (first_name wires), rest.checks));
-      reads_are = rest.reads_are; drives_are = rest.drives_are;
+      reads_are = rest.reads_are;
+      drives_are = rest.drives_are;
     }
 connected ws close r (Input l ∷ ports) (c ∷ cs) [] dn reads drives ordered names wires count are also kinds = absurd (cc)
 connected ws close r (Input l ∷ ports) (c ∷ cs) (n ∷ rn) dn [] drives ordered names wires count are also kinds = absurd are

@@ -1,13 +1,11 @@
 -- What a use joins to the ports of a module.
-use Rattle.std.proofs.Common.{◌≡◌, ℕ, zero, suc, ◌+◌, ◌<◌, ◌≤◌, Bool, true, false, leb, List, [], ◌∷◌, ◌++◌, length, map, Option, Some, None, refl, sym, ap, ◌∙◌, subst, arith}
-use Rattle.std.specs.Prelude.{is_some, slice_get, option_map}
+use Rattle.std.proofs.Common.{◌≡◌, ℕ, suc, ◌≤◌, true, List, [], ◌∷◌, ◌++◌, length, map, Some, refl, sym, ap, ◌∙◌, subst, arith}
 use Rattle.std.specs.List.{AllByRecursion}
 use Rattle.std.specs.Str.{bytes_eq}
 use Rattle.std.proofs.lemmas.Bool.{false≢true, le-leb, leb-true}
-use Rattle.std.proofs.lemmas.List.{length-map}
 use Rattle.std.proofs.lemmas.Slice.Eq.{bytes_eq-Decides}
 use Rattle.chw_base.specs.declared.index.WireId.{WireId}
-use Rattle.verilog_text.specs.Declared.{AreInOrder, AreNamesOf, IsNameOf, IsOfKind, port_name}
+use Rattle.verilog_text.specs.Declared.{AreInOrder, AreNamesOf, IsOfKind, port_name}
 use Rattle.verilog_text.specs.Declared.{inputs_of as said_inputs, outputs_of as said_outputs, signals_of as said_signals}
 use Rattle.verilog_text.specs.Declared.Kind.{a_wire}
 use Rattle.verilog_text.specs.Source.{Line as LineItem, PortItem}
@@ -16,10 +14,9 @@ use Rattle.verilog_tree.specs.Sources.{bytes_of, line_of, port_of}
 use Rattle.verilog_tree.specs.declared.item.Connection.{Connection}
 use Rattle.verilog_tree.specs.declared.module.Port.{Port}
 use Rattle.verilog_tree.specs.declared.module.Port.TheVariants.{Input, Output, Signal}
-use Rattle.verilog_tree.specs.declared.word.Line.{Line}
 use Rattle.verilog_tree.specs.declared.word.Word.{Word}
 use Rattle.verilog_rules.specs.Declarations.{inputs_of, outputs_of, port_word, signals_of}
-use Rattle.verilog_rules.specs.NameRules.{connection_checks, joins, kind_of, may_be_driven, order_checks, rank}
+use Rattle.verilog_rules.specs.NameRules.{connection_checks, kind_of, may_be_driven, order_checks}
 use Rattle.verilog_rules.specs.NetOf.{wire}
 use Rattle.verilog_rules.specs.Resolving.{drives_of, operand, reads_of}
 use Rattle.verilog_rules.specs.WidthRules.{kind_at}
@@ -28,8 +25,8 @@ use Rattle.verilog_rules.specs.declared.resolved.Kind.TheVariants as kind
 use Rattle.verilog_rules.specs.declared.resolved.Operand.{Operand}
 use Rattle.verilog_rules.specs.declared.resolved.Wire.{Wire}
 use Rattle.verilog_rules.proofs.Holding.{AllTrue}
-use Rattle.verilog_rules.proofs.Operands.{Known, has_kind, kind_is, known, known_as, named, named_back, said}
-use Rattle.verilog_rules.proofs.Wires.{Extends, driven_kind, kind_there, plain_said, said_kind}
+use Rattle.verilog_rules.proofs.Operands.{Known, has_kind, kind_is, known, known_as, named, said}
+use Rattle.verilog_rules.proofs.Wires.{Extends, driven_kind, kind_there}
 
 -- ORDER
 
@@ -84,7 +81,7 @@ in_order r (Input l ∷ ports) ordered =
     let none : said_signals (map port_of ports) ≡ [] = signals_said ports ∙ ap (map bytes_of) (no_signals 1 ports (omega arith) ordered.1) in
     let rest : map port_of ports ≡ in_parts (map port_of ports) = in_order 1 ports ordered.1 in
     let short : map port_of ports ≡ map input_port (said_inputs (map port_of ports)) ++ map output_port (said_outputs (map port_of ports)) =
-        rest ∙ ap (λ (ss : List (List ℕ)). map signal_port ss ++ (map input_port (said_inputs (map port_of ports)) ++ map output_port (said_outputs (map port_of ports)))) none in
+    rest ∙ ap (λ (ss : List (List ℕ)). map signal_port ss ++ (map input_port (said_inputs (map port_of ports)) ++ map output_port (said_outputs (map port_of ports)))) none in
     ap (λ (more : List PortItem). input_port (line_of l) ∷ more) short
     ∙ sym (ap (λ (ss : List (List ℕ)). map signal_port ss ++ (map input_port (line_of l ∷ said_inputs (map port_of ports)) ++ map output_port (said_outputs (map port_of ports)))) none)
 in_order r (Output l ∷ ports) ordered =
@@ -92,11 +89,11 @@ in_order r (Output l ∷ ports) ordered =
     let no_input : said_inputs (map port_of ports) ≡ [] = inputs_said ports ∙ ap (map line_of) (no_inputs 2 ports (omega arith) ordered.1) in
     let rest : map port_of ports ≡ in_parts (map port_of ports) = in_order 2 ports ordered.1 in
     let short : map port_of ports ≡ map output_port (said_outputs (map port_of ports)) =
-        rest ∙ ap (λ (ss : List (List ℕ)). map signal_port ss ++ (map input_port (said_inputs (map port_of ports)) ++ map output_port (said_outputs (map port_of ports)))) none
-        ∙ ap (λ (ls : List LineItem). map input_port ls ++ map output_port (said_outputs (map port_of ports))) no_input in
+    rest ∙ ap (λ (ss : List (List ℕ)). map signal_port ss ++ (map input_port (said_inputs (map port_of ports)) ++ map output_port (said_outputs (map port_of ports)))) none
+    ∙ ap (λ (ls : List LineItem). map input_port ls ++ map output_port (said_outputs (map port_of ports))) no_input in
     ap (λ (more : List PortItem). output_port (line_of l) ∷ more) short
     ∙ sym (ap (λ (ss : List (List ℕ)). map signal_port ss ++ (map input_port (said_inputs (map port_of ports)) ++ map output_port (line_of l ∷ said_outputs (map port_of ports)))) none
-      ∙ ap (λ (ls : List LineItem). map input_port ls ++ map output_port (line_of l ∷ said_outputs (map port_of ports))) no_input)
+    ∙ ap (λ (ls : List LineItem). map input_port ls ++ map output_port (line_of l ∷ said_outputs (map port_of ports))) no_input)
 
 abbrev said_rank : PortItem → ℕ
 said_rank (signal_port s) = 0
@@ -180,7 +177,10 @@ joined ws close r (Signal s ∷ ports) (c ∷ cs) ordered all =
     record {
       ports_are = λ i. port i ∷ rest.ports_are i;
       wires_are = λ i. own i ∷ rest.wires_are i;
-      inputs = rest.inputs; outputs = rest.outputs; reads = rest.reads; drives = rest.drives;
+      inputs = rest.inputs;
+      outputs = rest.outputs;
+      reads = rest.reads;
+      drives = rest.drives;
     }
 joined ws close r (Input l ∷ ports) (c ∷ cs) ordered all =
     let rest : Joined ws ports cs = joined ws close 1 ports cs ordered.1 all.1.1 in
@@ -191,7 +191,8 @@ joined ws close r (Input l ∷ ports) (c ∷ cs) ordered all =
     record {
       ports_are = λ i. port i ∷ rest.ports_are i;
       wires_are = ap (λ (more : List (List ℕ)). bytes_of c.wire ∷ more) short ∙ sym (ap (λ (ss : List Word). map bytes_of ss ++ (bytes_of c.wire ∷ back)) none);
-      inputs = ap suc rest.inputs; outputs = rest.outputs;
+      inputs = ap suc rest.inputs;
+      outputs = rest.outputs;
       reads = (named ws c.wire (known ws c.wire all.1.0), rest.reads);
       drives = rest.drives;
     }
@@ -201,14 +202,15 @@ joined ws close r (Output l ∷ ports) (c ∷ cs) ordered all =
     let none : signals_of ports ≡ [] = no_signals 2 ports (omega arith) ordered.1 in
     let no_read : read_words ports cs ≡ [] = no_read_words ports cs (no_inputs 2 ports (omega arith) ordered.1) in
     let short : map (λ (c : Connection). bytes_of c.wire) cs ≡ map bytes_of (driven_words ports cs) =
-        rest.wires_are ∙ ap (λ (ss : List Word). map bytes_of ss ++ (map bytes_of (read_words ports cs) ++ map bytes_of (driven_words ports cs))) none
-        ∙ ap (λ (rs : List Word). map bytes_of rs ++ map bytes_of (driven_words ports cs)) no_read in
+    rest.wires_are ∙ ap (λ (ss : List Word). map bytes_of ss ++ (map bytes_of (read_words ports cs) ++ map bytes_of (driven_words ports cs))) none
+    ∙ ap (λ (rs : List Word). map bytes_of rs ++ map bytes_of (driven_words ports cs)) no_read in
     record {
       ports_are = λ i. port i ∷ rest.ports_are i;
       wires_are = ap (λ (more : List (List ℕ)). bytes_of c.wire ∷ more) short
-        ∙ sym (ap (λ (ss : List Word). map bytes_of ss ++ (map bytes_of (read_words ports cs) ++ (bytes_of c.wire ∷ map bytes_of (driven_words ports cs)))) none
+          ∙ sym (ap (λ (ss : List Word). map bytes_of ss ++ (map bytes_of (read_words ports cs) ++ (bytes_of c.wire ∷ map bytes_of (driven_words ports cs)))) none
           ∙ ap (λ (rs : List Word). map bytes_of rs ++ (bytes_of c.wire ∷ map bytes_of (driven_words ports cs))) no_read);
-      inputs = rest.inputs; outputs = ap suc rest.outputs;
+      inputs = rest.inputs;
+      outputs = ap suc rest.outputs;
       reads = rest.reads;
       drives = (named ws c.wire (driven_known ws c.wire all.1.0), rest.drives);
     }

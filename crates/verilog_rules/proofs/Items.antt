@@ -1,17 +1,15 @@
 -- What the items of a checked text are.
-use Rattle.std.proofs.Common.{◌≡◌, ℕ, zero, suc, ◌+◌, ◌<◌, ◌≤◌, Bool, true, false, cond, ◌&&◌, ◌||◌, List, [], ◌∷◌, ◌++◌, length, map, Option, Some, None, refl, sym, ap, ◌∙◌, subst, arith, inl, inr}
+use Rattle.std.proofs.Common.{◌≡◌, ℕ, zero, suc, ◌+◌, Bool, true, false, cond, ◌&&◌, ◌||◌, List, [], ◌∷◌, ◌++◌, map, Option, Some, None, refl, sym, ap, ◌∙◌, subst, arith}
 use Rattle.std.specs.Prelude.{is_some, slice_get, slice_index, option_map}
 use Rattle.std.specs.List.{AllByRecursion, flat_map}
 use Rattle.std.specs.Str.{bytes_eq}
-use Rattle.std.proofs.lemmas.Bool.{and_parts, eqb-true, false≢true, or_cases}
-use Rattle.std.proofs.lemmas.Option.{get_or_from_slice_get, same_Some}
-use Rattle.chw_base.specs.declared.index.WireId.{WireId}
+use Rattle.std.proofs.lemmas.Bool.{eqb-true, false≢true}
+use Rattle.std.proofs.lemmas.Option.{same_Some}
 use Rattle.chw_clock.specs.declared.event.Ports.{Ports}
-use Rattle.name_tables.specs.Names.{is_among, place_of}
-use Rattle.netlist.specs.declared.net.Cell.{Cell}
+use Rattle.name_tables.specs.Names.{place_of}
 use Rattle.netlist.specs.declared.net.Cell.TheVariants as cell
-use Rattle.verilog_text.specs.Declared.{Declared, IsAsWide, IsNameOf, declared_by}
-use Rattle.verilog_text.specs.Denotes.{ItemIs, ItemsAre, Part, Scene}
+use Rattle.verilog_text.specs.Declared.{IsAsWide}
+use Rattle.verilog_text.specs.Denotes.{ItemIs, Part, Scene}
 use Rattle.verilog_text.specs.Denotes.ItemIs.{assigns, declares, keeps, moves, remembers, shows, uses}
 use Rattle.verilog_text.specs.Denotes.Part.{a_cell, an_output, declaration}
 use Rattle.verilog_text.specs.Source.{Line as LineItem}
@@ -25,20 +23,19 @@ use Rattle.verilog_tree.specs.declared.right.Right.{Right}
 use Rattle.verilog_tree.specs.declared.right.Right.TheVariants as right
 use Rattle.verilog_tree.specs.declared.word.Line.{Line}
 use Rattle.verilog_tree.specs.declared.word.Word.{Word}
-use Rattle.verilog_rules.specs.Declarations.{line_name, ports_in, wires_by}
+use Rattle.verilog_rules.specs.Declarations.{line_name, ports_in}
 use Rattle.verilog_rules.specs.DriverRules.{drives}
-use Rattle.verilog_rules.specs.NameRules.{Place, is_copy, is_target, item_checks, items_checks, kind_of, may_be_driven, operand_check, operands_of}
-use Rattle.verilog_rules.specs.NetOf.{bits, cells_by, first_bits, inputs_of, value_cell, wire, words_of}
+use Rattle.verilog_rules.specs.NameRules.{Place, is_copy, item_checks, kind_of, may_be_driven, operand_check, operands_of}
+use Rattle.verilog_rules.specs.NetOf.{first_bits, inputs_of, value_cell, wire, words_of}
 use Rattle.verilog_rules.specs.Resolving.{assigned, assigned_at, clocked, driver_of, drives_of, edge_driver, operand, reads_of, ram_of, value_of}
 use Rattle.verilog_rules.specs.Texts.{width}
-use Rattle.verilog_rules.specs.WidthRules.{driver_width_checks, kind_at, literal_of, value_checks, wide, widths_of, wire_widths}
+use Rattle.verilog_rules.specs.WidthRules.{driver_width_checks, kind_at, literal_of, wide, widths_of, wire_widths}
 use Rattle.verilog_rules.specs.declared.resolved.Driver.{Driver}
 use Rattle.verilog_rules.specs.declared.resolved.Driver.TheVariants as driver
-use Rattle.verilog_rules.specs.declared.resolved.Operand.{Operand}
 use Rattle.verilog_rules.specs.declared.resolved.ResolvedModule.{ResolvedModule}
 use Rattle.verilog_rules.specs.declared.resolved.Wire.{Wire}
 use Rattle.verilog_rules.proofs.Connections.{NoInput, Ordered, plain_kind}
-use Rattle.verilog_rules.proofs.Holding.{AllTrue, first_part, second_part}
+use Rattle.verilog_rules.proofs.Holding.{AllTrue, first_part}
 use Rattle.verilog_rules.proofs.Operands.{Known, known, known_as, named, said}
 use Rattle.verilog_rules.proofs.Rams.{RamFormed, ram_is}
 use Rattle.verilog_rules.proofs.Registers.{ResetFormed, register_is}
@@ -124,7 +121,7 @@ output_assigned ports earl er m ws name a k extends placed is_known widths =
     let got = got_line m.outputs k at.0 at.1 in
     let a_known : Known ws a = known ws a is_known in
     let same : width a_known.wire.line.range ≡ width at.0.range =
-        sym (wide_there ws m.wires a extends a_known) ∙ eqb-true (wide (wire_widths m) (operand ws a)) (slice_index (widths_of m.outputs) k) widths.0 ∙ got.1 in
+    sym (wide_there ws m.wires a extends a_known) ∙ eqb-true (wide (wire_widths m) (operand ws a)) (slice_index (widths_of m.outputs) k) widths.0 ∙ got.1 in
     shows (bytes_of name) (bytes_of a) k (line_of at.0) (operand ws a).wire
     (subst (λ (ns : List (List ℕ)). place_of ns (bytes_of name) ≡ Some k) (sym (lines_said m.outputs)) placed) got.0 (named ws a a_known)
     (subst (λ (n : ℕ). IsAsWide (map said ws) (operand ws a).wire n) same (as_wide ws a a_known))

@@ -11,3 +11,17 @@ pub mod Uses
 pub mod Items
 pub mod Used
 pub mod WasItems
+pub mod Parts
+pub mod Apart
+pub mod Driven
+pub mod Distinct
+pub mod Signals
+pub mod Formed
+pub mod WiresHold
+pub mod Denoting
+pub mod Tops
+pub mod Texts
+pub mod Wells
+pub mod ModulesWell
+pub mod TextWell
+pub mod WholeText

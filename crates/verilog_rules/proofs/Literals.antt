@@ -1,12 +1,12 @@
 -- What literals mean: their sizes and amounts, and the bits made of these.
-use Rattle.std.proofs.Common.{◌≡◌, ℕ, zero, suc, ◌+◌, ◌<◌, ◌≤◌, ◌^◌, Bool, true, false, not, cond, eqb, ltb, ◌&&◌, List, [], ◌∷◌, ◌++◌, length, take, drop, refl, sym, ap, ◌∙◌, subst, arith}
-use Rattle.std.specs.List.{after_first, before_first, position_or_len}
+use Rattle.std.proofs.Common.{◌≡◌, ℕ, suc, ◌+◌, ◌<◌, ◌^◌, Bool, true, false, eqb, ltb, List, [], ◌∷◌, ◌++◌, length, take, drop, refl, sym, ap, ◌∙◌, arith}
+use Rattle.std.specs.List.{position_or_len}
 use Rattle.std.specs.Str.Parse.{digits_value}
 use Rattle.std.proofs.lemmas.Bool.{and_from, and_parts, eq-eqb, eqb-true, ltb-true, lt-ltb, ne_eqb}
 use Rattle.std.proofs.Math.Nat.{mod-eq_of_lt}
-use Rattle.chw_base.specs.Names.{AllOf, BeginsThen, is_digit}
-use Rattle.chw_bits.specs.Bits.{bits_of, number_of}
-use Rattle.chw_bits.proofs.Numbers.{length-bits_of, number_of_lt}
+use Rattle.chw_base.specs.Names.{AllOf, is_digit}
+use Rattle.chw_bits.specs.Bits.{number_of}
+use Rattle.chw_bits.proofs.Numbers.{length-bits_of}
 use Rattle.chw_bits.proofs.RoundTrips.{bits_of-number_of, number_of-bits_of}
 use Rattle.verilog_text.specs.Declared.{IsLiteralOf, MeansBits, value}
 use Rattle.verilog_text.specs.VForms.{HasParts, IsLiteral, IsNumber}
@@ -42,7 +42,7 @@ pub sized : (literal : Word) (digits hex : List ℕ) → HasParts (bytes_of lite
     → (size literal ≡ value digits) × (amount literal ≡ digits_value 16 hex)
 sized literal digits hex parts =
     let at : position_or_len (λ (b : ℕ). eqb b 39) (bytes_of literal) ≡ length digits =
-        rw parts.bytes_are (digits_first digits (104 ∷ hex) (all_digits digits parts.size_is)) in
+    rw parts.bytes_are (digits_first digits (104 ∷ hex) (all_digits digits parts.size_is)) in
     let front : take (length digits) (bytes_of literal) ≡ digits = rw parts.bytes_are (take_all digits (39 ∷ 104 ∷ hex)) in
     let next : length digits + 1 ≡ suc (length digits) = omega arith in
     let back : drop (length digits + 1) (bytes_of literal) ≡ 104 ∷ hex = rw (next, parts.bytes_are) (drop_all digits 39 (104 ∷ hex)) in
@@ -61,7 +61,9 @@ pub literal_meant : (n k : ℕ) (literal : Word) → IsLiteral (bytes_of literal
 literal_meant n k literal form size_is amount_is below =
     let made = sized literal form.0 form.1 form.2 in
     record {
-      size_digits = form.0; digits = form.1; parts = form.2;
+      size_digits = form.0;
+      digits = form.1;
+      parts = form.2;
       size_is = sym made.0 ∙ size_is;
       number_is = sym made.1 ∙ amount_is;
       fits = below;

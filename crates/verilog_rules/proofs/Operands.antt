@@ -1,14 +1,14 @@
 -- Names of wires: what is known behind declarations is the wire of a number, with its kind and width.
-use Rattle.std.proofs.Common.{◌≡◌, ℕ, zero, suc, ◌+◌, ◌<◌, ◌≤◌, Bool, true, false, cond, List, [], ◌∷◌, ◌++◌, length, map, Option, Some, None, refl, sym, ap, ◌∙◌, subst, arith}
-use Rattle.std.specs.Prelude.{slice_get, slice_index, option_map, is_some}
+use Rattle.std.proofs.Common.{◌≡◌, ℕ, zero, suc, ◌+◌, Bool, true, false, cond, List, [], ◌∷◌, map, Option, Some, None, refl, sym, ap, ◌∙◌, arith}
+use Rattle.std.specs.Prelude.{slice_get, option_map, is_some}
 use Rattle.std.specs.Option.{unwrap_or}
 use Rattle.std.specs.Str.{bytes_eq}
 use Rattle.std.proofs.lemmas.Bool.{false≢true}
 use Rattle.std.proofs.lemmas.Option.{get_or_from_slice_get, same_Some}
 use Rattle.chw_base.specs.declared.index.WireId.{WireId}
-use Rattle.name_tables.specs.Names.{is_among, place_of}
+use Rattle.name_tables.specs.Names.{place_of}
 use Rattle.netlist.specs.Sound.{HasWidth}
-use Rattle.verilog_text.specs.Declared.{AreNamesOf, Declared, IsAsWide, IsNameOf, IsOfKind, name_of, width_of}
+use Rattle.verilog_text.specs.Declared.{Declared, IsNameOf, IsOfKind, name_of}
 use Rattle.verilog_text.specs.Declared.Kind.{a_register, a_wire, an_input}
 use Rattle.verilog_text.specs.Declared.{Kind as SourceKind}
 use Rattle.verilog_tree.specs.Sources.{bytes_of, line_of, memory_if}
@@ -20,9 +20,7 @@ use Rattle.verilog_rules.specs.Texts.{width}
 use Rattle.verilog_rules.specs.WidthRules.{wide}
 use Rattle.verilog_rules.specs.declared.resolved.Kind.{Kind}
 use Rattle.verilog_rules.specs.declared.resolved.Kind.TheVariants as kind
-use Rattle.verilog_rules.specs.declared.resolved.Operand.{Operand}
 use Rattle.verilog_rules.specs.declared.resolved.Wire.{Wire}
-use Rattle.verilog_rules.proofs.Holding.{AllTrue}
 
 -- the kind, without places
 abbrev pub kind_said : Kind → SourceKind
@@ -114,7 +112,9 @@ known_as ws a k has =
     let number : (operand ws a).wire.number ≡ at.0 = ap (λ (o : Option ℕ). unwrap_or o 0) at.1 in
     let inside = within ws at.0 k at.2 in
     record {
-      kind = k; has_kind = has; wire = inside.0;
+      kind = k;
+      has_kind = has;
+      wire = inside.0;
       placed = at.1 ∙ ap Some (sym number);
       found = rw number inside.1;
       of_kind = inside.2;

@@ -1,9 +1,8 @@
 -- RAMs.
-use Rattle.std.proofs.Common.{◌≡◌, ℕ, zero, suc, ◌+◌, ◌<◌, ◌≤◌, ◌^◌, Bool, true, false, cond, eqb, ltb, ◌&&◌, ◌||◌, List, [], ◌∷◌, ◌++◌, length, map, Option, Some, None, refl, sym, ap, ◌∙◌, subst, arith}
-use Rattle.std.specs.Prelude.{slice_get, option_map, is_some}
-use Rattle.std.specs.List.{AllByRecursion, list_any}
-use Rattle.std.specs.Str.{bytes_eq}
-use Rattle.std.proofs.lemmas.Bool.{and_from, and_parts, eq-eqb, eqb-true, false≢true, lt-ltb, ltb-true}
+use Rattle.std.proofs.Common.{◌≡◌, ℕ, zero, suc, ◌+◌, ◌<◌, ◌≤◌, Bool, true, false, eqb, ◌||◌, List, [], ◌∷◌, ◌++◌, length, map, Option, Some, None, refl, sym, ap, ◌∙◌, subst, arith}
+use Rattle.std.specs.Prelude.{slice_get}
+use Rattle.std.specs.List.{AllByRecursion}
+use Rattle.std.proofs.lemmas.Bool.{eq-eqb, eqb-true, lt-ltb}
 use Rattle.std.proofs.lemmas.List.{length-map}
 use Rattle.std.proofs.lemmas.Option.{same_Some}
 use Rattle.std.proofs.lemmas.Slice.Eq.{bytes_eq-Decides}
@@ -14,9 +13,9 @@ use Rattle.chw_clock.specs.declared.event.Ports.{Ports}
 use Rattle.net_rules.specs.WellFormed.{AgreesRam}
 use Rattle.netlist.specs.Sound.{HasWidth}
 use Rattle.netlist.specs.declared.net.RamIn.{RamIn}
-use Rattle.verilog_text.specs.Declared.{IsAsWide, IsLiteralOf, IsNameOf, IsOfKind, MeansBits}
+use Rattle.verilog_text.specs.Declared.{IsAsWide, IsOfKind}
 use Rattle.verilog_text.specs.Declared.Kind.{a_register}
-use Rattle.verilog_text.specs.Denotes.{AreWords, HasWords, IsAccess, IsClockOf, IsRam, IsWordAt, Scene}
+use Rattle.verilog_text.specs.Denotes.{AreWords, HasWords, IsAccess, IsRam, Scene}
 use Rattle.verilog_text.specs.VForms.{IsLiteral}
 use Rattle.verilog_tree.specs.Sources.{access_of, bytes_of, memory_if, memory_of as said_memory, ram_of as said_ram, word_of}
 use Rattle.verilog_tree.specs.declared.item.Access.{Access}
@@ -28,20 +27,18 @@ use Rattle.verilog_rules.specs.Checks.{Check, check}
 use Rattle.verilog_rules.specs.NameRules.{access_checks, clock_check, is_memory, kind_of, memory_checks, operand_check, ram_checks, same_check, shows}
 use Rattle.verilog_rules.specs.NetOf.{bits, inputs_of, words_of}
 use Rattle.verilog_rules.specs.Resolving.{address_of, clocked, operand, ram_of}
-use Rattle.verilog_rules.specs.Texts.{is_literal_of, is_word_of, number, width, width as width_of_range}
+use Rattle.verilog_rules.specs.Texts.{is_literal_of, number, width, width as width_of_range}
 use Rattle.verilog_text.specs.Source.{Memory as MemoryItem}
 use Rattle.verilog_rules.specs.WidthRules.{address_checks, count_of, kind_at, kind_checks, memory_of, ram_width_checks, wide, width_check, word_checks, words_checks}
-use Rattle.verilog_rules.specs.declared.resolved.Kind.{Kind}
 use Rattle.verilog_rules.specs.declared.resolved.Kind.TheVariants as kind
-use Rattle.verilog_rules.specs.declared.resolved.Operand.{Operand}
 use Rattle.verilog_rules.specs.declared.resolved.RamOf.{RamOf}
 use Rattle.verilog_rules.specs.declared.resolved.Wire.{Wire}
 use Rattle.verilog_rules.proofs.Holding.{AllTrue, all_ones, both_parts, each_one, first_part, second_part}
-use Rattle.verilog_rules.proofs.Literals.{bits_back, bits_length, bits_meant, is_literal, literal_back, literal_meant, literal_parts, word_parts}
+use Rattle.verilog_rules.proofs.Literals.{bits_back, bits_length, bits_meant, is_literal, literal_back, literal_meant, literal_parts}
 use Rattle.verilog_rules.proofs.Operands.{Fit, Known, has_kind, has_width, is_known, kind_is, known, known_as, named, named_back, said}
 use Rattle.verilog_rules.proofs.Registers.{clock_back, clock_is}
 use Rattle.verilog_rules.proofs.Values.{is_wide, one_width, wide_holds}
-use Rattle.verilog_rules.proofs.Wires.{Extends, HasFewPlaces, KindFormed, WireHolds, as_wide, each_at, fit, kind_there, register_said, said_kind, said_wide, showing, wide_there, widths_in}
+use Rattle.verilog_rules.proofs.Wires.{Extends, WireHolds, as_wide, each_at, fit, kind_there, register_said, said_kind, said_wide, showing, wide_there, widths_in}
 
 -- the literals of a RAM have their form
 pub record RamFormed (ram : Ram) : Type 0 where
@@ -68,12 +65,14 @@ are_words : (name : List ℕ) (n count place : ℕ) (words : List FirstWord) →
     → AllByRecursion (λ (word : FirstWord). IsLiteral (bytes_of word.literal)) words → AllTrue (word_checks n count place words)
     → AreWords name place (map word_of words) (map word_bits words)
 are_words name n count place [] are formed all = tt
-are_words name n count place (word ∷ words) are formed all =
-    (record {
-       memory_is = are.0;
-       place_is = eqb-true (number word.place) place all.1.0;
-       bits_are = bits_meant n word.literal formed.0 all.1.1.0;
-     }, are_words name n count (place + 1) words are.1 formed.1 all.1.1.1)
+are_words name n count place (word ∷ words) are formed all = (
+  record {
+    memory_is = are.0;
+    place_is = eqb-true (number word.place) place all.1.0;
+    bits_are = bits_meant n word.literal formed.0 all.1.1.0;
+  },
+  are_words name n count (place + 1) words are.1 formed.1 all.1.1.1,
+)
 
 word_lengths : (n count place : ℕ) (words : List FirstWord) → AllTrue (word_checks n count place words)
     → AllByRecursion (λ (bs : List Bool). length bs ≡ n) (map word_bits words)
@@ -158,9 +157,9 @@ ram_is scene ws full ram extends holds formed names widths =
     let write_fits : AllTrue (address_checks (widths_in full) count made.write) = first_part (address_checks (widths_in full) count made.write) (from_written (widths_in full) n count made) after_words.1.1 in
     let after_fits : AllTrue (from_written (widths_in full) n count made) = second_part (address_checks (widths_in full) count made.write) (from_written (widths_in full) n count made) after_words.1.1 in
     let read_fits : AllTrue (address_checks (widths_in full) count made.read) =
-        first_part (address_checks (widths_in full) count made.read) (check ram.zeros.at (is_literal_of n 0 ram.zeros) ∷ []) after_fits.1 in
+    first_part (address_checks (widths_in full) count made.read) (check ram.zeros.at (is_literal_of n 0 ram.zeros) ∷ []) after_fits.1 in
     let zeros_fit : AllTrue (check ram.zeros.at (is_literal_of n 0 ram.zeros) ∷ []) =
-        second_part (address_checks (widths_in full) count made.read) (check ram.zeros.at (is_literal_of n 0 ram.zeros) ∷ []) after_fits.1 in
+    second_part (address_checks (widths_in full) count made.read) (check ram.zeros.at (is_literal_of n 0 ram.zeros) ∷ []) after_fits.1 in
     let first_parts = literal_parts n 0 literal kind_holds.0 in
     let zero_parts = literal_parts n 0 ram.zeros zeros_fit.0 in
     let enable : Known ws ram.enable = known ws ram.enable after.1.0 in
@@ -185,7 +184,7 @@ ram_is scene ws full ram extends holds formed names widths =
           many = sym long;
         };
         words_are = are_words (bytes_of memory.name) n count 0 all
-          (name_is, all_same ram.first.memory (bytes_of memory.name) ram.others name_is same) formed.words word_fits;
+            (name_is, all_same ram.first.memory (bytes_of memory.name) ram.others name_is same) formed.words word_fits;
         clock = clock_is scene.ports ram.clock after.0;
         enable = named ws ram.enable enable;
         write = rw long (access_is ws ram.first.memory (bytes_of memory.name) (widths_in full) count ram.write name_is formed.write write_names write_fits);
@@ -234,13 +233,18 @@ words_were name place (word ∷ words) (bs ∷ bss) are =
     record {
       bits_are = λ i. back.0 i ∷ later.bits_are i;
       names = (are.0.memory_is, later.names);
-      checks = λ n count long all.
-        (lt-ltb place count (word_below place count words long), (eq-eqb (number word.place) place are.0.place_is,
-         (rw all.0 at back.1, later.checks n count (words_below place count words long) all.1)));
+      checks = λ n count long all. (
+        lt-ltb place count (word_below place count words long),
+        (
+          eq-eqb (number word.place) place are.0.place_is,
+          (rw all.0 at back.1, later.checks n count (words_below place count words long) all.1),
+        ),
+      );
     }
   where
     word_below : (place count : ℕ) (words : List FirstWord) → place + suc (length words) ≤ count → place < count
     word_below place count words long = omega arith
+
     words_below : (place count : ℕ) (words : List FirstWord) → place + suc (length words) ≤ count → place + 1 + length words ≤ count
     words_below place count words long = omega arith
 
@@ -306,7 +310,7 @@ ram_was scene ws full ram w domain words inputs extends is =
     let back = named_back ws ram.register w is.register in
     let k : Known ws ram.register = back.0 in
     let declared : IsOfKind (map said ws) (operand ws ram.register).wire (a_register is.literal (Some is.memory)) =
-        subst (λ (v : WireId). IsOfKind (map said ws) v (a_register is.literal (Some is.memory))) (sym back.1) is.declared in
+    subst (λ (v : WireId). IsOfKind (map said ws) v (a_register is.literal (Some is.memory))) (sym back.1) is.declared in
     let register = register_said k.kind is.literal (Some is.memory) (said_kind ws ram.register k (a_register is.literal (Some is.memory)) declared) in
     let some = some_memory_said register.1 is.memory register.4 in
     let memory : Memory = some.0 in
@@ -315,17 +319,17 @@ ram_was scene ws full ram w domain words inputs extends is =
     let name_is : bytes_of memory.name ≡ is.memory.name = ap (λ (m : MemoryItem). m.name) some.2 in
     let has : HasWords (said_memory memory) is.width (length words) = subst (λ (m : MemoryItem). HasWords m is.width (length words)) (sym some.2) is.has_words in
     let were : WordsWere (bytes_of memory.name) 0 (ram.first ∷ ram.others) words =
-        words_were (bytes_of memory.name) 0 (ram.first ∷ ram.others) words (subst (λ (n : List ℕ). AreWords n 0 (map word_of (ram.first ∷ ram.others)) words) (sym name_is) is.words_are) in
+    words_were (bytes_of memory.name) 0 (ram.first ∷ ram.others) words (subst (λ (n : List ℕ). AreWords n 0 (map word_of (ram.first ∷ ram.others)) words) (sym name_is) is.words_are) in
     let first_name : bytes_of ram.first.memory ≡ bytes_of memory.name = were.names.0 in
     let clock = clock_back scene.ports ram.clock domain is.clock in
     let enable = named_back ws ram.enable inputs.enable is.enable in
     let value = named_back ws ram.value inputs.value is.value_is in
     let write : AccessWas ws ram.first.memory (length words) ram.write inputs.place =
-        access_was ws ram.first.memory is.memory.name (length words) ram.write inputs.place (first_name ∙ name_is) is.write in
+    access_was ws ram.first.memory is.memory.name (length words) ram.write inputs.place (first_name ∙ name_is) is.write in
     let read : AccessWas ws ram.first.memory (length words) ram.read inputs.read =
-        access_was ws ram.first.memory is.memory.name (length words) ram.read inputs.read (first_name ∙ name_is) is.read in
+    access_was ws ram.first.memory is.memory.name (length words) ram.read inputs.read (first_name ∙ name_is) is.read in
     let shown : shows (bytes_of ram.first.memory) (Some (kind.Register register.0 (Some memory))) ≡ true =
-        (bytes_eq-Decides (bytes_of ram.first.memory) (bytes_of memory.name)).1 first_name in
+    (bytes_eq-Decides (bytes_of ram.first.memory) (bytes_of memory.name)).1 first_name in
     let shows_it : shows (bytes_of ram.first.memory) (kind_of ws (bytes_of ram.register)) ≡ true = rw (k.has_kind, k_is) shown in
     let wire_shows : shows (bytes_of ram.first.memory) (Some k.wire.kind) ≡ true = rw (k.of_kind, k_is) shown in
     let first = literal_back is.width 0 register.0 (rw register.3 is.first) in
@@ -334,12 +338,18 @@ ram_was scene ws full ram w domain words inputs extends is =
     let wide_k = said_wide ws ram.register k is.width (subst (λ (v : WireId). IsAsWide (map said ws) v is.width) (sym back.1) is.wide) in
     let fitting = fit ws full extends (operand ws ram.register).wire.number k.wire k.found in
     record {
-      names = (any_at (bytes_of ram.first.memory) ws (operand ws ram.register).wire.number k.wire k.found wire_shows,
+      names = (
+        any_at (bytes_of ram.first.memory) ws (operand ws ram.register).wire.number k.wire k.found wire_shows,
         both_parts (memory_checks ram.first.memory ram.others) (from_clock scene.ports ws ram)
-          (all_ones (λ (word : FirstWord). same_check ram.first.memory word.memory) ram.others (sames ram.first.memory (bytes_of memory.name) ram.others first_name were.names.1))
-          (clock.0, (is_known ws ram.enable enable.0,
-           both_parts (access_checks ws ram.first.memory ram.write) (from_value ws ram) write.names
-             (is_known ws ram.value value.0, (shows_it, read.names)))));
+            (all_ones (λ (word : FirstWord). same_check ram.first.memory word.memory) ram.others (sames ram.first.memory (bytes_of memory.name) ram.others first_name were.names.1)) (
+              clock.0,
+              (
+                is_known ws ram.enable enable.0,
+                both_parts (access_checks ws ram.first.memory ram.write) (from_value ws ram) write.names
+                    (is_known ws ram.value value.0, (shows_it, read.names)),
+              ),
+            ),
+      );
       register = back.1;
       known = k;
       domain_is = clock.1;
@@ -366,12 +376,12 @@ ram_was scene ws full ram w domain words inputs extends is =
 pub ram_checked : (ports : Ports) (ws full : List Wire) (ram : Ram) (w : WireId) (domain : DomId) (words : List (List Bool)) (inputs : RamIn) → Extends ws full
     → (was : RamWas ports ws full ram w domain words inputs) → AgreesRam (widths_in full) w words inputs
     → AllTrue (ram_width_checks (widths_in full) (wide (widths_in full) (operand ws ram.register)) (memory_of (kind_at full (operand ws ram.register))) (ram_of ports ws ram))
-      × AllTrue (kind_checks (wide (widths_in full) (operand ws ram.register)) (kind.Register was.literal (Some was.memory)))
+    × AllTrue (kind_checks (wide (widths_in full) (operand ws ram.register)) (kind.Register was.literal (Some was.memory)))
 ram_checked ports ws full ram w domain words inputs extends was agrees =
     let made : RamOf = ram_of ports ws ram in
     let n : ℕ = wide (widths_in full) (operand ws ram.register) in
     let has : HasWidth (widths_in full) w n =
-        subst (λ (v : WireId). HasWidth (widths_in full) v n) was.register (has_width ws (widths_in full) ram.register (fit ws full extends) was.known) in
+    subst (λ (v : WireId). HasWidth (widths_in full) v n) was.register (has_width ws (widths_in full) ram.register (fit ws full extends) was.known) in
     let shown : n ≡ agrees.width = one_width (widths_in full) w n agrees.width has agrees.shown in
     let also : was.width ≡ n = one_width (widths_in full) w was.width n was.wide_is has in
     let zeros : is_literal_of n 0 ram.zeros ≡ true = rw also at was.zeros in
@@ -382,13 +392,24 @@ ram_checked ports ws full ram w domain words inputs extends was agrees =
     let value_wide : HasWidth (widths_in full) (operand ws ram.value).wire agrees.width = subst (λ (x : RamIn). HasWidth (widths_in full) x.value agrees.width) was.inputs_are agrees.value in
     let lengths : AllByRecursion (λ (bs : List Bool). length bs ≡ n) words = rw shown agrees.each_word in
     let checks : AllTrue (words_checks (widths_in full) n (length words) made) =
-        both_parts (word_checks n (length words) 0 (ram.first ∷ ram.others)) (from_end (widths_in full) n (length words) made) (was.word_checks_hold n lengths)
-          (eq-eqb (length (ram.first ∷ ram.others)) (length words) was.is_many, (wide_holds (widths_in full) (operand ws ram.enable) 1 enable_wide,
-           both_parts (address_checks (widths_in full) (length words) made.write) (from_written (widths_in full) n (length words) made)
-             (wide_holds (widths_in full) (operand ws ram.write.address) ADDRESS_BITS place_wide, (was.write, tt))
-             (wide_holds (widths_in full) (operand ws ram.value) n (rw shown value_wide),
+    both_parts (word_checks n (length words) 0 (ram.first ∷ ram.others)) (from_end (widths_in full) n (length words) made) (was.word_checks_hold n lengths) (
+      eq-eqb (length (ram.first ∷ ram.others)) (length words) was.is_many,
+      (
+        wide_holds (widths_in full) (operand ws ram.enable) 1 enable_wide,
+        both_parts (address_checks (widths_in full) (length words) made.write) (from_written (widths_in full) n (length words) made)
+            (wide_holds (widths_in full) (operand ws ram.write.address) ADDRESS_BITS place_wide, (was.write, tt)) (
+              wide_holds (widths_in full) (operand ws ram.value) n (rw shown value_wide),
               both_parts (address_checks (widths_in full) (length words) made.read) (check ram.zeros.at (is_literal_of n 0 ram.zeros) ∷ [])
-                (wide_holds (widths_in full) (operand ws ram.read.address) ADDRESS_BITS read_wide, (was.read, tt)) (zeros, tt)))) in
-    (rw was.there (subst (λ (count : ℕ). AllTrue (words_checks (widths_in full) n count made)) (sym was.many) checks),
-     (first, (eq-eqb (number was.memory.width.to) 0 was.ends,
-      (eq-eqb (width_of_range was.memory.width) n (was.memory_wide ∙ also), (eq-eqb (number was.memory.places.from) 0 was.begins, tt)))))
+                  (wide_holds (widths_in full) (operand ws ram.read.address) ADDRESS_BITS read_wide, (was.read, tt)) (zeros, tt),
+            ),
+      ),
+    ) in (
+      rw was.there (subst (λ (count : ℕ). AllTrue (words_checks (widths_in full) n count made)) (sym was.many) checks),
+      (
+        first,
+        (
+          eq-eqb (number was.memory.width.to) 0 was.ends,
+          (eq-eqb (width_of_range was.memory.width) n (was.memory_wide ∙ also), (eq-eqb (number was.memory.places.from) 0 was.begins, tt)),
+        ),
+      ),
+    )

@@ -1,6 +1,6 @@
 -- Registers.
-use Rattle.std.proofs.Common.{◌≡◌, ℕ, zero, suc, ◌+◌, ◌<◌, ◌≤◌, ◌^◌, Bool, true, false, not, ◌&&◌, List, [], ◌∷◌, ◌++◌, length, map, Option, Some, None, refl, sym, ap, ◌∙◌, subst, arith}
-use Rattle.std.specs.Prelude.{slice_get, option_map, is_some}
+use Rattle.std.proofs.Common.{◌≡◌, ℕ, ◌<◌, ◌^◌, Bool, true, List, length, map, Option, Some, None, refl, sym, ap, ◌∙◌, subst}
+use Rattle.std.specs.Prelude.{option_map, is_some}
 use Rattle.std.specs.Option.{unwrap_or}
 use Rattle.std.specs.List.{AllByRecursion}
 use Rattle.std.specs.Str.{bytes_eq}
@@ -10,39 +10,32 @@ use Rattle.std.proofs.Math.Nat.{mod-eq_of_lt}
 use Rattle.chw_base.specs.declared.index.DomId.{DomId}
 use Rattle.chw_base.specs.declared.index.WireId.{WireId}
 use Rattle.chw_bits.specs.Bits.{number_of}
-use Rattle.chw_bits.proofs.Numbers.{length-bits_of}
 use Rattle.chw_bits.proofs.RoundTrips.{number_of-bits_of}
 use Rattle.chw_clock.specs.Histories.{has_reset}
 use Rattle.chw_clock.specs.declared.event.Ports.{Ports}
-use Rattle.name_tables.specs.Names.{place_of}
-use Rattle.net_rules.specs.WellFormed.{WidthsAgree}
 use Rattle.netlist.specs.Sound.{HasWidth}
-use Rattle.netlist.specs.declared.net.Cell.TheVariants as cell
-use Rattle.netlist.specs.declared.net.Module.{Module}
-use Rattle.verilog_text.specs.Declared.{IsNameOf, IsOfKind, MeansBits}
+use Rattle.verilog_text.specs.Declared.{IsOfKind, MeansBits}
 use Rattle.verilog_text.specs.Declared.Kind.{a_register}
 use Rattle.verilog_text.specs.Denotes.{IsClockOf, IsRegister, IsReset, Scene}
-use Rattle.verilog_text.specs.Names.{clock_name, domain_name, reset_name}
+use Rattle.verilog_text.specs.Names.{domain_name, reset_name}
 use Rattle.verilog_text.specs.VForms.{IsLiteral}
 use Rattle.verilog_tree.specs.Sources.{bytes_of, edge_of, memory_if, reset_if}
 use Rattle.verilog_tree.specs.declared.item.Edge.{Edge}
 use Rattle.verilog_tree.specs.declared.item.Memory.{Memory}
 use Rattle.verilog_tree.specs.declared.item.Reset.{Reset}
 use Rattle.verilog_tree.specs.declared.word.Word.{Word}
-use Rattle.verilog_rules.specs.NameRules.{clock_check, domain_of, edge_checks, is_plain_register, kind_of, reset_checks}
+use Rattle.verilog_rules.specs.NameRules.{clock_check, domain_of, edge_checks, kind_of, reset_checks}
 use Rattle.verilog_rules.specs.NetOf.{bits, first_bits}
 use Rattle.verilog_rules.specs.Resolving.{clocked, operand}
 use Rattle.verilog_rules.specs.Texts.{amount, is_word_of, size, width}
 use Rattle.verilog_rules.specs.WidthRules.{kind_at, kind_checks, literal_of, register_checks, reset_literal_checks, wide}
-use Rattle.verilog_rules.specs.declared.resolved.Kind.{Kind}
 use Rattle.verilog_rules.specs.declared.resolved.Kind.TheVariants as kind
-use Rattle.verilog_rules.specs.declared.resolved.Operand.{Operand}
 use Rattle.verilog_rules.specs.declared.resolved.Wire.{Wire}
 use Rattle.verilog_rules.proofs.Holding.{AllTrue, both_parts, first_part, second_part}
 use Rattle.verilog_rules.proofs.Literals.{bits_back, bits_length, bits_meant, is_literal, literal_back, literal_meant, literal_parts, word_parts}
-use Rattle.verilog_rules.proofs.Operands.{Fit, Known, has_kind, has_width, is_known, kind_is, known, known_as, named, named_back, said}
+use Rattle.verilog_rules.proofs.Operands.{Known, has_kind, has_width, is_known, kind_is, known, known_as, named, named_back, said}
 use Rattle.verilog_rules.proofs.Values.{is_wide, one_width, wide_holds}
-use Rattle.verilog_rules.proofs.Wires.{Extends, KindFormed, WireHolds, each_at, fit, kind_there, plain_register, register_said, said_kind, wide_there, widths_in}
+use Rattle.verilog_rules.proofs.Wires.{Extends, WireHolds, each_at, fit, kind_there, plain_register, register_said, said_kind, wide_there, widths_in}
 
 -- the literal of a reset has its form
 abbrev pub ResetFormed : Option Reset → Type 0
@@ -84,9 +77,11 @@ reset_is ports clock n first None a form fits is_clock names literals =
 reset_is ports clock n first (Some reset) a form fits is_clock names literals =
     let named_so = rw (clock_is ports clock is_clock) at names in
     let parts = and_parts (has_reset ports (clocked ports clock)) (bytes_eq (bytes_of reset.name) (reset_name (domain_name ports.domains (clocked ports clock)))) named_so.0 in
-    let literal = literal_parts n (amount first) reset.literal literals.0 in
-    (parts.0, (bytes_eq-Decides (bytes_of reset.name) (reset_name (domain_name ports.domains (clocked ports clock)))).0 parts.1,
-     same_bits n first reset.literal form fits literal.0 literal.1)
+    let literal = literal_parts n (amount first) reset.literal literals.0 in (
+      parts.0,
+      (bytes_eq-Decides (bytes_of reset.name) (reset_name (domain_name ports.domains (clocked ports clock)))).0 parts.1,
+      same_bits n first reset.literal form fits literal.0 literal.1,
+    )
 
 -- what holds of a register that passes its checks
 pub record RegisterIs (scene : Scene) (ws full : List Wire) (edge : Edge) : Type 0 where
@@ -98,7 +93,7 @@ pub record RegisterIs (scene : Scene) (ws full : List Wire) (edge : Edge) : Type
 pub register_is : (scene : Scene) (ws full : List Wire) (edge : Edge) → Extends ws full → AllByRecursion WireHolds full → ResetFormed edge.reset
     → AllTrue (edge_checks scene.ports ws edge)
     → AllTrue (register_checks (widths_in full) (wide (widths_in full) (operand ws edge.register)) (kind_at full (operand ws edge.register))
-      (option_map (λ (r : Reset). r.literal) edge.reset) (operand ws edge.a))
+    (option_map (λ (r : Reset). r.literal) edge.reset) (operand ws edge.a))
     → RegisterIs scene ws full edge
 register_is scene ws full edge extends holds form names widths =
     let plain = plain_register (kind_of ws (bytes_of edge.register)) names.1.0 in
@@ -129,9 +124,10 @@ register_is scene ws full edge extends holds form names widths =
         reset = rw there (reset_is scene.ports edge.clock n first edge.reset edge.a form fits names.0 resets literals);
         taken = named ws edge.a a_known;
       };
-      agrees = rw (there, bits_length n first fits)
-        (rw (sym wide_is) (has_width ws (widths_in full) edge.register (fit ws full extends) k),
-         is_wide ws (widths_in full) edge.a n (fit ws full extends) a_known a_wide.0);
+      agrees = rw (there, bits_length n first fits) (
+        rw (sym wide_is) (has_width ws (widths_in full) edge.register (fit ws full extends) k),
+        is_wide ws (widths_in full) edge.a n (fit ws full extends) a_known a_wide.0,
+      );
     }
 
 no_memory_said : (m : Option Memory) → memory_if m ≡ None → m ≡ None
@@ -154,14 +150,18 @@ pub record RegisterWas (ports : Ports) (ws full : List Wire) (edge : Edge) (w : 
 resets_were : (ports : Ports) (domain : DomId) (clock : Word) (initial : List Bool) (first : Word) (reset : Option Reset) (a : Word)
     → domain_of ports clock ≡ Some domain.number → amount first ≡ number_of initial → IsReset ports domain initial (reset_if reset)
     → AllTrue (reset_checks ports (domain_of ports clock) reset a)
-      × ((n : ℕ) → n ≡ length initial → AllTrue (reset_literal_checks n (Some first) (option_map (λ (r : Reset). r.literal) reset)))
+    × ((n : ℕ) → n ≡ length initial → AllTrue (reset_literal_checks n (Some first) (option_map (λ (r : Reset). r.literal) reset)))
 resets_were ports domain clock initial first None a at means is =
     (rw at ((rw is refl), tt), λ n long. tt)
 resets_were ports domain clock initial first (Some reset) a at means is =
-    let literal = literal_back (length initial) (number_of initial) reset.literal is.2 in
-    (rw at (and_from (has_reset ports domain) (bytes_eq (bytes_of reset.name) (reset_name (domain_name ports.domains domain))) is.0
-       ((bytes_eq-Decides (bytes_of reset.name) (reset_name (domain_name ports.domains domain))).1 is.1), tt),
-     λ n long. (is_literal n (amount first) reset.literal (literal.0 ∙ sym long) (literal.1 ∙ sym means) (rw (long, means) literal.2), tt))
+    let literal = literal_back (length initial) (number_of initial) reset.literal is.2 in (
+      rw at (
+        and_from (has_reset ports domain) (bytes_eq (bytes_of reset.name) (reset_name (domain_name ports.domains domain))) is.0
+            ((bytes_eq-Decides (bytes_of reset.name) (reset_name (domain_name ports.domains domain))).1 is.1),
+        tt,
+      ),
+      λ n long. (is_literal n (amount first) reset.literal (literal.0 ∙ sym long) (literal.1 ∙ sym means) (rw (long, means) literal.2), tt),
+    )
 
 pub register_was : (scene : Scene) (ws full : List Wire) (edge : Edge) (w : WireId) (domain : DomId) (initial : List Bool) (a : WireId) → Extends ws full
     → IsRegister scene (map said ws) (edge_of edge) w domain initial a → RegisterWas scene.ports ws full edge w domain initial a
@@ -180,23 +180,36 @@ register_was scene ws full edge w domain initial a extends is =
     let amount_is = (literal_back (length initial) (number_of initial) register.0 initial_bits).1 in
     let resets = resets_were scene.ports domain edge.clock initial register.0 edge.reset edge.a is.clock amount_is is.reset in
     record {
-      names = (clock.0, (rw (k.has_kind, k_is) refl,
-        both_parts (reset_checks scene.ports (domain_of scene.ports edge.clock) edge.reset edge.a) _ resets.0 (is_known ws edge.a taken.0, tt)));
-      register = back.1; known = k; taken = taken.1; domain_is = clock.1;
-      first = register.0; there = there; initial_is = first.0; fits = first.1; resets = resets.1;
+      names = (
+        clock.0,
+        (
+          rw (k.has_kind, k_is) refl,
+          both_parts (reset_checks scene.ports (domain_of scene.ports edge.clock) edge.reset edge.a) _ resets.0 (is_known ws edge.a taken.0, tt),
+        ),
+      );
+      register = back.1;
+      known = k;
+      taken = taken.1;
+      domain_is = clock.1;
+      first = register.0;
+      there = there;
+      initial_is = first.0;
+      fits = first.1;
+      resets = resets.1;
     }
 
 -- the widths of a register that stands in a text
 pub register_checked : (ports : Ports) (ws full : List Wire) (edge : Edge) (w : WireId) (domain : DomId) (initial : List Bool) (a : WireId) → Extends ws full
     → (was : RegisterWas ports ws full edge w domain initial a) → HasWidth (widths_in full) w (length initial) → HasWidth (widths_in full) a (length initial)
     → AllTrue (register_checks (widths_in full) (wide (widths_in full) (operand ws edge.register)) (kind_at full (operand ws edge.register))
-      (option_map (λ (r : Reset). r.literal) edge.reset) (operand ws edge.a))
-      × AllTrue (kind_checks (wide (widths_in full) (operand ws edge.register)) (kind.Register was.first None))
+    (option_map (λ (r : Reset). r.literal) edge.reset) (operand ws edge.a))
+    × AllTrue (kind_checks (wide (widths_in full) (operand ws edge.register)) (kind.Register was.first None))
 register_checked ports ws full edge w domain initial a extends was has also =
     let n_is : wide (widths_in full) (operand ws edge.register) ≡ length initial =
-        one_width (widths_in full) w (wide (widths_in full) (operand ws edge.register)) (length initial)
-        (subst (λ (v : WireId). HasWidth (widths_in full) v (wide (widths_in full) (operand ws edge.register))) was.register (has_width ws (widths_in full) edge.register (fit ws full extends) was.known)) has in
-    let a_has : HasWidth (widths_in full) (operand ws edge.a).wire (length initial) = subst (λ (v : WireId). HasWidth (widths_in full) v (length initial)) (sym was.taken) also in
-    (rw was.there (both_parts (reset_literal_checks (wide (widths_in full) (operand ws edge.register)) (Some was.first) (option_map (λ (r : Reset). r.literal) edge.reset)) _
-       (was.resets (wide (widths_in full) (operand ws edge.register)) n_is) (rw n_is (wide_holds (widths_in full) (operand ws edge.a) (length initial) a_has), tt)),
-     (rw n_is was.fits, tt))
+    one_width (widths_in full) w (wide (widths_in full) (operand ws edge.register)) (length initial)
+    (subst (λ (v : WireId). HasWidth (widths_in full) v (wide (widths_in full) (operand ws edge.register))) was.register (has_width ws (widths_in full) edge.register (fit ws full extends) was.known)) has in
+    let a_has : HasWidth (widths_in full) (operand ws edge.a).wire (length initial) = subst (λ (v : WireId). HasWidth (widths_in full) v (length initial)) (sym was.taken) also in (
+      rw was.there (both_parts (reset_literal_checks (wide (widths_in full) (operand ws edge.register)) (Some was.first) (option_map (λ (r : Reset). r.literal) edge.reset)) _
+          (was.resets (wide (widths_in full) (operand ws edge.register)) n_is) (rw n_is (wide_holds (widths_in full) (operand ws edge.a) (length initial) a_has), tt)),
+      (rw n_is was.fits, tt),
+    )

@@ -1,16 +1,15 @@
 -- The widths of what a use joins.
-use Rattle.std.proofs.Common.{◌≡◌, ℕ, zero, suc, ◌+◌, ◌<◌, ◌≤◌, Bool, true, false, List, [], ◌∷◌, ◌++◌, length, map, take, Option, Some, None, refl, sym, ap, ◌∙◌, subst, arith}
-use Rattle.std.specs.Prelude.{slice_get, option_map, MatchOption}
+use Rattle.std.proofs.Common.{◌≡◌, ℕ, zero, suc, ◌+◌, ◌<◌, List, [], ◌∷◌, length, map, take, Some, refl, sym, ap, ◌∙◌, subst, arith}
+use Rattle.std.specs.Prelude.{slice_get, option_map}
 use Rattle.std.specs.List.{AllByRecursion}
 use Rattle.std.proofs.lemmas.Bool.{eqb-true}
 use Rattle.std.proofs.lemmas.Option.{same_Some, slice_get_within}
 use Rattle.chw_base.specs.declared.index.WireId.{WireId}
-use Rattle.net_rules.specs.WellFormed.{AgreesUse, Together}
+use Rattle.net_rules.specs.WellFormed.{AgreesUse}
 use Rattle.netlist.specs.Sound.{HasWidth}
-use Rattle.netlist.specs.declared.net.Module.{Module as NetModule}
 use Rattle.verilog_tree.specs.declared.module.Module.{Module}
 use Rattle.verilog_tree.specs.declared.word.Line.{Line}
-use Rattle.verilog_rules.specs.Declarations.{inputs_of, outputs_of, ports_in, wires_of}
+use Rattle.verilog_rules.specs.Declarations.{inputs_of, outputs_of, ports_in}
 use Rattle.verilog_rules.specs.NetOf.{net_module, shown_wire, shown_wires, wire}
 use Rattle.verilog_rules.specs.Texts.{width}
 use Rattle.verilog_rules.specs.WidthRules.{joined_checks, port_checks, wide, widths_of, wire_widths}
@@ -35,12 +34,12 @@ got_net [] k ur found = absurd (cc)
 got_net (m ∷ er) zero ur found = ap (option_map net_module) found
 got_net (m ∷ er) (suc k) ur found = got_net er k ur found
 
-got_mapped_back : {A B : Type 0} (f : A → B) (xs : List A) (k : ℕ) (y : B) → slice_get (map f xs) k ≡ Some y → (x : A) × (slice_get xs k ≡ Some x) × (f x ≡ y)
+pub got_mapped_back : {A B : Type 0} (f : A → B) (xs : List A) (k : ℕ) (y : B) → slice_get (map f xs) k ≡ Some y → (x : A) × (slice_get xs k ≡ Some x) × (f x ≡ y)
 got_mapped_back f [] k y found = absurd (cc)
 got_mapped_back f (x ∷ xs) zero y found = (x, refl, same_Some (f x) y found)
 got_mapped_back f (x ∷ xs) (suc k) y found = got_mapped_back f xs k y found
 
-got_mapped : {A B : Type 0} (f : A → B) (xs : List A) (k : ℕ) (x : A) → slice_get xs k ≡ Some x → slice_get (map f xs) k ≡ Some (f x)
+pub got_mapped : {A B : Type 0} (f : A → B) (xs : List A) (k : ℕ) (x : A) → slice_get xs k ≡ Some x → slice_get (map f xs) k ≡ Some (f x)
 got_mapped f [] k x found = absurd (cc)
 got_mapped f (y ∷ xs) zero x found = ap (option_map f) found
 got_mapped f (y ∷ xs) (suc k) x found = got_mapped f xs k x found
@@ -96,26 +95,28 @@ use_agrees used ur widths reads drives fits count reads_have drives_have all =
     let out_checks : AllTrue (port_checks widths (widths_of ur.outputs) drives) = second_part (port_checks widths (take ur.inputs (wire_widths ur)) reads) (port_checks widths (widths_of ur.outputs) drives) all in
     record {
       inputs = λ k w n at also.
-        let a = got_mapped_back wire reads k w at in
-        let below : k < length reads = slice_get_within reads k a.0 a.1 in
-        let inside : k < ur.inputs = below_inputs k (length reads) ur.inputs (length (inputs_of (ports_in used))) below count fits.inputs in
-        let there : slice_get (take ur.inputs (wire_widths ur)) k ≡ Some n = got_in_front ur.inputs (wire_widths ur) k n inside also in
-        has reads k a.0 w n reads_have a.1 a.2 (port_widths widths (take ur.inputs (wire_widths ur)) reads in_checks k n a.0 there a.1);
+          let a = got_mapped_back wire reads k w at in
+          let below : k < length reads = slice_get_within reads k a.0 a.1 in
+          let inside : k < ur.inputs = below_inputs k (length reads) ur.inputs (length (inputs_of (ports_in used))) below count fits.inputs in
+          let there : slice_get (take ur.inputs (wire_widths ur)) k ≡ Some n = got_in_front ur.inputs (wire_widths ur) k n inside also in
+          has reads k a.0 w n reads_have a.1 a.2 (port_widths widths (take ur.inputs (wire_widths ur)) reads in_checks k n a.0 there a.1);
       outputs = λ k w o at also.
-        let a = got_mapped_back wire drives k w at in
-        let shown = got_shown ur.drivers 0 ur.outputs k o also in
-        let n : ℕ = width shown.0.range in
-        let there : slice_get (widths_of ur.outputs) k ≡ Some n = got_mapped (λ (l : Line). width l.range) ur.outputs k shown.0 shown.1 in
-        let w_has : HasWidth widths w n = has drives k a.0 w n drives_have a.1 a.2 (port_widths widths (widths_of ur.outputs) drives out_checks k n a.0 there a.1) in
-        let same : shown_wire ur.drivers k ≡ o = zero_plus ur.drivers k o shown.2 in
-        let o_has : HasWidth (wire_widths ur) o n = subst (λ (v : WireId). HasWidth (wire_widths ur) v n) same (fits.wide_outputs k shown.0 shown.1) in
-        w_has ∙ sym o_has;
+          let a = got_mapped_back wire drives k w at in
+          let shown = got_shown ur.drivers 0 ur.outputs k o also in
+          let n : ℕ = width shown.0.range in
+          let there : slice_get (widths_of ur.outputs) k ≡ Some n = got_mapped (λ (l : Line). width l.range) ur.outputs k shown.0 shown.1 in
+          let w_has : HasWidth widths w n = has drives k a.0 w n drives_have a.1 a.2 (port_widths widths (widths_of ur.outputs) drives out_checks k n a.0 there a.1) in
+          let same : shown_wire ur.drivers k ≡ o = zero_plus ur.drivers k o shown.2 in
+          let o_has : HasWidth (wire_widths ur) o n = subst (λ (v : WireId). HasWidth (wire_widths ur) v n) same (fits.wide_outputs k shown.0 shown.1) in
+          w_has ∙ sym o_has;
     }
   where
     below_inputs : (k reads inputs ports : ℕ) → k < reads → reads ≡ ports → inputs ≡ ports → k < inputs
     below_inputs k reads inputs ports below count is = omega arith
+
     zero_plus : (drivers : List Driver) (k : ℕ) (o : WireId) → shown_wire drivers (0 + k) ≡ o → shown_wire drivers k ≡ o
     zero_plus drivers k o is = let none : 0 + k ≡ k = omega arith in rw none at is
+
     has : (ops : List Operand) (k : ℕ) (a : Operand) (w : WireId) (n : ℕ) → AllByRecursion (λ (a : Operand). HasWidth widths a.wire (wide widths a)) ops → slice_get ops k ≡ Some a
         → a.wire ≡ w → wide widths a ≡ n → HasWidth widths w n
     has [] k a w n all at is same = absurd (cc)
@@ -129,16 +130,17 @@ pub use_checked : (used : Module) (ur : ResolvedModule) (widths : List ℕ) (rea
 use_checked used ur widths reads drives fits agrees =
     both_parts (port_checks widths (take ur.inputs (wire_widths ur)) reads) (port_checks widths (widths_of ur.outputs) drives)
     (port_checks_hold widths (take ur.inputs (wire_widths ur)) reads (λ k n a at also.
-      agrees.inputs k a.wire n (got_mapped wire reads k a also) (got_taken ur.inputs (wire_widths ur) k n at)))
+    agrees.inputs k a.wire n (got_mapped wire reads k a also) (got_taken ur.inputs (wire_widths ur) k n at)))
     (port_checks_hold widths (widths_of ur.outputs) drives (λ k n a at also.
-      let l = got_mapped_back (λ (l : Line). width l.range) ur.outputs k n at in
-      let shown : slice_get (shown_wires ur.drivers 0 ur.outputs) k ≡ Some (shown_wire ur.drivers k) = got_wire ur.drivers ur.outputs k l.0 l.1 in
-      agrees.outputs k a.wire (shown_wire ur.drivers k) (got_mapped wire drives k a also) shown
-      ∙ fits.wide_outputs k l.0 l.1 ∙ ap Some l.2))
+    let l = got_mapped_back (λ (l : Line). width l.range) ur.outputs k n at in
+    let shown : slice_get (shown_wires ur.drivers 0 ur.outputs) k ≡ Some (shown_wire ur.drivers k) = got_wire ur.drivers ur.outputs k l.0 l.1 in
+    agrees.outputs k a.wire (shown_wire ur.drivers k) (got_mapped wire drives k a also) shown
+    ∙ fits.wide_outputs k l.0 l.1 ∙ ap Some l.2))
   where
     got_from : (drivers : List Driver) (from : ℕ) (ls : List Line) (k : ℕ) (l : Line) → slice_get ls k ≡ Some l → slice_get (shown_wires drivers from ls) k ≡ Some (shown_wire drivers (from + k))
     got_from drivers from [] k l found = absurd (cc)
     got_from drivers from (m ∷ ls) zero l found = let none : from + 0 ≡ from = omega arith in rw none refl
     got_from drivers from (m ∷ ls) (suc k) l found = let next : from + suc k ≡ from + 1 + k = omega arith in rw next (got_from drivers (from + 1) ls k l found)
+
     got_wire : (drivers : List Driver) (ls : List Line) (k : ℕ) (l : Line) → slice_get ls k ≡ Some l → slice_get (shown_wires drivers 0 ls) k ≡ Some (shown_wire drivers k)
     got_wire drivers ls k l found = let none : 0 + k ≡ k = omega arith in got_from drivers 0 ls k l found ∙ ap (λ (j : ℕ). Some (shown_wire drivers j)) none

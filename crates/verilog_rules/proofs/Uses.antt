@@ -1,6 +1,6 @@
 -- Uses of modules.
-use Rattle.std.proofs.Common.{◌≡◌, ℕ, zero, suc, ◌+◌, ◌<◌, ◌≤◌, Bool, true, false, cond, List, [], ◌∷◌, ◌++◌, length, map, Option, Some, None, refl, sym, ap, ◌∙◌, subst, arith}
-use Rattle.std.specs.Prelude.{is_some, slice_get, option_map}
+use Rattle.std.proofs.Common.{◌≡◌, ℕ, zero, suc, ◌+◌, Bool, true, false, cond, List, [], ◌∷◌, ◌++◌, length, map, Option, Some, None, refl, sym, ap, ◌∙◌, subst, arith}
+use Rattle.std.specs.Prelude.{slice_get, option_map}
 use Rattle.std.specs.Option.{unwrap_or}
 use Rattle.std.specs.List.{AllByRecursion}
 use Rattle.std.specs.Str.{bytes_eq}
@@ -12,25 +12,23 @@ use Rattle.chw_base.specs.declared.index.WireId.{WireId}
 use Rattle.chw_clock.specs.declared.event.Ports.{Ports}
 use Rattle.name_tables.specs.Names.{place_of}
 use Rattle.verilog_text.specs.Declared.{AreNamesOf, IsOfKind, port_name}
-use Rattle.verilog_text.specs.Declared.{inputs_of as said_inputs, outputs_of as said_outputs, signals_of as said_signals}
+use Rattle.verilog_text.specs.Declared.{inputs_of as said_inputs, signals_of as said_signals}
 use Rattle.verilog_text.specs.Declared.Kind.{a_wire}
 use Rattle.verilog_text.specs.Denotes.{IsUse, Scene}
 use Rattle.verilog_text.specs.Source.{Connection as ConnectionItem, Line as LineItem, ModuleItem, all_of}
-use Rattle.verilog_tree.specs.Sources.{bytes_of, connection_of, line_of, module_of, port_of, use_of}
+use Rattle.verilog_tree.specs.Sources.{bytes_of, connection_of, line_of, module_of, use_of}
 use Rattle.verilog_tree.specs.declared.item.Connection.{Connection}
 use Rattle.verilog_tree.specs.declared.item.Use.{Use}
 use Rattle.verilog_tree.specs.declared.module.Module.{Module}
 use Rattle.verilog_tree.specs.declared.module.Port.{Port}
 use Rattle.verilog_tree.specs.declared.module.Port.TheVariants.{Input, Output, Signal}
-use Rattle.verilog_tree.specs.declared.word.Word.{Word}
 use Rattle.verilog_rules.specs.Declarations.{inputs_of, outputs_of, port_word, ports_in, signals_of}
-use Rattle.verilog_rules.specs.NameRules.{connection_checks, module_named, module_names, use_checks, used_checks}
+use Rattle.verilog_rules.specs.NameRules.{module_named, module_names, use_checks, used_checks}
 use Rattle.verilog_rules.specs.NetOf.{wire}
-use Rattle.verilog_rules.specs.Resolving.{drives_of, operand, ports_named, reads_of}
-use Rattle.verilog_rules.specs.declared.resolved.Operand.{Operand}
+use Rattle.verilog_rules.specs.Resolving.{drives_of, ports_named, reads_of}
 use Rattle.verilog_rules.specs.declared.resolved.Wire.{Wire}
 use Rattle.verilog_rules.proofs.Connected.{Connected, connected}
-use Rattle.verilog_rules.proofs.Connections.{Joined, NoInput, Ordered, driven_words, inputs_said, joined, names_of_ports, outputs_said, plain_kinds, read_words, signals_said}
+use Rattle.verilog_rules.proofs.Connections.{Joined, NoInput, Ordered, driven_words, inputs_said, joined, names_of_ports, plain_kinds, read_words, signals_said}
 use Rattle.verilog_rules.proofs.Holding.{AllTrue}
 use Rattle.verilog_rules.proofs.Operands.{said}
 use Rattle.verilog_rules.proofs.Wires.{Extends, each_at}
@@ -137,21 +135,21 @@ use_is ports outputs earl ws full u extends ordered all none = by_case (module_n
         let m_ordered : Ordered 0 (ports_in m) = each_at (λ (m : Module). Ordered 0 (ports_in m)) earl placed.0 m ordered placed.2 in
         let joins : Joined ws (ports_in m) (connections u) = joined ws u.close 0 (ports_in m) (connections u) m_ordered checks in
         let no_inputs : AllByRecursion (NoInput full) (drives_of ws (ports_in m) (connections u)) =
-            subst (λ (ps : List Port). AllByRecursion (NoInput full) (drives_of ws ps (connections u))) its_ports none in
+        subst (λ (ps : List Port). AllByRecursion (NoInput full) (drives_of ws ps (connections u))) its_ports none in
         let kinds = plain_kinds ws full u.close (ports_in m) (connections u) extends checks no_inputs in
         record {
           is = record {
             named = subst (λ (ns : List (List ℕ)). place_of ns (bytes_of u.used) ≡ Some (used_number earl (bytes_of u.used)).number) (sym (names_said earl))
-              (placed.1 ∙ ap Some (sym number));
+                (placed.1 ∙ ap Some (sym number));
             used = module_of m;
             found = got_modules earl (used_number earl (bytes_of u.used)).number ∙ ap (option_map module_of) there;
             ports = map_map_ports (connections u) ∙ joins.ports_are ∙ sym (names_of_ports (ports_in m));
             read_names = map bytes_of (read_words (ports_in m) (connections u));
             driven_names = map bytes_of (driven_words (ports_in m) (connections u));
             joined = map_map_wires (connections u) ∙ joins.wires_are
-              ∙ ap (λ (ss : List (List ℕ)). ss ++ (map bytes_of (read_words (ports_in m) (connections u)) ++ map bytes_of (driven_words (ports_in m) (connections u)))) (sym (signals_said (ports_in m)));
+                ∙ ap (λ (ss : List (List ℕ)). ss ++ (map bytes_of (read_words (ports_in m) (connections u)) ++ map bytes_of (driven_words (ports_in m) (connections u)))) (sym (signals_said (ports_in m)));
             inputs = length-map (read_words (ports_in m) (connections u)) bytes_of ∙ joins.inputs
-              ∙ sym (ap (λ (ls : List LineItem). length ls) (inputs_said (ports_in m)) ∙ length-map (inputs_of (ports_in m)) line_of);
+                ∙ sym (ap (λ (ls : List LineItem). length ls) (inputs_said (ports_in m)) ∙ length-map (inputs_of (ports_in m)) line_of);
             reads_are = subst (λ (ps : List Port). AreNamesOf (map said ws) (map bytes_of (read_words (ports_in m) (connections u))) (map wire (reads_of ws ps (connections u)))) (sym its_ports) joins.reads;
             drives_are = subst (λ (ps : List Port). AreNamesOf (map said ws) (map bytes_of (driven_words (ports_in m) (connections u))) (map wire (drives_of ws ps (connections u)))) (sym its_ports) joins.drives;
             kinds = subst (λ (ps : List Port). AllByRecursion (λ (w : WireId). IsOfKind (map said ws) w a_wire) (map wire (drives_of ws ps (connections u)))) (sym its_ports) kinds;
@@ -190,16 +188,16 @@ use_was ports outputs earl ws u number reads drives ordered is =
     let its_ports : used_ports earl u ≡ ports_in m = ap ports_named named in
     let m_ordered : Ordered 0 (ports_in m) = each_at (λ (m : Module). Ordered 0 (ports_in m)) earl number.number m ordered back.1 in
     let ports_are : map (λ (c : Connection). bytes_of c.port) (connections u) ≡ map (λ (p : Port). bytes_of (port_word p)) (ports_in m) =
-        sym (map_map_ports (connections u)) ∙ is.ports ∙ sym (ap (λ (n : ModuleItem). map port_name (all_of n.ports)) back.2) ∙ names_of_ports (ports_in m) in
+    sym (map_map_ports (connections u)) ∙ is.ports ∙ sym (ap (λ (n : ModuleItem). map port_name (all_of n.ports)) back.2) ∙ names_of_ports (ports_in m) in
     let signals_are : said_signals (all_of is.used.ports) ≡ map bytes_of (signals_of (ports_in m)) =
-        sym (ap (λ (n : ModuleItem). said_signals (all_of n.ports)) back.2) ∙ signals_said (ports_in m) in
+    sym (ap (λ (n : ModuleItem). said_signals (all_of n.ports)) back.2) ∙ signals_said (ports_in m) in
     let wires_are : map (λ (c : Connection). bytes_of c.wire) (connections u) ≡ map bytes_of (signals_of (ports_in m)) ++ (is.read_names ++ is.driven_names) =
-        sym (map_map_wires (connections u)) ∙ is.joined ∙ ap (λ (ss : List (List ℕ)). ss ++ (is.read_names ++ is.driven_names)) signals_are in
+    sym (map_map_wires (connections u)) ∙ is.joined ∙ ap (λ (ss : List (List ℕ)). ss ++ (is.read_names ++ is.driven_names)) signals_are in
     let inputs_are : length is.read_names ≡ length (inputs_of (ports_in m)) =
-        is.inputs ∙ sym (ap (λ (n : ModuleItem). length (said_inputs (all_of n.ports))) back.2) ∙ ap (λ (ls : List LineItem). length ls) (inputs_said (ports_in m))
-        ∙ length-map (inputs_of (ports_in m)) line_of in
+    is.inputs ∙ sym (ap (λ (n : ModuleItem). length (said_inputs (all_of n.ports))) back.2) ∙ ap (λ (ls : List LineItem). length ls) (inputs_said (ports_in m))
+    ∙ length-map (inputs_of (ports_in m)) line_of in
     let so : Connected ws u.close (ports_in m) (connections u) reads drives =
-        connected ws u.close 0 (ports_in m) (connections u) is.read_names is.driven_names reads drives m_ordered ports_are wires_are inputs_are is.reads_are is.drives_are is.kinds in
+    connected ws u.close 0 (ports_in m) (connections u) is.read_names is.driven_names reads drives m_ordered ports_are wires_are inputs_are is.reads_are is.drives_are is.kinds in
     let numbers : number.number ≡ (used_number earl (bytes_of u.used)).number = sym (ap (λ (o : Option ℕ). unwrap_or o 0) placed) in
     record {
       names = subst (λ (o : Option Module). AllTrue (used_checks ws u o)) (sym named) so.checks;

@@ -1,7 +1,7 @@
 -- The right sides of assignments.
-use Rattle.std.proofs.Common.{◌≡◌, ℕ, zero, suc, ◌+◌, ◌-◌, ◌<◌, ◌≤◌, ◌^◌, Bool, true, false, eqb, ltb, leb, ◌&&◌, List, [], ◌∷◌, ◌++◌, length, map, refl, sym, ap, ◌∙◌, subst, arith}
-use Rattle.std.specs.Prelude.{slice_get, slice_index}
-use Rattle.std.specs.List.{AllByRecursion, sum_by}
+use Rattle.std.proofs.Common.{◌≡◌, ℕ, ◌+◌, ◌-◌, ◌<◌, ◌≤◌, Bool, true, eqb, leb, List, [], ◌∷◌, length, map, refl, sym, ap, ◌∙◌, arith}
+use Rattle.std.specs.Prelude.{slice_index}
+use Rattle.std.specs.List.{AllByRecursion}
 use Rattle.std.proofs.lemmas.Bool.{and_from, and_parts, eq-eqb, eqb-true, le-leb, leb-true, lt-ltb, ltb-true}
 use Rattle.std.proofs.lemmas.List.Sums.{sum_by-cons}
 use Rattle.std.proofs.lemmas.Option.{get_or_from_slice_get, slice_get_within, same_Some}
@@ -15,12 +15,11 @@ use Rattle.netlist.specs.declared.net.Op1.{Op1}
 use Rattle.netlist.specs.declared.net.Op1.TheVariants.{Not, RedAnd, RedOr, RedXor}
 use Rattle.netlist.specs.declared.net.Op2.{Op2}
 use Rattle.netlist.specs.declared.net.Op2.TheVariants.{Add, Sub, Mul, And, Or, Xor, Eq, LtU, LtS, Shl, Shr, Sar}
-use Rattle.verilog_text.specs.Declared.{AreNamesOf, IsNameOf, MeansBits}
+use Rattle.verilog_text.specs.Declared.{AreNamesOf, MeansBits}
 use Rattle.verilog_text.specs.Denotes.{RightIs}
 use Rattle.verilog_text.specs.Denotes.RightIs.{is_binary, is_choice, is_constant, is_copy, is_cut, is_join, is_unary}
 use Rattle.verilog_text.specs.VForms.{IsLiteral}
 use Rattle.verilog_tree.specs.Sources.{bytes_of, joined_of, range_of, right_of}
-use Rattle.verilog_tree.specs.declared.right.Join.{Join}
 use Rattle.verilog_tree.specs.declared.right.Right.{Right}
 use Rattle.verilog_tree.specs.declared.right.Right.TheVariants as right
 use Rattle.verilog_tree.specs.declared.word.Range.{Range}
@@ -28,7 +27,7 @@ use Rattle.verilog_tree.specs.declared.word.Word.{Word}
 use Rattle.verilog_rules.specs.NameRules.{operand_check, operands_of}
 use Rattle.verilog_rules.specs.NetOf.{bits, value_cell, wire}
 use Rattle.verilog_rules.specs.Resolving.{operand, value_of}
-use Rattle.verilog_rules.specs.Texts.{is_word_of, number}
+use Rattle.verilog_rules.specs.Texts.{number}
 use Rattle.verilog_rules.specs.WidthRules.{arithmetic_checks, binary_checks, comparison_checks, cut_checks, equal_checks, unary_checks, join_checks, shift_checks, value_checks, wide, width_check}
 use Rattle.verilog_rules.specs.declared.resolved.Operand.{Operand}
 use Rattle.verilog_rules.specs.declared.resolved.Wire.{Wire}
@@ -156,9 +155,10 @@ cut_agrees ws w a range widths n fit has k all =
 compared : (ws : List Wire) (w : WireId) (sign : ℕ) (a b : Word) (widths : List ℕ) (n : ℕ) → Fit ws widths → HasWidth widths w n
     → Known ws a → Known ws b → AllTrue (comparison_checks widths n sign (operand ws a) (operand ws b))
     → AreCompared widths w (operand ws a).wire (operand ws b).wire
-compared ws w sign a b widths n fit has x y all =
-    (rw (sym (eqb-true n 1 all.0)) has,
-     (wide widths (operand ws a), has_width ws widths a fit x, is_wide ws widths b (wide widths (operand ws a)) fit y all.1.0))
+compared ws w sign a b widths n fit has x y all = (
+  rw (sym (eqb-true n 1 all.0)) has,
+  (wide widths (operand ws a), has_width ws widths a fit x, is_wide ws widths b (wide widths (operand ws a)) fit y all.1.0),
+)
 
 shifted : (ws : List Wire) (w : WireId) (a b : Word) (widths : List ℕ) (n : ℕ) → Fit ws widths → HasWidth widths w n
     → Known ws a → Known ws b → AllTrue (shift_checks widths n (operand ws a)) → AreShifted widths w (operand ws a).wire (operand ws b).wire
@@ -202,16 +202,17 @@ value_agrees earlier ws w (right.Constant literal) widths n fit has names all = 
 value_agrees earlier ws w (right.Copy a) widths n fit has names all = (n, has, is_wide ws widths a n fit (known ws a names.0) all.0)
 value_agrees earlier ws w (right.Join parts) widths n fit has names all =
     let sum : 0 + width_of_all widths (map wire (map (operand ws) (parts.first ∷ parts.others))) ≡ n =
-        join_sum widths n 0 (map (operand ws) (parts.first ∷ parts.others)) parts.close (omega arith) all in
+    join_sum widths n 0 (map (operand ws) (parts.first ∷ parts.others)) parts.close (omega arith) all in
     let total : width_of_all widths (map wire (map (operand ws) (parts.first ∷ parts.others))) ≡ n = omega arith in
     (all_wires ws widths (parts.first ∷ parts.others) fit names, rw total has)
 value_agrees earlier ws w (right.Cut a range) widths n fit has names all = cut_agrees ws w a range widths n fit has (known ws a names.0) all
 value_agrees earlier ws w (right.Unary op sign a) widths n fit has names all = unary_agrees ws w op sign a widths n fit has (known ws a names.0) all
 value_agrees earlier ws w (right.Binary op sign a b) widths n fit has names all =
     binary_agrees ws w op sign a b widths n fit has (known ws a names.0) (known ws b names.1.0) all
-value_agrees earlier ws w (right.Choice c a b) widths n fit has names all =
-    (is_wide ws widths c 1 fit (known ws c names.0) all.0,
-     (n, has, is_wide ws widths a n fit (known ws a names.1.0) all.1.0, is_wide ws widths b n fit (known ws b names.1.1.0) all.1.1.0))
+value_agrees earlier ws w (right.Choice c a b) widths n fit has names all = (
+  is_wide ws widths c 1 fit (known ws c names.0) all.0,
+  (n, has, is_wide ws widths a n fit (known ws a names.1.0) all.1.0, is_wide ws widths b n fit (known ws b names.1.1.0) all.1.1.0),
+)
 
 same_wide : (widths : List ℕ) (w : WireId) (a : Operand) (m n : ℕ) → HasWidth widths w n → HasWidth widths w m → HasWidth widths a.wire m
     → (width_check widths n a).holds ≡ true
@@ -262,10 +263,14 @@ cut_back : (widths : List ℕ) (w : WireId) (a : Operand) (range : Range) (n : �
     → FitsCell 0 widths (cell.Cut w a.wire (number range.from) (number range.to)) → AllTrue (cut_checks widths n a range)
 cut_back widths w a range n has agree =
     let wide_a : wide widths a ≡ agree.2.0 = get_or_from_slice_get widths a.wire.number agree.2.0 0 agree.2.2 in
-    let exact : n ≡ number range.from - number range.to + 1 = one_width widths w n (number range.from - number range.to + 1) has agree.1 in
-    (lt-ltb (number range.from) (wide widths a) (rw wide_a agree.2.1),
-     (and_from (leb (number range.to) (number range.from)) (eqb n (number range.from - number range.to + 1))
-       (le-leb (number range.to) (number range.from) agree.0) (eq-eqb n (number range.from - number range.to + 1) exact), tt))
+    let exact : n ≡ number range.from - number range.to + 1 = one_width widths w n (number range.from - number range.to + 1) has agree.1 in (
+      lt-ltb (number range.from) (wide widths a) (rw wide_a agree.2.1),
+      (
+        and_from (leb (number range.to) (number range.from)) (eqb n (number range.from - number range.to + 1))
+            (le-leb (number range.to) (number range.from) agree.0) (eq-eqb n (number range.from - number range.to + 1) exact),
+        tt,
+      ),
+    )
 
 -- a constant means some bits
 abbrev pub ConstantMeans : Right → Type 0
@@ -291,7 +296,7 @@ value_checked earlier ws w (right.Constant literal) widths n has means agree =
 value_checked earlier ws w (right.Copy a) widths n has means agree = (same_wide widths w (operand ws a) agree.0 n has agree.1 agree.2, tt)
 value_checked earlier ws w (right.Join parts) widths n has means agree =
     let total : n ≡ width_of_all widths (map wire (map (operand ws) (parts.first ∷ parts.others))) =
-        one_width widths w n (width_of_all widths (map wire (map (operand ws) (parts.first ∷ parts.others)))) has agree.1 in
+    one_width widths w n (width_of_all widths (map wire (map (operand ws) (parts.first ∷ parts.others)))) has agree.1 in
     sum_joins widths n 0 (map (operand ws) (parts.first ∷ parts.others)) parts.close (omega arith)
 value_checked earlier ws w (right.Cut a range) widths n has means agree = cut_back widths w (operand ws a) range n has agree
 value_checked earlier ws w (right.Unary op sign a) widths n has means agree = unary_back widths w op sign (operand ws a) n has agree

@@ -1,8 +1,7 @@
 -- Items that stand in a text that denotes a net pass their checks.
-use Rattle.std.proofs.Common.{◌≡◌, ℕ, zero, suc, ◌+◌, ◌<◌, ◌≤◌, Bool, true, false, cond, eqb, ◌&&◌, ◌||◌, List, [], ◌∷◌, ◌++◌, length, map, take, Option, Some, None, refl, sym, ap, ◌∙◌, subst, arith}
-use Rattle.std.specs.Prelude.{is_some, slice_get, slice_index, option_map, MatchOption}
+use Rattle.std.proofs.Common.{◌≡◌, ℕ, zero, suc, ◌+◌, ◌<◌, ◌≤◌, Bool, true, false, ◌&&◌, ◌||◌, List, [], ◌∷◌, ◌++◌, length, map, Option, Some, None, refl, sym, ap, ◌∙◌, subst, arith}
+use Rattle.std.specs.Prelude.{is_some, slice_get, slice_index, option_map}
 use Rattle.std.specs.List.{AllByRecursion, flat_map}
-use Rattle.std.specs.Str.{bytes_eq}
 use Rattle.std.proofs.lemmas.Bool.{eq-eqb, false≢true}
 use Rattle.std.proofs.lemmas.Option.{get_or_from_slice_get, same_Some}
 use Rattle.chw_base.specs.declared.index.DomId.{DomId}
@@ -19,13 +18,13 @@ use Rattle.netlist.specs.declared.net.Module.{Module as NetModule}
 use Rattle.netlist.specs.declared.net.RamIn.{RamIn}
 use Rattle.verilog_text.specs.Declared.{Declared, IsAsWide, IsNameOf, IsOfKind, width_of}
 use Rattle.verilog_text.specs.Declared.Kind.{a_wire}
-use Rattle.verilog_text.specs.Denotes.{IsRam, IsRegister, IsUse, ItemIs, Part, RightIs, Scene}
+use Rattle.verilog_text.specs.Denotes.{IsRam, IsRegister, IsUse, ItemIs, Part, RightIs}
 use Rattle.verilog_text.specs.Denotes.ItemIs.{assigns, declares, keeps, moves, remembers, shows, uses}
 use Rattle.verilog_text.specs.Denotes.Part.{a_cell, an_output, declaration}
 use Rattle.verilog_text.specs.Source.{Line as LineItem, Right as RightItem}
 use Rattle.verilog_text.specs.Source.Item.{assign_item}
 use Rattle.verilog_text.specs.Source.Right.{copy}
-use Rattle.verilog_tree.specs.Sources.{bytes_of, edge_of, item_of, line_of, module_of, right_of, use_of}
+use Rattle.verilog_tree.specs.Sources.{bytes_of, edge_of, item_of, line_of, right_of, use_of}
 use Rattle.verilog_tree.specs.Sources.{ram_of as said_ram}
 use Rattle.verilog_tree.specs.declared.item.Edge.{Edge}
 use Rattle.verilog_tree.specs.declared.item.Item.{Item}
@@ -37,13 +36,13 @@ use Rattle.verilog_tree.specs.declared.right.Right.{Right}
 use Rattle.verilog_tree.specs.declared.right.Right.TheVariants as right
 use Rattle.verilog_tree.specs.declared.word.Line.{Line}
 use Rattle.verilog_tree.specs.declared.word.Word.{Word}
-use Rattle.verilog_rules.specs.Declarations.{line_name, ports_in}
+use Rattle.verilog_rules.specs.Declarations.{ports_in}
 use Rattle.verilog_rules.specs.DriverRules.{drives}
-use Rattle.verilog_rules.specs.NameRules.{Place, item_checks, kind_of, may_be_driven, operand_check, operands_of}
-use Rattle.verilog_rules.specs.NetOf.{bits, cells_by, first_bits, inputs_of, net_module, value_cell, wire, words_of}
+use Rattle.verilog_rules.specs.NameRules.{item_checks, kind_of, may_be_driven}
+use Rattle.verilog_rules.specs.NetOf.{bits, first_bits, net_module, value_cell, wire}
 use Rattle.verilog_rules.specs.Resolving.{assigned, assigned_at, clocked, driver_of, drives_of, edge_driver, operand, ram_of, reads_of, value_of}
 use Rattle.verilog_rules.specs.Texts.{number, width}
-use Rattle.verilog_rules.specs.WidthRules.{count_of, driver_width_checks, joined_checks, kind_at, kind_checks, literal_of, value_checks, wide, widths_of, wire_widths}
+use Rattle.verilog_rules.specs.WidthRules.{driver_width_checks, joined_checks, kind_at, kind_checks, literal_of, wide, widths_of, wire_widths}
 use Rattle.verilog_rules.specs.declared.resolved.Driver.{Driver}
 use Rattle.verilog_rules.specs.declared.resolved.Driver.TheVariants as driver
 use Rattle.verilog_rules.specs.declared.resolved.Kind.{Kind}
@@ -54,13 +53,13 @@ use Rattle.verilog_rules.specs.declared.resolved.Wire.{Wire}
 use Rattle.verilog_rules.proofs.Connected.{may_drive}
 use Rattle.verilog_rules.proofs.Connections.{Ordered}
 use Rattle.verilog_rules.proofs.Holding.{AllTrue, both_parts}
-use Rattle.verilog_rules.proofs.Items.{line_placed, lines_said, output_names, part_of, part_of_driver, place_in, scene_in}
-use Rattle.verilog_rules.proofs.Operands.{Known, got_said, has_width, is_known, kind_said, known, named_back, said}
+use Rattle.verilog_rules.proofs.Items.{lines_said, output_names, part_of, part_of_driver, place_in, scene_in}
+use Rattle.verilog_rules.proofs.Operands.{Known, got_said, has_width, is_known, kind_said, named_back, said}
 use Rattle.verilog_rules.proofs.Rams.{RamWas, ram_checked, ram_was}
 use Rattle.verilog_rules.proofs.Registers.{RegisterWas, register_checked, register_was}
 use Rattle.verilog_rules.proofs.Used.{EarlierFit, got_net, use_checked}
 use Rattle.verilog_rules.proofs.Uses.{UseWas, connections, use_was, used_number, used_ports}
-use Rattle.verilog_rules.proofs.Values.{constant_means, right_named, value_checked, wide_holds}
+use Rattle.verilog_rules.proofs.Values.{constant_means, right_named, value_checked}
 use Rattle.verilog_rules.proofs.Wires.{Extends, HasFewPlaces, fit, plain_said, said_kind, said_wide, wide_there, widths_in}
 
 -- what is required of the cell of a part
@@ -107,7 +106,7 @@ fitted : (m : ResolvedModule) (v : Wire) (k : Kind) (x : Operand) → slice_get 
 fitted m v k x found there checks few =
     let kind_is : v.kind ≡ k = same_Some v.kind k (sym (ap (option_map (λ (w : Wire). w.kind)) found) ∙ there) in
     let wide_is : wide (wire_widths m) x ≡ width v.line.range =
-        get_or_from_slice_get (wire_widths m) x.wire.number (width v.line.range) 0 (got_width m.wires x.wire.number v found) in
+    get_or_from_slice_get (wire_widths m) x.wire.number (width v.line.range) 0 (got_width m.wires x.wire.number v found) in
     record { kinds = rw (kind_is, sym wide_is) checks; few = rw kind_is few }
   where
     got_width : (xs : List Wire) (n : ℕ) (v : Wire) → slice_get xs n ≡ Some v → slice_get (widths_in xs) n ≡ Some (width v.line.range)
@@ -127,8 +126,10 @@ driven_fit m ws (a ∷ ops) (w ∷ ids) extends are kinds =
   where
     first_wire : {x y : WireId} {xs ys : List WireId} → x ∷ xs ≡ y ∷ ys → x ≡ y
     first_wire is = cc
+
     later_wires : {x y : WireId} {xs ys : List WireId} → x ∷ xs ≡ y ∷ ys → xs ≡ ys
     later_wires is = cc
+
     plain_at : (ws full : List Wire) (x : WireId) (v : Wire) → Extends ws full → IsOfKind (map said ws) x a_wire → slice_get full x.number ≡ Some v → v.kind ≡ kind.Plain
     plain_at ws full x v extends of_kind found = at (slice_get ws x.number) refl (subst (λ (o : Option Declared). option_map (λ (d : Declared). d.kind) o ≡ Some a_wire) (got_said ws x.number) of_kind)
       where
@@ -169,13 +170,13 @@ assign_was ports earl er m ws name r w made extends none is of_kind right_is =
       names = (true_first (may_be_driven (kind_of ws (bytes_of name))) _ may.0, named_right.0);
       part_is = ap a_cell cell_is ∙ sym (ap (part_of_driver m) driver_is);
       widths = λ agrees.
-        let agree : WidthsAgree (map net_module er) (wire_widths m) (value_cell (operand ws name).wire (value_of ws r)) =
-            subst (λ (c : Cell). WidthsAgree (map net_module er) (wire_widths m) c) cell_is agrees.0 in
-        let checks : AllTrue (driver_width_checks er m d) =
-            value_checked (map net_module er) ws (operand ws name).wire r (wire_widths m) (wide (wire_widths m) (operand ws name)) has (constant_means ws w r made right_is) agree in
-        subst (λ (x : Driver). AllTrue (driver_width_checks er m x ++ [])) (sym driver_is) (both_parts (driver_width_checks er m d) [] checks tt);
+          let agree : WidthsAgree (map net_module er) (wire_widths m) (value_cell (operand ws name).wire (value_of ws r)) =
+          subst (λ (c : Cell). WidthsAgree (map net_module er) (wire_widths m) c) cell_is agrees.0 in
+          let checks : AllTrue (driver_width_checks er m d) =
+          value_checked (map net_module er) ws (operand ws name).wire r (wire_widths m) (wide (wire_widths m) (operand ws name)) has (constant_means ws w r made right_is) agree in
+          subst (λ (x : Driver). AllTrue (driver_width_checks er m x ++ [])) (sym driver_is) (both_parts (driver_width_checks er m d) [] checks tt);
       driven = λ agrees. subst (λ (x : Driver). AllByRecursion (DrivenFits m) (drives x ++ [])) (sym driver_is)
-        ((λ v found. plain_fits v (ap (λ (x : Wire). x.kind) (same_Some v k.wire (sym found ∙ extends (operand ws name).wire.number k.wire k.found)) ∙ k.of_kind ∙ plain)), tt);
+          ((λ v found. plain_fits v (ap (λ (x : Wire). x.kind) (same_Some v k.wire (sym found ∙ extends (operand ws name).wire.number k.wire k.found)) ∙ k.of_kind ∙ plain)), tt);
     }
 
 output_was : (ports : Ports) (earl : List Module) (er : List ResolvedModule) (m : ResolvedModule) (ws : List Wire) (name a : Word) (k : ℕ) (line : LineItem) (v : WireId)
@@ -190,7 +191,7 @@ output_was ports earl er m ws name a k line v extends placed got is as_wide =
     let driver_is : assigned_at (place_of (output_names m) (bytes_of name)) ws name (right.Copy a) ≡ d = ap (λ (o : Option ℕ). assigned_at o ws name (right.Copy a)) place in
     let line_is = got_line_back m.outputs k line got in
     let wide_is : width known_a.wire.line.range ≡ width_of line.range =
-        said_wide ws a known_a (width_of line.range) (subst (λ (x : WireId). IsAsWide (map said ws) x (width_of line.range)) (sym back.1) as_wide) in
+    said_wide ws a known_a (width_of line.range) (subst (λ (x : WireId). IsAsWide (map said ws) x (width_of line.range)) (sym back.1) as_wide) in
     let same : wide (wire_widths m) (operand ws a) ≡ slice_index (widths_of m.outputs) k = wide_there ws m.wires a extends known_a ∙ wide_is ∙ sym line_is in
     let checks : AllTrue (driver_width_checks er m d) = (eq-eqb (wide (wire_widths m) (operand ws a)) (slice_index (widths_of m.outputs) k) same, tt) in
     record {
@@ -213,14 +214,16 @@ edge_was ports earl er m ws edge w domain initial a extends is =
     let d : Driver = edge_driver ports ws edge in
     let first : first_bits (literal_of (kind_at m.wires (operand ws edge.register))) ≡ bits was.first = ap (λ (o : Option Kind). first_bits (literal_of o)) was.there in
     let made_is : cell.Reg w domain initial a ≡ cell.Reg (operand ws edge.register).wire (clocked ports edge.clock) (first_bits (literal_of (kind_at m.wires (operand ws edge.register)))) (operand ws edge.a).wire =
-        same_reg (sym was.register) was.domain_is (was.initial_is ∙ sym first) (sym was.taken) in
+    same_reg (sym was.register) was.domain_is (was.initial_is ∙ sym first) (sym was.taken) in
     record {
       names = was.names;
       part_is = ap a_cell made_is;
       widths = λ agrees. both_parts (driver_width_checks er m d) [] (register_checked ports ws m.wires edge w domain initial a extends was agrees.0.0 agrees.0.1).0 tt;
-      driven = λ agrees.
-        ((λ v found. fitted m v (kind.Register was.first None) (operand ws edge.register) found was.there
-           (register_checked ports ws m.wires edge w domain initial a extends was agrees.0.0 agrees.0.1).1 tt), tt);
+      driven = λ agrees. (
+        (λ v found. fitted m v (kind.Register was.first None) (operand ws edge.register) found was.there
+            (register_checked ports ws m.wires edge w domain initial a extends was agrees.0.0 agrees.0.1).1 tt),
+        tt,
+      );
     }
   where
     same_reg : {v w : WireId} {d e : DomId} {bs cs : List Bool} {a b : WireId} → v ≡ w → d ≡ e → bs ≡ cs → a ≡ b → cell.Reg v d bs a ≡ cell.Reg w e cs b
@@ -236,14 +239,17 @@ ram_item_was ports earl er m ws ram w domain words inputs extends is =
       names = was.names;
       part_is = ap a_cell (same_ram (sym was.register) was.domain_is was.words_are was.inputs_are);
       widths = λ agrees. both_parts (driver_width_checks er m d) [] (ram_checked ports ws m.wires ram w domain words inputs extends was agrees.0).0 tt;
-      driven = λ agrees.
-        ((λ v found. fitted m v (kind.Register was.literal (Some was.memory)) (operand ws ram.register) found was.there
-           (ram_checked ports ws m.wires ram w domain words inputs extends was agrees.0).1
-           (few_places (number was.memory.places.to) (length words) RAM_WORDS was.many agrees.1.1)), tt);
+      driven = λ agrees. (
+        (λ v found. fitted m v (kind.Register was.literal (Some was.memory)) (operand ws ram.register) found was.there
+            (ram_checked ports ws m.wires ram w domain words inputs extends was agrees.0).1
+            (few_places (number was.memory.places.to) (length words) RAM_WORDS was.many agrees.1.1)),
+        tt,
+      );
     }
   where
     same_ram : {v w : WireId} {d e : DomId} {bs cs : List (List Bool)} {a b : RamIn} → v ≡ w → d ≡ e → bs ≡ cs → a ≡ b → cell.Ram v d bs a ≡ cell.Ram w e cs b
     same_ram p q r s = λ i. cell.Ram (p i) (q i) (r i) (s i)
+
     few_places : (last count most : ℕ) → last + 1 ≡ count → count ≤ most → last < most
     few_places last count most is below = omega arith
 
@@ -261,15 +267,15 @@ use_item_was ports earl er m ws u number reads driven extends ordered fits is =
       names = was.names;
       part_is = ap a_cell (same_use was.number_is was.reads_are was.drives_are);
       widths = λ agrees.
-        let agree : AgreesUse (wire_widths m) (net_module so.0) reads driven = rw (got_net er number.number so.0 so.1) at agrees.0 in
-        let agree_so : AgreesUse (wire_widths m) (net_module so.0) (map wire its_reads) (map wire its_drives) =
-            subst (λ (x : List WireId). AgreesUse (wire_widths m) (net_module so.0) x (map wire its_drives)) was.reads_are
-            (subst (λ (x : List WireId). AgreesUse (wire_widths m) (net_module so.0) reads x) was.drives_are agree) in
-        let checks : AllTrue (joined_checks (wire_widths m) (Some so.0) its_reads its_drives) = use_checked was.used so.0 (wire_widths m) its_reads its_drives so.2 agree_so in
-        let there : slice_get er (used_number earl (bytes_of u.used)).number ≡ Some so.0 =
-            subst (λ (n : ModId). slice_get er n.number ≡ Some so.0) was.number_is so.1 in
-        both_parts (driver_width_checks er m d) []
-        (subst (λ (o : Option ResolvedModule). AllTrue (joined_checks (wire_widths m) o its_reads its_drives)) (sym there) checks) tt;
+          let agree : AgreesUse (wire_widths m) (net_module so.0) reads driven = rw (got_net er number.number so.0 so.1) at agrees.0 in
+          let agree_so : AgreesUse (wire_widths m) (net_module so.0) (map wire its_reads) (map wire its_drives) =
+          subst (λ (x : List WireId). AgreesUse (wire_widths m) (net_module so.0) x (map wire its_drives)) was.reads_are
+          (subst (λ (x : List WireId). AgreesUse (wire_widths m) (net_module so.0) reads x) was.drives_are agree) in
+          let checks : AllTrue (joined_checks (wire_widths m) (Some so.0) its_reads its_drives) = use_checked was.used so.0 (wire_widths m) its_reads its_drives so.2 agree_so in
+          let there : slice_get er (used_number earl (bytes_of u.used)).number ≡ Some so.0 =
+          subst (λ (n : ModId). slice_get er n.number ≡ Some so.0) was.number_is so.1 in
+          both_parts (driver_width_checks er m d) []
+          (subst (λ (o : Option ResolvedModule). AllTrue (joined_checks (wire_widths m) o its_reads its_drives)) (sym there) checks) tt;
       driven = λ agrees. all_end (DrivenFits m) its_drives (driven_fit m ws its_drives driven extends was.drives_are is.kinds);
     }
   where

@@ -1,29 +1,26 @@
 -- The wires of a module, behind which an item stands with the first of them.
-use Rattle.std.proofs.Common.{◌≡◌, ℕ, zero, suc, ◌+◌, ◌<◌, ◌≤◌, ◌^◌, Bool, true, false, List, [], ◌∷◌, ◌++◌, length, map, Option, Some, None, refl, sym, ap, ◌∙◌, subst, arith}
-use Rattle.std.specs.Prelude.{slice_get, slice_index, option_map}
+use Rattle.std.proofs.Common.{◌≡◌, ℕ, zero, suc, ◌<◌, ◌≤◌, true, List, [], ◌∷◌, map, Option, Some, None, refl, sym, ap, ◌∙◌, subst}
+use Rattle.std.specs.Prelude.{slice_get, option_map}
 use Rattle.std.specs.List.{AllByRecursion}
 use Rattle.std.proofs.lemmas.Option.{get_or_from_slice_get, same_Some}
-use Rattle.chw_base.specs.declared.index.WireId.{WireId}
 use Rattle.chw_base.specs.declared.limits.TheConstants.{RAM_WORDS, WIRE_BITS}
-use Rattle.netlist.specs.Sound.{HasWidth}
-use Rattle.verilog_text.specs.Declared.{IsAsWide, IsNameOf, IsOfKind, width_of}
+use Rattle.verilog_text.specs.Declared.{IsAsWide, IsOfKind}
 use Rattle.verilog_text.specs.Declared.{Declared, Kind as SourceKind}
-use Rattle.verilog_text.specs.Declared.Kind.{a_register, a_wire, an_input}
+use Rattle.verilog_text.specs.Declared.Kind.{a_register, a_wire}
 use Rattle.verilog_text.specs.Source.{Memory as MemoryItem}
 use Rattle.verilog_text.specs.VForms.{IsLiteral}
 use Rattle.verilog_tree.specs.Sources.{bytes_of, memory_if}
 use Rattle.verilog_tree.specs.declared.item.Memory.{Memory}
 use Rattle.verilog_tree.specs.declared.word.Word.{Word}
-use Rattle.verilog_rules.specs.NameRules.{kind_of, is_plain_register, may_be_driven, shows}
+use Rattle.verilog_rules.specs.NameRules.{is_plain_register, may_be_driven, shows}
 use Rattle.verilog_rules.specs.Resolving.{operand}
 use Rattle.verilog_rules.specs.Texts.{number, width}
 use Rattle.verilog_rules.specs.WidthRules.{kind_at, wide, wire_checks}
 use Rattle.verilog_rules.specs.declared.resolved.Kind.{Kind}
 use Rattle.verilog_rules.specs.declared.resolved.Kind.TheVariants as kind
-use Rattle.verilog_rules.specs.declared.resolved.Operand.{Operand}
 use Rattle.verilog_rules.specs.declared.resolved.Wire.{Wire}
 use Rattle.verilog_rules.proofs.Holding.{AllTrue}
-use Rattle.verilog_rules.proofs.Operands.{Fit, Known, got_said, known_as, kind_said, named_back, said}
+use Rattle.verilog_rules.proofs.Operands.{Fit, Known, got_said, kind_said, said}
 
 -- the widths of wires
 abbrev pub widths_in : List Wire → List ℕ

@@ -4,6 +4,7 @@
 #![tactic(auto)]
 
 pub mod fault;
+pub mod laws;
 pub mod resolved;
 
 pub use fault::{VCode, VFault};

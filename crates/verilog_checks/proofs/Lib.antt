@@ -1,0 +1,4 @@
+mod Digits
+mod Padding
+mod Reading
+pub mod Steps

@@ -1,0 +1,8 @@
+-- the number of the digits so far
+use Rattle.std.proofs.Common.{◌≡◌, ◌-◌, ◌^◌, take}
+use Rattle.std.specs.Prelude.{min}
+use Rattle.std.specs.Str.Parse.{digits_value}
+use Rattle.verilog_checks.proofs.literals.number.Given as goal
+
+abbrev pub invariant-loop-byte : goal.invariant-loop-byte
+invariant-loop-byte l = l.number ≡ min (digits_value 16 (take l.byte-index l.digits)) (2 ^ 64 - 1)

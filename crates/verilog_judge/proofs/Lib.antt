@@ -1,0 +1,4 @@
+mod Marking
+mod ModuleDrivers
+mod Showing
+mod Taken
