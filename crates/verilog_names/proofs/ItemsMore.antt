@@ -2,8 +2,8 @@
 use Rattle.std.proofs.Common.{◌≡◌, ℕ, ◌+◌, ◌<◌, List, ◌++◌, length, get_or, drop, Option, sym, ap, ◌∙◌, append_assoc}
 use Rattle.std.specs.List.{flat_map}
 use Rattle.std.proofs.lemmas.List.{at_drop_more}
-use Rattle.verilog_names.proofs.Steps.{least_after_both}
-use Rattle.verilog_names.specs.Least.{least_after}
+use Rattle.verilog_checks.proofs.Steps.{least_after_both}
+use Rattle.verilog_checks.specs.Least.{least_after}
 use Rattle.verilog_rules.specs.Declarations.{wires_by}
 use Rattle.verilog_rules.specs.NameRules.{Place, item_checks, items_checks}
 use Rattle.verilog_rules.specs.Resolving.{driver_of, drivers_of}

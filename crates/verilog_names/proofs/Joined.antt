@@ -3,7 +3,7 @@ use Rattle.std.proofs.Common.{◌≡◌, ℕ, ◌+◌, ◌<◌, ◌≤◌, List,
 use Rattle.std.specs.Prelude.{min}
 use Rattle.std.proofs.lemmas.List.{append-nil, at_drop_more, length-drop}
 use Rattle.verilog_names.specs.Connected.{joined_checks}
-use Rattle.verilog_names.specs.Least.{least_after}
+use Rattle.verilog_checks.specs.Least.{least_after}
 use Rattle.verilog_rules.specs.NameRules.{connection_checks}
 use Rattle.verilog_rules.specs.Resolving.{drives_of, reads_of}
 use Rattle.verilog_rules.specs.declared.resolved.Operand.{Operand}

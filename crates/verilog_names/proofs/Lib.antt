@@ -1,14 +1,11 @@
-mod Digits
 mod Domains
 mod Ends
 mod Firsts
 mod Grown
 mod ItemsMore
 mod Joined
-mod LimitsOn
 mod ModuleRules
 mod OnceNames
 mod Sorted
-mod Steps
 mod Used
 mod WiresFound

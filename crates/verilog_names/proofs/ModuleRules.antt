@@ -7,8 +7,8 @@ use Rattle.chw_clock.specs.declared.event.Ports.{Ports}
 use Rattle.name_tables.specs.Names.{is_among}
 use Rattle.verilog_tree.specs.Sources.{bytes_of}
 use Rattle.verilog_text.specs.Names.{top_name}
-use Rattle.verilog_names.proofs.Steps.{least_after_both, least_after_is}
-use Rattle.verilog_names.specs.Least.{least_after}
+use Rattle.verilog_checks.proofs.Steps.{least_after_both, least_after_is}
+use Rattle.verilog_checks.specs.Least.{least_after}
 use Rattle.verilog_names.specs.Resolves.{module_items, port_rules}
 use Rattle.verilog_rules.specs.Checks.{Check, broken_at, check, least_broken, lesser}
 use Rattle.verilog_rules.specs.Declarations.{declared_words, ports_in, signals_of}

@@ -4,9 +4,9 @@ use Rattle.std.specs.List.{flat_map}
 use Rattle.std.proofs.lemmas.Grind.{flat_map-append}
 use Rattle.std.proofs.lemmas.List.{append-nil, map-append, take_all, take_more}
 use Rattle.name_tables.specs.Names.{is_among}
-use Rattle.verilog_names.proofs.Steps.{least_after_both}
+use Rattle.verilog_checks.proofs.Steps.{least_after_both}
 use Rattle.verilog_names.specs.Declares.{Declares}
-use Rattle.verilog_names.specs.Least.{least_after}
+use Rattle.verilog_checks.specs.Least.{least_after}
 use Rattle.verilog_rules.specs.Checks.{check}
 use Rattle.verilog_rules.specs.Declarations.{port_word}
 use Rattle.verilog_rules.specs.NameRules.{once_checks, texts}

@@ -1,6 +1,6 @@
 -- Names declared one after the other.
 use Rattle.std.specs.Prelude.{◌≡◌, ℕ, List, [], ◌∷◌, ◌++◌, Option, Some, None}
-use Rattle.verilog_names.specs.Least.{least_after}
+use Rattle.verilog_checks.specs.Least.{least_after}
 use Rattle.verilog_rules.specs.NameRules.{once_checks, texts}
 use Rattle.verilog_tree.specs.declared.item.Memory.{Memory}
 use Rattle.verilog_tree.specs.declared.word.Word.{Word}

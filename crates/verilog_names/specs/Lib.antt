@@ -3,5 +3,4 @@ pub mod Connected
 pub mod Declares
 pub mod Firsts
 pub mod Found
-pub mod Least
 pub mod Resolves

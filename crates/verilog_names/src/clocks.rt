@@ -8,12 +8,12 @@ ghost use Rattle.verilog_rules.specs.Texts.{width};
 ghost use Rattle.verilog_text.specs.Names.{domain_name};
 
 use crate::forms::{domain_part, is_clock, name_part, without};
-use crate::numbers::width_of;
 use crate::places::Places;
 use chw_base::{DomId, Name, NoMemory, Seq};
 use chw_clock::{Port, Ports};
 use std::alloc::Global;
 use std::marker::Model;
+use verilog_checks::numbers::bits_of;
 use verilog_tree::{Line, Word};
 
 /// The ports of a text, which contracts see, with its clocks and resets in tables.
@@ -131,7 +131,7 @@ fn ports_of(alloc: Global, domains: &Places<'_>, lines: &[Line<'_>]) -> Result<V
 fn port(alloc: Global, domains: &Places<'_>, line: &Line<'_>) -> Result<Port, NoMemory>
     ensures { IfOk result (λ p. p ≡ port_of domains.now line.now) }
 {
-    let width = width_of(&line.range)?;
+    let width = bits_of(&line.range)?;
     let number = domains.find(domain_part(line.name.bytes)).unwrap_or(0);
     let name = Name::copy_of(alloc, name_part(line.name.bytes))?;
     Ok(Port {

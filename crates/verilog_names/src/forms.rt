@@ -7,7 +7,7 @@ ghost use Rattle.verilog_rules.specs.Declarations.{domain_part, is_clock, name_p
 ghost use Rattle.verilog_rules.specs.Texts.{is_lower_word, is_upper};
 ghost use Rattle.verilog_text.specs.Names.{reset_name};
 
-use crate::cut::{before, behind};
+use verilog_checks::cut::{before, behind};
 
 fn is_capital(b: u8) -> bool
     ensures { result ≡ is_capital b }

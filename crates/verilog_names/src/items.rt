@@ -2,7 +2,7 @@
 ghost use Rattle.std.specs.Prelude.{◌≡◌, ◌∷◌, ◌++◌, [], IfOk, OnOk, Some, map, ◌<◌, length};
 ghost use Rattle.std.specs.List.{flat_map};
 ghost use Rattle.name_tables.specs.Names.{place_of};
-ghost use Rattle.verilog_names.specs.Least.{least_after};
+ghost use Rattle.verilog_checks.specs.Least.{least_after};
 ghost use Rattle.verilog_rules.specs.Declarations.{wires_by};
 ghost use Rattle.verilog_rules.specs.NameRules.{access_checks, assign_checks, clock_check, domain_of, edge_checks, is_plain_register, item_checks, items_checks, memory_checks, ram_checks, reset_checks, same_check, shows};
 ghost use Rattle.verilog_rules.specs.Resolving.{address_of, assigned_at, driver_of, drivers_of, edge_driver, ram_of};
@@ -14,13 +14,13 @@ ghost use Rattle.verilog_rules.specs.declared.resolved.Kind.TheVariants as kind;
 use crate::clocks::Clocks;
 use crate::forms::{are_same, is_reset_of};
 use crate::known::Known;
-use crate::least::Least;
 use crate::places::Places;
 use crate::uses::use_driver;
 use crate::values::{is_copy, value};
 use crate::wires::{Wires, may_be_driven};
 use chw_base::{DomId, NoMemory, Seq};
 use std::alloc::Global;
+use verilog_checks::Least;
 use verilog_rules::{Address, Driver, Kind, RamOf, Wire};
 use verilog_tree::{Access, Edge, FirstWord, Item, Line, Memory, Ram, Reset, Right, Word};
 
@@ -108,7 +108,7 @@ fn literal_of<'t>(reset: &Option<Reset<'t>>) -> Option<Word<'t>>
 }
 
 // What a register takes at an edge.
-#[tactic(auto, using(crate::proofs::Steps::least_after_both))]
+#[tactic(auto, using(verilog_checks::proofs::Steps::least_after_both))]
 fn edge_driver<'t>(
     clocks: &Clocks<'t>,
     wires: &Wires<'t>,
@@ -178,7 +178,7 @@ fn words_of<'t>(alloc: Global, ram: &Ram<'t>) -> Result<Vec<FirstWord<'t>>, NoMe
 }
 
 // A RAM.
-#[tactic(auto, using(crate::proofs::Steps::least_after_both))]
+#[tactic(auto, using(verilog_checks::proofs::Steps::least_after_both))]
 fn ram_driver<'t>(
     alloc: Global,
     clocks: &Clocks<'t>,
@@ -309,7 +309,7 @@ fn add_item<'t>(
 }
 
 /// Adds what items drive something by, each behind the wires that are declared before it.
-#[tactic(auto, using(crate::proofs::Steps::least_after_both))]
+#[tactic(auto, using(verilog_checks::proofs::Steps::least_after_both))]
 pub(crate) fn add_items<'t>(
     alloc: Global,
     place: &Known<'_, 't>,

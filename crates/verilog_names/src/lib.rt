@@ -1,15 +1,11 @@
-//! The limits on a Verilog text, and its names, each of which is resolved to a wire, a clock or a module.
+//! The names of a Verilog text, each of which is resolved to a wire, a clock or a module.
 #![tactic(auto)]
 
 mod clocks;
-mod cut;
 mod forms;
 mod items;
 mod known;
-mod least;
-mod limiting;
 mod modules;
-mod numbers;
 mod once;
 mod places;
 mod ports;
@@ -18,5 +14,4 @@ mod uses;
 mod values;
 mod wires;
 
-pub use limiting::limits;
 pub use resolving::{NameFault, resolve};

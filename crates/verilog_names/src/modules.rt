@@ -1,6 +1,6 @@
 //! The modules of a text, resolved one after the other.
 ghost use Rattle.std.specs.Prelude.{◌≡◌, ◌∷◌, ◌++◌, [], IfOk, OnOk, map, None};
-ghost use Rattle.verilog_names.specs.Least.{least_after};
+ghost use Rattle.verilog_checks.specs.Least.{least_after};
 ghost use Rattle.verilog_names.specs.Resolves.{module_items, port_rules};
 ghost use Rattle.verilog_rules.specs.Checks.{broken_at, lesser};
 ghost use Rattle.verilog_rules.specs.Declarations.{input_wire, line_name, modules_of, ports_by, ports_in, signals_of};
@@ -12,7 +12,6 @@ use crate::clocks::Clocks;
 use crate::forms::are_same;
 use crate::items::add_items;
 use crate::known::Known;
-use crate::least::Least;
 use crate::once::check_once;
 use crate::places::Places;
 use crate::ports::{
@@ -21,6 +20,7 @@ use crate::ports::{
 use crate::wires::Wires;
 use chw_base::{NoMemory, Seq};
 use std::alloc::Global;
+use verilog_checks::Least;
 use verilog_rules::{Kind, Resolved, ResolvedModule, Wire};
 use verilog_tree::{Line, Module, Tree, Word};
 
@@ -56,7 +56,7 @@ fn output_names<'t>(alloc: Global, outputs: &[Line<'t>]) -> Result<Places<'t>, N
 }
 
 // Whether the ports of a module are in order, and its names declared once.
-#[tactic(auto, using(crate::proofs::Steps::least_after_both))]
+#[tactic(auto, using(verilog_checks::proofs::Steps::least_after_both))]
 fn check_names(
     alloc: Global,
     place: &Known<'_, '_>,
@@ -100,7 +100,7 @@ fn resolve_items<'t>(
 }
 
 // A module: its rules, and what it is resolved to.
-#[tactic(auto, using(crate::proofs::ModuleRules::module_parts, crate::proofs::Steps::least_after_both))]
+#[tactic(auto, using(crate::proofs::ModuleRules::module_parts, verilog_checks::proofs::Steps::least_after_both))]
 fn resolve_module<'t>(
     alloc: Global,
     place: &Known<'_, 't>,
@@ -170,7 +170,7 @@ fn resolve_earlier<'t>(
 }
 
 // The last module, behind all others.
-#[tactic(auto, using(crate::proofs::Steps::least_after_both))]
+#[tactic(auto, using(verilog_checks::proofs::Steps::least_after_both))]
 fn resolve_last<'t>(
     alloc: Global,
     clocks: &Clocks<'t>,
@@ -189,7 +189,7 @@ fn resolve_last<'t>(
 }
 
 // All modules.
-#[tactic(auto, using(crate::proofs::Steps::least_after_both))]
+#[tactic(auto, using(verilog_checks::proofs::Steps::least_after_both))]
 fn resolve_modules<'t>(
     alloc: Global,
     clocks: &Clocks<'t>,

@@ -1,17 +1,17 @@
 //! Whether each name is declared once in a module.
 ghost use Rattle.std.specs.Prelude.{◌≡◌, ◌∷◌, [], OnOk};
 ghost use Rattle.verilog_names.specs.Declares.{Declares, memory_words};
-ghost use Rattle.verilog_names.specs.Least.{least_after};
+ghost use Rattle.verilog_checks.specs.Least.{least_after};
 ghost use Rattle.verilog_rules.specs.Declarations.{declared_words, port_word, words_by};
 ghost use Rattle.verilog_rules.specs.NameRules.{once_checks};
 ghost use Rattle.std.specs.Prelude.{map};
 ghost use Rattle.std.specs.List.{flat_map};
 
-use crate::least::Least;
 use crate::places::Places;
 use crate::ports::port_word;
 use chw_base::NoMemory;
 use std::alloc::Global;
+use verilog_checks::Least;
 use verilog_tree::{Item, Memory, Module, Port, Word};
 
 // Declares a name, which is none of those before it.

@@ -3,7 +3,7 @@ ghost use Rattle.std.specs.Prelude.{◌≡◌, ◌∷◌, ◌++◌, [], IfOk, On
 ghost use Rattle.std.specs.Cmp.Lexicographic.{pointwise};
 ghost use Rattle.std.specs.List.{flat_map};
 ghost use Rattle.std.specs.Str.{bytes_eq};
-ghost use Rattle.verilog_names.specs.Least.{least_after};
+ghost use Rattle.verilog_checks.specs.Least.{least_after};
 ghost use Rattle.verilog_rules.specs.Declarations.{inputs_of, outputs_of, port_word, ports_in, signals_of};
 ghost use Rattle.verilog_rules.specs.NameRules.{is_port_name, is_signal_behind, order_checks, port_form, rank, signal_checks, texts};
 ghost use Rattle.verilog_tree.specs.Sources.{bytes_of};
@@ -11,10 +11,10 @@ ghost use Rattle.verilog_tree.specs.Sources.{bytes_of};
 use crate::forms::{
     are_same, domain_part, is_clock, is_lower_word, is_reset_of, is_upper, name_part, without,
 };
-use crate::least::Least;
 use crate::places::Places;
 use chw_base::NoMemory;
 use std::alloc::Global;
+use verilog_checks::Least;
 use verilog_tree::{Line, Module, Port, Word};
 
 /// The name of a port.

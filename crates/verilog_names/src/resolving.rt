@@ -5,10 +5,10 @@ ghost use Rattle.verilog_rules.specs.Checks.{Hold, least_broken};
 ghost use Rattle.verilog_rules.specs.NameRules.{name_checks};
 ghost use Rattle.verilog_rules.specs.Resolving.{resolved};
 
-use crate::least::Least;
 use crate::modules::resolve_tree;
 use chw_base::Or;
 use std::alloc::Global;
+use verilog_checks::Least;
 use verilog_rules::Resolved;
 use verilog_tree::Tree;
 

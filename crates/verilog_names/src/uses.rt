@@ -1,18 +1,18 @@
 //! The uses of modules.
 ghost use Rattle.std.specs.Prelude.{◌≡◌, ◌∷◌, ◌++◌, [], IfOk, OnOk, drop, length, min};
 ghost use Rattle.verilog_names.specs.Connected.{joined_checks};
-ghost use Rattle.verilog_names.specs.Least.{least_after};
+ghost use Rattle.verilog_checks.specs.Least.{least_after};
 ghost use Rattle.verilog_rules.specs.Declarations.{ports_in};
 ghost use Rattle.verilog_rules.specs.NameRules.{connection_checks, use_checks};
 ghost use Rattle.verilog_rules.specs.Resolving.{drives_of, reads_of, use_driver};
 
 use crate::forms::are_same;
 use crate::known::Known;
-use crate::least::Least;
 use crate::ports::port_word;
 use crate::wires::{Wires, may_be_driven};
 use chw_base::{ModId, NoMemory, Seq};
 use std::alloc::Global;
+use verilog_checks::Least;
 use verilog_rules::{Driver, Operand};
 use verilog_tree::{Connection, Module, Port, Use};
 

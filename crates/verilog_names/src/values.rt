@@ -1,13 +1,13 @@
 //! The right sides of assignments.
 ghost use Rattle.std.specs.Prelude.{◌≡◌, ◌∷◌, ◌++◌, IfOk, OnOk, map};
-ghost use Rattle.verilog_names.specs.Least.{least_after};
+ghost use Rattle.verilog_checks.specs.Least.{least_after};
 ghost use Rattle.verilog_rules.specs.NameRules.{is_copy, operand_check, operands_of};
 ghost use Rattle.verilog_rules.specs.Resolving.{operand, value_of};
 
-use crate::least::Least;
 use crate::wires::Wires;
 use chw_base::{NoMemory, Seq};
 use std::alloc::Global;
+use verilog_checks::Least;
 use verilog_rules::{Operand, Value};
 use verilog_tree::{Join, Right, Word};
 

@@ -7,11 +7,11 @@ ghost use Rattle.verilog_rules.specs.Declarations.{wire_name};
 ghost use Rattle.verilog_rules.specs.NameRules.{is_memory, kind_of, may_be_driven, operand_check};
 ghost use Rattle.verilog_rules.specs.Resolving.{operand};
 
-use crate::least::Least;
 use crate::places::Places;
 use chw_base::{NoMemory, Seq, WireId};
 use std::alloc::Global;
 use std::marker::Model;
+use verilog_checks::Least;
 use verilog_rules::{Kind, Operand, Wire};
 use verilog_tree::Word;
 

@@ -1,7 +1,7 @@
 -- the items that are left are still to be added, behind the wires so far
 use Rattle.std.proofs.Common.{◌≡◌, ◌++◌, drop}
 use Rattle.std.specs.List.{flat_map}
-use Rattle.verilog_names.specs.Least.{least_after}
+use Rattle.verilog_checks.specs.Least.{least_after}
 use Rattle.verilog_rules.specs.Declarations.{wires_by}
 use Rattle.verilog_rules.specs.NameRules.{items_checks}
 use Rattle.verilog_rules.specs.Resolving.{drivers_of}

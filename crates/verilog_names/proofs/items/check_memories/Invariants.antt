@@ -1,6 +1,6 @@
 -- the words that are left are still to be looked at
 use Rattle.std.proofs.Common.{◌≡◌, drop}
-use Rattle.verilog_names.specs.Least.{least_after}
+use Rattle.verilog_checks.specs.Least.{least_after}
 use Rattle.verilog_rules.specs.NameRules.{memory_checks}
 use Rattle.verilog_names.proofs.items.check_memories.Given as goal
 

@@ -1,6 +1,6 @@
 -- the modules that are left are still to be resolved, behind those so far
 use Rattle.std.proofs.Common.{◌≡◌, ◌++◌, [], drop, take}
-use Rattle.verilog_names.specs.Least.{least_after}
+use Rattle.verilog_checks.specs.Least.{least_after}
 use Rattle.verilog_rules.specs.Declarations.{ports_in, signals_of}
 use Rattle.verilog_rules.specs.NameRules.{earlier_checks, module_names}
 use Rattle.verilog_rules.specs.Resolving.{resolved_modules}

@@ -2,7 +2,7 @@ use Rattle.std.proofs.Common.{ap, ◌∙◌}
 use Rattle.std.specs.List.{flat_map}
 use Rattle.std.proofs.lemmas.Result.{on_ok_weaker}
 use Rattle.verilog_names.proofs.ModuleRules.{last_taken, placed}
-use Rattle.verilog_names.specs.Least.{least_after}
+use Rattle.verilog_checks.specs.Least.{least_after}
 use Rattle.verilog_rules.specs.Checks.{broken_at, check, lesser}
 use Rattle.verilog_rules.specs.Declarations.{ports_in}
 use Rattle.verilog_rules.specs.NameRules.{module_checks, port_form}

@@ -1,6 +1,6 @@
 use Rattle.std.proofs.Common.{[], ◌++◌, ap, ◌∙◌}
 use Rattle.verilog_names.proofs.ModuleRules.{resolved_whole, rules_whole}
-use Rattle.verilog_names.specs.Least.{least_after}
+use Rattle.verilog_checks.specs.Least.{least_after}
 use Rattle.verilog_rules.specs.NameRules.{earlier_checks, last_checks}
 use Rattle.verilog_names.proofs.modules.resolve_modules.Goals as goal
 

@@ -1,6 +1,6 @@
 -- the ports that are left are still to be looked at
 use Rattle.std.proofs.Common.{◌≡◌, drop}
-use Rattle.verilog_names.specs.Least.{least_after}
+use Rattle.verilog_checks.specs.Least.{least_after}
 use Rattle.verilog_rules.specs.Declarations.{ports_in}
 use Rattle.verilog_rules.specs.NameRules.{order_checks}
 use Rattle.verilog_names.proofs.ports.check_order.Given as goal

@@ -1,7 +1,7 @@
 -- the signals that are left are still to be looked at
 use Rattle.std.proofs.Common.{◌≡◌, drop, None}
 use Rattle.std.specs.Option.{option_map}
-use Rattle.verilog_names.specs.Least.{least_after}
+use Rattle.verilog_checks.specs.Least.{least_after}
 use Rattle.verilog_rules.specs.NameRules.{signal_checks}
 use Rattle.verilog_tree.specs.Sources.{bytes_of}
 use Rattle.verilog_names.proofs.ports.check_signals.Given as goal

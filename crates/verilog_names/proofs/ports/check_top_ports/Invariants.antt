@@ -1,7 +1,7 @@
 -- the ports that are left are still to be looked at
 use Rattle.std.proofs.Common.{◌≡◌, drop}
 use Rattle.std.specs.List.{flat_map}
-use Rattle.verilog_names.specs.Least.{least_after}
+use Rattle.verilog_checks.specs.Least.{least_after}
 use Rattle.verilog_rules.specs.Declarations.{ports_in}
 use Rattle.verilog_rules.specs.NameRules.{port_form}
 use Rattle.verilog_names.proofs.ports.check_top_ports.Given as goal

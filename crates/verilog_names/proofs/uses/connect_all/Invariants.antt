@@ -1,6 +1,6 @@
 -- the ports and names that are left are still to be joined
 use Rattle.std.proofs.Common.{◌≡◌, ◌++◌, drop}
-use Rattle.verilog_names.specs.Least.{least_after}
+use Rattle.verilog_checks.specs.Least.{least_after}
 use Rattle.verilog_rules.specs.NameRules.{connection_checks}
 use Rattle.verilog_rules.specs.Resolving.{drives_of, reads_of}
 use Rattle.verilog_names.proofs.uses.connect_all.Given as goal

@@ -1,6 +1,6 @@
 use Rattle.std.proofs.Common.{[], ◌∷◌, ◌++◌, map, refl, ap, ◌∙◌, arith}
 use Rattle.verilog_names.proofs.Grown.{grown_all, grown_more}
-use Rattle.verilog_names.proofs.Steps.{check_taken, checks_taken}
+use Rattle.verilog_checks.proofs.Steps.{check_taken, checks_taken}
 use Rattle.verilog_rules.specs.NameRules.{operand_check}
 use Rattle.verilog_rules.specs.Resolving.{operand}
 use Rattle.verilog_names.proofs.values.read_all.Goals as goal

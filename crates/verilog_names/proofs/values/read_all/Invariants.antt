@@ -1,6 +1,6 @@
 -- what is left is still to be added, and to be checked
 use Rattle.std.proofs.Common.{◌≡◌, ◌++◌, drop, map}
-use Rattle.verilog_names.specs.Least.{least_after}
+use Rattle.verilog_checks.specs.Least.{least_after}
 use Rattle.verilog_rules.specs.NameRules.{operand_check}
 use Rattle.verilog_rules.specs.Resolving.{operand}
 use Rattle.verilog_names.proofs.values.read_all.Given as goal

@@ -1,8 +1,8 @@
 -- The limits on modules, one by one.
 use Rattle.std.proofs.Common.{◌≡◌, ℕ, ◌+◌, ◌<◌, ◌≤◌, List, [], ◌∷◌, ◌++◌, length, get_or, drop, Option, None, sym, ap, ◌∙◌, arith, append_assoc}
 use Rattle.std.proofs.lemmas.List.{append-nil, at_drop_all, at_drop_more}
-use Rattle.verilog_names.proofs.Steps.{least_after_both, least_after_is}
-use Rattle.verilog_names.specs.Least.{least_after}
+use Rattle.verilog_checks.proofs.Steps.{least_after_both, least_after_is}
+use Rattle.verilog_checks.specs.Least.{least_after}
 use Rattle.verilog_rules.specs.Checks.{least_broken}
 use Rattle.verilog_rules.specs.Limits.{limits_from, module_limits}
 use Rattle.verilog_tree.specs.declared.module.Module.{Module}

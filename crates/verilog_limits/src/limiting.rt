@@ -1,14 +1,14 @@
 //! Whether the numbers of a text are within their limits.
 ghost use Rattle.std.specs.Prelude.{◌≡◌, map};
 ghost use Rattle.std.specs.List.{flat_map};
-ghost use Rattle.verilog_names.specs.Least.{least_after};
+ghost use Rattle.verilog_checks.specs.Least.{least_after};
 ghost use Rattle.verilog_rules.specs.Checks.{least_broken};
 ghost use Rattle.verilog_rules.specs.Limits.{item_limits, limit_checks, limits_from, literal_limit, memory_limits, module_limits, port_limits, ram_limits, range_limit, reset_limits, right_limits, word_limit};
 ghost use Rattle.std.specs.Prelude.{[], ◌∷◌};
 
-use crate::least::Least;
-use crate::numbers::{has_size_below, is_below};
 use chw_base::limits::{MODULES, RAM_WORDS, WIRE_BITS};
+use verilog_checks::Least;
+use verilog_checks::numbers::{has_size_below, is_below};
 use verilog_tree::{FirstWord, Item, Memory, Module, Port, Ram, Range, Reset, Right, Tree, Word};
 
 fn limit_range(least: &mut Least, range: &Range<'_>)
@@ -33,7 +33,7 @@ fn limit_port(least: &mut Least, port: &Port<'_>)
     }
 }
 
-#[tactic(auto, using(crate::proofs::Steps::least_after_both))]
+#[tactic(auto, using(verilog_checks::proofs::Steps::least_after_both))]
 fn limit_memory(least: &mut Least, memory: &Option<Memory<'_>>)
     ensures { least.new ≡ least_after least.old (memory_limits memory.now) }
 {
@@ -68,7 +68,7 @@ fn limit_words(least: &mut Least, words: &[FirstWord<'_>])
     }
 }
 
-#[tactic(auto, using(crate::proofs::Steps::least_after_both))]
+#[tactic(auto, using(verilog_checks::proofs::Steps::least_after_both))]
 fn limit_ram(least: &mut Least, ram: &Ram<'_>)
     ensures { least.new ≡ least_after least.old (ram_limits ram.now) }
 {
@@ -79,7 +79,7 @@ fn limit_ram(least: &mut Least, ram: &Ram<'_>)
     limit_literal(least, &ram.zeros);
 }
 
-#[tactic(auto, using(crate::proofs::Steps::least_after_both))]
+#[tactic(auto, using(verilog_checks::proofs::Steps::least_after_both))]
 fn limit_register(
     least: &mut Least,
     range: &Range<'_>,
@@ -128,7 +128,7 @@ fn limit_items(least: &mut Least, items: &[Item<'_>])
 }
 
 // The limits on the module of this number.
-#[tactic(auto, using(crate::proofs::Steps::least_after_both))]
+#[tactic(auto, using(verilog_checks::proofs::Steps::least_after_both))]
 fn limit_module(least: &mut Least, k: usize, m: &Module<'_>)
     ensures { least.new ≡ least_after least.old (module_limits k m.now) }
 {
@@ -148,7 +148,7 @@ fn limit_modules(least: &mut Least, modules: &[Module<'_>])
 }
 
 /// The least place at which a text passes a limit.
-#[tactic(auto, using(crate::proofs::Steps::least_after_both))]
+#[tactic(auto, using(verilog_checks::proofs::Steps::least_after_both))]
 pub fn limits(tree: &Tree<'_>) -> Option<usize>
     ensures { result ≡ least_broken (limit_checks tree.now) }
 {

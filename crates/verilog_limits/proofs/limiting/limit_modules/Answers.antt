@@ -1,6 +1,6 @@
 use Rattle.std.proofs.Common.{arith}
-use Rattle.verilog_names.proofs.LimitsOn.{all_limits, module_more}
-use Rattle.verilog_names.proofs.limiting.limit_modules.Goals as goal
+use Rattle.verilog_limits.proofs.LimitsOn.{all_limits, module_more}
+use Rattle.verilog_limits.proofs.limiting.limit_modules.Goals as goal
 
 pub loop-k-preserved : goal.loop-k-preserved
 loop-k-preserved c =

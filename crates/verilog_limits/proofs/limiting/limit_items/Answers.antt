@@ -1,7 +1,7 @@
 use Rattle.std.proofs.Common.{arith}
 use Rattle.verilog_rules.specs.Limits.{item_limits}
-use Rattle.verilog_names.proofs.Steps.{all_taken, one_taken}
-use Rattle.verilog_names.proofs.limiting.limit_items.Goals as goal
+use Rattle.verilog_checks.proofs.Steps.{all_taken, one_taken}
+use Rattle.verilog_limits.proofs.limiting.limit_items.Goals as goal
 
 pub loop-item-preserved : goal.loop-item-preserved
 loop-item-preserved c = one_taken item_limits c.args.items.now c.loop-item.item-index c.item-item.result _ _ _ _ c.loop-item-test.true c.item-item.is c.limit_item.ensures c.loop-item.invariant

@@ -1,6 +1,6 @@
 use Rattle.std.proofs.Common.{refl}
-use Rattle.verilog_names.proofs.LimitsOn.{least_of_all}
-use Rattle.verilog_names.proofs.limiting.limits.Goals as goal
+use Rattle.verilog_limits.proofs.LimitsOn.{least_of_all}
+use Rattle.verilog_limits.proofs.limiting.limits.Goals as goal
 
 pub returns : goal.returns
 returns c =

@@ -1,0 +1,6 @@
+//! The limits on a Verilog text.
+#![tactic(auto)]
+
+mod limiting;
+
+pub use limiting::limits;
