@@ -1,0 +1,48 @@
+//! Reading the printed text of a net.
+ghost use Rattle.std.specs.Prelude.{◌≡◌, IfOk};
+ghost use Rattle.std.specs.Bool.{Decides};
+ghost use Rattle.net_rules.specs.WellFormed.{WellFormed};
+ghost use Rattle.verilog_text.specs.VText.{AreCounted, IsCounted};
+
+use crate::laws::printed_text_is_read_back;
+use crate::reading::read;
+use chw_base::{NoMemory, Or};
+use netlist::{Module, Net};
+use std::alloc::Global;
+use verilog_print::print;
+
+// Whether a machine counts the wires, cells and outputs of a module, as it does of each module in memory.
+fn is_counted(module: &Module) -> bool
+    ensures { Decides result (IsCounted module.now) }
+{
+    module.widths.len() <= usize::MAX
+        && module.cells.len() <= usize::MAX
+        && module.outputs.len() <= usize::MAX
+}
+
+// Whether it does of each module of a net.
+fn are_counted(net: &Net) -> bool
+    ensures { Decides result (AreCounted net.now) }
+{
+    net.modules
+        .as_slice()
+        .iter()
+        .all(|module| is_counted(module))
+}
+
+/// The net that is read from the printed text of a well formed net, which is this net. Only memory may be wanting.
+pub fn printed_and_read(alloc: Global, net: &Net) -> Result<Net, NoMemory>
+    requires { WellFormed net.now }
+    ensures { IfOk result (λ again. again ≡ net.now) }
+{
+    printed_text_is_read_back();
+    if !are_counted(net) {
+        return Err(NoMemory);
+    }
+    let text = print(alloc, net)?;
+    match read(alloc, &text) {
+        Ok(again) => Ok(again),
+        Err(Or::Fault(_)) => unreachable!(),
+        Err(Or::Memory) => Err(NoMemory),
+    }
+}
