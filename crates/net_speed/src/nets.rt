@@ -4,9 +4,9 @@ ghost use Rattle.std.specs.Prelude.{◌<◌};
 
 use chw_base::{DomId, ModId, Name, NoMemory, Seq, WireId};
 use chw_clock::Port;
+use itoa::Buffer;
 use netlist::samples::one_input;
 use netlist::{Cell, Module, Net};
-use itoa::Buffer;
 use std::alloc::Global;
 
 // The cell of a chain that drives this wire: it copies the next one, and the last copies the input.

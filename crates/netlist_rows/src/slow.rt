@@ -6,7 +6,9 @@ use std::alloc::{AllocError, Global};
 
 // The place of the cell that drives a wire, if one does.
 fn driver(cells: &[Cell], wire: WireId) -> Option<usize> {
-    cells.iter().position(|cell| cell.driven().first().copied() == Some(wire))
+    cells
+        .iter()
+        .position(|cell| cell.driven().first().copied() == Some(wire))
 }
 
 // Whether a wire needs no cell but these.

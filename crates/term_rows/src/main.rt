@@ -5,7 +5,8 @@ mod spine;
 
 use chw_base::Or;
 use chw_terms::{
-    depth, evaluate, exchange, lower, numeral, occurs, put, put_here, put_type_in, shift, shift_types,
+    depth, evaluate, exchange, lower, numeral, occurs, put, put_here, put_type_in, shift,
+    shift_types,
 };
 use free_variables::free_in;
 use row_notation::{Parts, put_number, put_term, put_type, read};
