@@ -39,7 +39,7 @@ enum Stage {
 }
 
 /// What is written: how many items were made last, or a text.
-enum Made {
+enum Written {
     Count(usize),
     Text(Vec<u8>),
 }
@@ -61,11 +61,11 @@ impl From<NoMemory> for Trouble {
 
 fn main(rt: HostRuntime) -> ExitCode {
     let status = match made(&rt) {
-        Ok(Made::Count(count)) => match println!(rt; "{count}") {
+        Ok(Written::Count(count)) => match println!(rt; "{count}") {
             Ok(()) => return ExitCode::SUCCESS,
             Err(_) => 4,
         },
-        Ok(Made::Text(text)) => match rt.write_all(text.as_slice()) {
+        Ok(Written::Text(text)) => match rt.write_all(text.as_slice()) {
             Ok(()) => return ExitCode::SUCCESS,
             Err(_) => 4,
         },
@@ -77,7 +77,7 @@ fn main(rt: HostRuntime) -> ExitCode {
 }
 
 // Reads the words and goes as far as they say.
-fn made<R: Env + AllocGlobal>(rt: &R) -> Result<Made, Trouble> {
+fn made<R: Env + AllocGlobal>(rt: &R) -> Result<Written, Trouble> {
     let Ok(words) = env::args(rt) else {
         return Err(Trouble::Memory);
     };
@@ -98,9 +98,9 @@ fn made<R: Env + AllocGlobal>(rt: &R) -> Result<Made, Trouble> {
         _ => return Err(Trouble::Words),
     };
     if let Stage::Text = stage {
-        return Ok(Made::Text(print(rt.alloc(), &net)?));
+        return Ok(Written::Text(print(rt.alloc(), &net)?));
     }
-    Ok(Made::Count(go(rt.alloc(), &net, stage)?))
+    Ok(Written::Count(go(rt.alloc(), &net, stage)?))
 }
 
 fn stage_of(word: &str) -> Option<Stage> {
