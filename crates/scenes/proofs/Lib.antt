@@ -1,0 +1,4 @@
+pub mod Lambdas
+pub mod Names
+pub mod PutMade
+pub mod Settings

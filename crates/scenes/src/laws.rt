@@ -1,0 +1,35 @@
+//! The laws, each as the contract of a call that does nothing.
+ghost use Rattle.scenes.specs.Laws.{SettingOfScene, TypedSceneIsSound, NamedIsTermKind, NamedIsDecided, PutMadeKeepsType, OriginKeepsType, OneUnderLambdas};
+
+use chw_typing::laws::typed_is_sound;
+use named_types::laws::{kinds_of_named_types, named_types_are_decided};
+
+/// Terms of a scene are typed over its program and the types of its made definitions. In a typed scene that is as the laws of types ask.
+pub fn settings_of_scenes()
+    ensures setting { SettingOfScene }
+    ensures sound { TypedSceneIsSound }
+{
+    typed_is_sound();
+}
+
+/// A closed type that is named has the kind of its mode, and it is decided whether one is.
+pub fn named_types()
+    ensures kind { NamedIsTermKind }
+    ensures decided { NamedIsDecided }
+{
+    kinds_of_named_types();
+    named_types_are_decided();
+}
+
+/// A term keeps its type, up to naturals, where closed terms of their types are put for the made definitions; so where their origins are.
+pub fn origins_keep_types()
+    ensures put { PutMadeKeepsType }
+    ensures origins { OriginKeepsType }
+{
+    typed_is_sound();
+}
+
+/// Below the leading lambdas there is one place.
+pub fn one_under_lambdas()
+    ensures { OneUnderLambdas }
+{}
