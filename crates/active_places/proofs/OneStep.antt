@@ -20,7 +20,6 @@ use Rattle.chw_typing.specs.HeadTypes.{fields_at, PatternOf, of_con, of_lit, of_
 use Rattle.chw_typing.specs.Scopes.{with_more, declared}
 use Rattle.group_laws.specs.Groups.{binding_at}
 use Rattle.term_paths.specs.Paths.{Branch, branch_at, part_at}
-use Rattle.scenes.specs.Named.{IsNamed}
 use Rattle.scenes.specs.Origins.{Origins}
 use Rattle.active_places.specs.Active.{Below, right_side, let_body, constant_body, scrutinee, branch, of_constructor, of_words, of_element, of_vector, demanded, begins}
 use Rattle.active_places.specs.Spots.{Spot, spot, HasLets, head_mode, scrutinee_mode, LooksAt, BeginsWith}
@@ -41,10 +40,10 @@ head_applied [] e = refl
 head_applied (a ∷ args) e = head_applied args (applied_to e a) ∙ head_applied_to e a
 
 -- the spots below a letrec
-pub data InLet (datas : List Data) (at : Spot) (g : Group) (p : List ℕ) (at' : Spot) : Type 0 where
-  to_side : (i : ℕ) (b : TypeTree × TermTree) → HasLets at.mode → binding_at g i ≡ Some b → IsNamed datas at.mode b.0 → p ≡ i ∷ [] → at' ≡ spot at.mode false (with_more (declared g) at.vars) → InLet datas at g p at'
-  to_body : HasLets at.mode → p ≡ size_of g ∷ [] → at' ≡ spot at.mode true (with_more (declared g) at.vars) → InLet datas at g p at'
-  to_constant : at.mode ≡ K → at' ≡ spot K false (with_more (declared g) at.vars) → InLet datas at g p at'
+pub data InLet (at : Spot) (g : Group) (p : List ℕ) (at' : Spot) : Type 0 where
+  to_side : (i : ℕ) (b : TypeTree × TermTree) → HasLets at.mode → binding_at g i ≡ Some b → p ≡ i ∷ [] → at' ≡ spot at.mode false (with_more (declared g) at.vars) → InLet at g p at'
+  to_body : HasLets at.mode → p ≡ size_of g ∷ [] → at' ≡ spot at.mode true (with_more (declared g) at.vars) → InLet at g p at'
+  to_constant : at.mode ≡ K → at' ≡ spot K false (with_more (declared g) at.vars) → InLet at g p at'
 
 -- those below a case
 pub data InCase (datas : List Data) (at : Spot) (s : TermTree) (alts : Alts) (p : List ℕ) (at' : Spot) : Type 0 where
@@ -59,7 +58,7 @@ pub data InPrim (at : Spot) (p : Prim) (at' : Spot) : Type 0 where
 
 -- where a step may lead, by the head of the term
 abbrev pub Leads : List Data → Spot → TermTree → List ℕ → Spot → Type 0
-Leads datas at (letrec g e) p at' = InLet datas at g p at'
+Leads datas at (letrec g e) p at' = InLet at g p at'
 Leads datas at (case_of s alts) p at' = InCase datas at s alts p at'
 Leads datas at (prim q) p at' = InPrim at q at'
 Leads datas at (con c) p at' = at' ≡ spot K false at.vars
@@ -70,7 +69,7 @@ at_head : (datas : List Data) (at at' : Spot) (args : List Arg) (h : TermTree) (
 at_head datas at at' args h p is l = subst (λ e. Leads datas at e p at') (sym (head_applied args h ∙ is)) l
 
 pub leads : {o : Origins} {at at' : Spot} {e x : TermTree} {p : List ℕ} → Below o at e p at' x → Leads o.program.datas at (head_of e) p at'
-leads (right_side {i = i} {b = b} l s n) = to_side i b l s n refl refl
+leads (right_side {i = i} {b = b} l s n) = to_side i b l s refl refl
 leads (let_body l) = to_body l refl refl
 leads (constant_body k) = to_constant k refl
 leads (scrutinee d n) = to_scrutinee refl refl
@@ -92,14 +91,14 @@ no_lets m l k = subst HasLets k l
 not_body : (g : Group) (i : ℕ) (b : TypeTree × TermTree) (p : List ℕ) → binding_at g i ≡ Some b → p ≡ i ∷ [] → p ≡ size_of g ∷ [] → ⊥
 not_body g i b p s x y = let is : i ≡ size_of g = cc in no_side g b (subst (λ n. binding_at g n ≡ Some b) is s)
 
-one_in_let : {datas : List Data} {at at' at'' : Spot} {g : Group} {p : List ℕ} → InLet datas at g p at' → InLet datas at g p at'' → at' ≡ at''
-one_in_let (to_side i b l s n x is) (to_side j c m t o y is') = is ∙ sym is'
-one_in_let {g = g} {p = p} (to_side i b l s n x is) (to_body m y is') = absurd (not_body g i b p s x y)
-one_in_let {at} (to_side i b l s n x is) (to_constant k is') = absurd (no_lets at.mode l k)
-one_in_let {g = g} {p = p} (to_body l x is) (to_side j c m t o y is') = absurd (not_body g j c p t y x)
+one_in_let : {at at' at'' : Spot} {g : Group} {p : List ℕ} → InLet at g p at' → InLet at g p at'' → at' ≡ at''
+one_in_let (to_side i b l s x is) (to_side j c m t y is') = is ∙ sym is'
+one_in_let {g = g} {p = p} (to_side i b l s x is) (to_body m y is') = absurd (not_body g i b p s x y)
+one_in_let {at} (to_side i b l s x is) (to_constant k is') = absurd (no_lets at.mode l k)
+one_in_let {g = g} {p = p} (to_body l x is) (to_side j c m t y is') = absurd (not_body g j c p t y x)
 one_in_let (to_body l x is) (to_body m y is') = is ∙ sym is'
 one_in_let {at} (to_body l x is) (to_constant k is') = absurd (no_lets at.mode l k)
-one_in_let {at} (to_constant k is) (to_side j c m t o y is') = absurd (no_lets at.mode m k)
+one_in_let {at} (to_constant k is) (to_side j c m t y is') = absurd (no_lets at.mode m k)
 one_in_let {at} (to_constant k is) (to_body m y is') = absurd (no_lets at.mode m k)
 one_in_let (to_constant k is) (to_constant l is') = is ∙ sym is'
 

@@ -1,5 +1,6 @@
 -- The worked examples.
-use Rattle.std.proofs.Common.{◌≡◌, zero, suc, refl, subst, true, List, [], ◌∷◌, arith, inl, ◌≤◌, ◌<◌}
+use Rattle.std.specs.Prelude.{Some}
+use Rattle.std.proofs.Common.{◌≡◌, ℕ, refl, sym, ◌∙◌, subst, true, List, [], ◌∷◌, arith, inl, ◌≤◌, ◌<◌}
 use Rattle.chw_types.specs.BuiltIn.{built_in}
 use Rattle.chw_types.specs.declared.declarations.Data.{Data}
 use Rattle.chw_types.specs.declared.kind.Scalar.{Scalar}
@@ -12,14 +13,20 @@ use Rattle.chw_prims.specs.declared.prim.Primitive.TheVariants.{AddU, Ap, Regist
 use Rattle.chw_prims.specs.Schemas.{bool}
 use Rattle.chw_terms.specs.declared.scene.Mode.TheVariants.{V}
 use Rattle.chw_terms.specs.declared.term.Arg.TheVariants.{OfTerm, OfType}
-use Rattle.chw_terms.specs.TermTree.{TermTree, var, lam, con, lit, case_of, no_bindings, bind, no_alts, alt}
+use Rattle.chw_terms.specs.TermTree.{TermTree, var, lam, con, prim, lit, case_of, Group, no_bindings, bind, size_of, no_alts, alt}
+use Rattle.chw_terms.specs.TermView.{applied}
+use Rattle.chw_terms.specs.declared.term.Arg.{Arg}
+use Rattle.chw_terms.specs.declared.scene.Mode.{Mode}
+use Rattle.group_laws.specs.Groups.{binding_at}
+use Rattle.scenes.specs.Named.{IsNamed}
+use Rattle.scenes.specs.Origins.{Origins}
 use Rattle.chw_terms.specs.declared.term.Pattern.TheVariants.{Default}
 use Rattle.chw_typing.specs.Examples.{five}
 use Rattle.chw_typing.specs.Typing.{h_var, h_con, h_lit}
-use Rattle.active_places.specs.Active.{right_side, let_body, scrutinee, of_words, demanded, begins, at_it, below}
-use Rattle.active_places.specs.Examples.{NamedSide, UnnamedSide, LetBody, ConstantScrutinee, DemandedFunctions, FirstContent, ConstantArgument, NoWordsInValues, TwoSteps, functions}
+use Rattle.active_places.specs.Active.{Below, right_side, let_body, constant_body, scrutinee, branch, of_constructor, of_words, of_element, of_vector, demanded, begins, at_it, below}
+use Rattle.active_places.specs.Examples.{NamedSide, UnnamedSide, LetBody, ConstantScrutinee, DemandedFunctions, FirstContent, ConstantArgument, NoWordsInValues, TwoSteps, two_sides, functions}
 use Rattle.active_places.specs.Spots.{Spot, spot}
-use Rattle.active_places.proofs.OneStep.{InLet, to_side, to_body, to_constant, InPrim, to_word, to_demanded, to_beginning, leads}
+use Rattle.active_places.proofs.OneStep.{head_of, head_applied, InPrim, to_word, to_demanded, to_beginning, leads}
 
 bool_named : Representable built_in bool
 bool_named = representable_data refl refl none_to_represent
@@ -35,18 +42,46 @@ payload (leaves_of_fields a b c d e) h = absurd cc
 no_word_is_port : {datas : List Data} {x : Scalar} {w : TypeTree} {ls : List Leaf} → Leaves datas (scalar x w) ls → ⊥
 no_word_is_port r = elim r [ ]
 
+abbrev sides : Group
+sides = bind bool (con 1) (bind (fun bool bool) (lam bool (var 0)) no_bindings)
+
 pub named_side : NamedSide
 named_side = right_side {i = 0} tt refl bool_named
 
-no_second : {at' : Spot} → InLet built_in (spot V true []) (bind bool (con 1) (bind (fun bool bool) (lam bool (var 0)) no_bindings)) (1 ∷ []) at' → ⊥
-no_second (to_side zero b l s n p is) = absurd cc
-no_second (to_side (suc zero) b l s n p is) = let same : b.0 ≡ fun bool bool = cc in no_functions (subst (Representable built_in) same n)
-no_second (to_side (suc (suc i)) b l s n p is) = absurd cc
-no_second (to_body l p is) = absurd cc
-no_second (to_constant k is) = absurd cc
+-- of `letrec { x; f; }` the second right side is no function's where it is active
+no_function_side : (datas : List Data) (m : Mode) (g : Group) (i : ℕ) (b : TypeTree × TermTree) → m ≡ V → g ≡ sides → i ≡ 1 → binding_at g i ≡ Some b → IsNamed datas m b.0 → ⊥
+no_function_side datas m g i b v is second s n =
+    let found : binding_at sides 1 ≡ Some b = subst (λ k. binding_at sides k ≡ Some b) second (subst (λ h. binding_at h i ≡ Some b) is s) in
+    let same : b.0 ≡ fun bool bool = cc in
+    no_functions (subst (Representable datas) same (subst (λ k. IsNamed datas k b.0) v n))
+
+not_body : (g : Group) → g ≡ sides → size_of g ≡ 1 → ⊥
+not_body g is one = let two : size_of sides ≡ 1 = subst (λ h. size_of h ≡ 1) is one in absurd cc
+
+no_spine : (args : List Arg) (h : TermTree) → head_of h ≡ h → (h ≡ two_sides → ⊥) → head_of (applied h args) ≡ two_sides → ⊥
+no_spine args h is not e = not (sym (head_applied args h ∙ is) ∙ e)
+
+no_second : {o : Origins} {at at' : Spot} {e x : TermTree} {p : List ℕ} → Below o at e p at' x → at.mode ≡ V → head_of e ≡ two_sides → p ≡ 1 ∷ [] → ⊥
+no_second {o} {at} (right_side {g = g} {i = i} {b = b} l s n) v is q =
+    let group : g ≡ sides = cc in
+    let second : i ≡ 1 = cc in
+    no_function_side o.program.datas at.mode g i b v group second s n
+no_second (let_body {g = g} l) v is q =
+    let group : g ≡ sides = cc in
+    let one : size_of g ≡ 1 = cc in
+    not_body g group one
+no_second (constant_body k) v is q = absurd cc
+no_second (scrutinee d n) v is q = absurd cc
+no_second (branch w s n b r) v is q = absurd cc
+no_second (of_constructor c i args k s l r) v is q = no_spine args (con c) refl (λ e. absurd cc) is
+no_second (of_words p i args k w l m r) v is q = no_spine args (prim p) refl (λ e. absurd cc) is
+no_second (of_element p i args k w m r) v is q = no_spine args (prim p) refl (λ e. absurd cc) is
+no_second (of_vector k s) v is q = absurd cc
+no_second (demanded {p = p} {args = args} d) v is q = no_spine args (prim p) refl (λ e. absurd cc) is
+no_second (begins p i j args m b t w r) v is q = no_spine args (prim p) refl (λ e. absurd cc) is
 
 pub unnamed_side : UnnamedSide
-unnamed_side at' x b = no_second (leads b)
+unnamed_side at' x b = no_second b refl refl refl
 
 pub body_below : LetBody
 body_below = let_body tt
