@@ -2,7 +2,7 @@ use Rattle.std.proofs.Common.{sym, subst}
 use Rattle.std.proofs.lemmas.Result.{err_from_is_err_and}
 use Rattle.chw_lexer.specs.Tokens.{Tokens}
 use Rattle.chw_cli.proofs.Reasons.{lex_refuses, parse_refuses}
-use Rattle.chw_cli.proofs.describe.described.Goals as goal
+use Rattle.chw_cli.proofs.describe.tree_of.Goals as goal
 
 pub returns-in_err-tokens-clause-refused : goal.returns-in_err-tokens-clause-refused
 returns-in_err-tokens-clause-refused c =
