@@ -1,0 +1,13 @@
+//! The laws, each as the contract of a call that does nothing.
+ghost use Rattle.rule_types.specs.Laws.{CoresKeepType, FunctionsKeepType, FunctionsKeepComplete};
+
+/// A spine keeps its type where its core does.
+pub fn cores_keep_type()
+    ensures { CoresKeepType }
+{}
+
+/// What rules make of functions keeps types and complete terms.
+pub fn functions_keep()
+    ensures types { FunctionsKeepType }
+    ensures complete { FunctionsKeepComplete }
+{}
