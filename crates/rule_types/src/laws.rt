@@ -1,5 +1,5 @@
 //! The laws, each as the contract of a call that does nothing.
-ghost use Rattle.rule_types.specs.Laws.{CoresKeepType, FunctionsKeepType, FunctionsKeepComplete};
+ghost use Rattle.rule_types.specs.Laws.{CoresKeepType, FunctionsKeepType, FunctionsKeepComplete, CasesKeepType, CasesKeepComplete};
 
 /// A spine keeps its type where its core does.
 pub fn cores_keep_type()
@@ -10,4 +10,10 @@ pub fn cores_keep_type()
 pub fn functions_keep()
     ensures types { FunctionsKeepType }
     ensures complete { FunctionsKeepComplete }
+{}
+
+/// What rules make of a case keeps types and complete terms.
+pub fn cases_keep()
+    ensures types { CasesKeepType }
+    ensures complete { CasesKeepComplete }
 {}
