@@ -4,5 +4,8 @@ pub mod CasesComplete
 pub mod Complete
 pub mod Fields
 pub mod Functions
+pub mod Groups
+pub mod Lets
+pub mod LetsComplete
 pub mod Projected
 pub mod Scrutinees

@@ -21,14 +21,14 @@ use Rattle.rule_types.proofs.Bodies.{renames_past, up_to}
 use Rattle.rule_types.proofs.Fields.{allowed_typed}
 
 -- what stands behind a list
-at_end : (xs more : List TypeTree) (m : ℕ) (t : TypeTree) → length xs ≡ m → slice_get (xs ++ t ∷ more) m ≡ Some t
+at_end : {A : Type 0} (xs more : List A) (m : ℕ) (t : A) → length xs ≡ m → slice_get (xs ++ t ∷ more) m ≡ Some t
 at_end [] more zero t l = refl
 at_end [] more (suc m) t l = absurd (omega (arith, l))
 at_end (x ∷ xs) more zero t l = absurd (omega (arith, l))
 at_end (x ∷ xs) more (suc m) t l = at_end xs more m t (omega (arith, l))
 
 -- of a list turned around, so many before the end
-pub reversed_at : (ts more : List TypeTree) (i m : ℕ) (t : TypeTree) → m + suc i ≡ length ts → slice_get ts i ≡ Some t → slice_get (reverse ts ++ more) m ≡ Some t
+pub reversed_at : {A : Type 0} (ts more : List A) (i m : ℕ) (t : A) → m + suc i ≡ length ts → slice_get ts i ≡ Some t → slice_get (reverse ts ++ more) m ≡ Some t
 reversed_at [] more i m t l e = absurd (cc)
 reversed_at (u ∷ ts) more zero m t l e =
     let is : u ≡ t = cc in

@@ -44,15 +44,19 @@ pub case_typed : {s : Setting} {kinds : List Kind} {vars : List TypeTree} {e : T
 case_typed {t = t} (h_case {u = u} {j = j} {k = k} d look ku b df kt allow given hidden) =
     record { type = u; has = d; looked_at = look; kind = j; has_kind = ku; result = k; has_result = kt; allows = allow; given_all = give_and b df (same_self t) given }
 
--- what the type of a letrec says of its parts
-pub record LetTyped (s : Setting) (kinds : List Kind) (vars : List TypeTree) (g : Group) (e : TermTree) (t : TypeTree) : Type 0 where
+-- what the type of a letrec says of its parts, in the scope of what it binds
+pub record LetTyped (s : Setting) (kinds : List Kind) (inside : List TypeTree) (g : Group) (e : TermTree) (t : TypeTree) : Type 0 where
   pub kind : Kind
   pub has_kind : HasKind s kinds t kind
-  pub sides : AreBound s kinds (with_more (declared g) vars) kind g
-  pub body : HasType s kinds (with_more (declared g) vars) e t
+  pub sides : AreBound s kinds inside kind g
+  pub body : HasType s kinds inside e t
 
-pub let_parts : {s : Setting} {kinds : List Kind} {vars : List TypeTree} {g : Group} {e : TermTree} {t : TypeTree} → HasType s kinds vars (letrec g e) t → LetTyped s kinds vars g e t
+pub let_parts : {s : Setting} {kinds : List Kind} {vars : List TypeTree} {g : Group} {e : TermTree} {t : TypeTree} → HasType s kinds vars (letrec g e) t → LetTyped s kinds (with_more (declared g) vars) g e t
 let_parts (h_letrec {k = k} d l b) = record { kind = k; has_kind = l; sides = b; body = d }
+
+pub let_of_parts : {s : Setting} {kinds : List Kind} {inside : List TypeTree} {g : Group} {e : TermTree} {t : TypeTree} → LetTyped s kinds inside g e t → (vars : List TypeTree) → inside ≡ with_more (declared g) vars → HasType s kinds vars (letrec g e) t
+let_of_parts {s} {kinds} {g = g} {e = e} {t = t} p vars same =
+    h_letrec (subst (λ sc. HasType s kinds sc e t) same p.body) p.has_kind (subst (λ sc. AreBound s kinds sc p.kind g) same p.sides)
 
 -- what the types of alternatives say of one of them
 pub record BranchTyped (s : Setting) (kinds : List Kind) (vars : List TypeTree) (u t : TypeTree) (b : Branch) : Type 0 where

@@ -11,6 +11,7 @@ use Rattle.chw_typing.specs.Typing.{HasType, HasTypeUpTo}
 use Rattle.scenes.specs.Origins.{Origins, setting_at}
 use Rattle.active_places.specs.Spots.{Spot}
 use Rattle.rewriting.specs.Functions.{OfFunctions}
+use Rattle.rewriting.specs.Lets.{OfLets}
 use Rattle.rewriting.specs.Cases.{OfCases}
 
 -- a place where rules keep types: what terms are typed over is sound, and the variables in scope
@@ -54,3 +55,14 @@ abbrev pub CasesKeepComplete : Type 0
 CasesKeepComplete =
     (o : Origins) (at : Spot) (r : Rule) (e e' : TermTree)
     → OfCases o at r e e' → IsComplete o.program.datas e → IsComplete o.program.datas e'
+
+-- so what is made of a letrec
+abbrev pub LetsKeepType : Type 0
+LetsKeepType =
+    (o : Origins) (at : Spot) (r : Rule) (e e' : TermTree)
+    → IsTypedPlace o at → OfLets o at r e e' → KeepsType o at e e'
+
+abbrev pub LetsKeepComplete : Type 0
+LetsKeepComplete =
+    (o : Origins) (at : Spot) (r : Rule) (e e' : TermTree)
+    → OfLets o at r e e' → IsComplete o.program.datas e → IsComplete o.program.datas e'

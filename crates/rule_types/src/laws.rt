@@ -1,5 +1,5 @@
 //! The laws, each as the contract of a call that does nothing.
-ghost use Rattle.rule_types.specs.Laws.{CoresKeepType, FunctionsKeepType, FunctionsKeepComplete, CasesKeepType, CasesKeepComplete};
+ghost use Rattle.rule_types.specs.Laws.{CoresKeepType, FunctionsKeepType, FunctionsKeepComplete, CasesKeepType, CasesKeepComplete, LetsKeepType, LetsKeepComplete};
 
 /// A spine keeps its type where its core does.
 pub fn cores_keep_type()
@@ -16,4 +16,10 @@ pub fn functions_keep()
 pub fn cases_keep()
     ensures types { CasesKeepType }
     ensures complete { CasesKeepComplete }
+{}
+
+/// What rules make of a letrec keeps types and complete terms.
+pub fn lets_keep()
+    ensures types { LetsKeepType }
+    ensures complete { LetsKeepComplete }
 {}
