@@ -2,6 +2,7 @@ pub mod Bodies
 pub mod Cases
 pub mod CasesComplete
 pub mod Complete
+pub mod Demanded
 pub mod Fields
 pub mod Functions
 pub mod Groups

@@ -11,6 +11,7 @@ use Rattle.chw_typing.specs.Typing.{HasType, HasTypeUpTo}
 use Rattle.scenes.specs.Origins.{Origins, setting_at}
 use Rattle.active_places.specs.Spots.{Spot}
 use Rattle.rewriting.specs.Functions.{OfFunctions}
+use Rattle.rewriting.specs.Demanded.{OfDemanded}
 use Rattle.rewriting.specs.Lets.{OfLets}
 use Rattle.rewriting.specs.Cases.{OfCases}
 
@@ -66,3 +67,14 @@ abbrev pub LetsKeepComplete : Type 0
 LetsKeepComplete =
     (o : Origins) (at : Spot) (r : Rule) (e e' : TermTree)
     → OfLets o at r e e' → IsComplete o.program.datas e → IsComplete o.program.datas e'
+
+-- so what is made of a primitive with a demanded letrec or case
+abbrev pub DemandedKeepType : Type 0
+DemandedKeepType =
+    (o : Origins) (at : Spot) (r : Rule) (e e' : TermTree)
+    → IsTypedPlace o at → OfDemanded o at r e e' → KeepsType o at e e'
+
+abbrev pub DemandedKeepComplete : Type 0
+DemandedKeepComplete =
+    (o : Origins) (at : Spot) (r : Rule) (e e' : TermTree)
+    → OfDemanded o at r e e' → IsComplete o.program.datas e → IsComplete o.program.datas e'

@@ -1,5 +1,5 @@
 //! The laws, each as the contract of a call that does nothing.
-ghost use Rattle.rule_types.specs.Laws.{CoresKeepType, FunctionsKeepType, FunctionsKeepComplete, CasesKeepType, CasesKeepComplete, LetsKeepType, LetsKeepComplete};
+ghost use Rattle.rule_types.specs.Laws.{CoresKeepType, FunctionsKeepType, FunctionsKeepComplete, CasesKeepType, CasesKeepComplete, LetsKeepType, LetsKeepComplete, DemandedKeepType, DemandedKeepComplete};
 
 /// A spine keeps its type where its core does.
 pub fn cores_keep_type()
@@ -22,4 +22,10 @@ pub fn cases_keep()
 pub fn lets_keep()
     ensures types { LetsKeepType }
     ensures complete { LetsKeepComplete }
+{}
+
+/// What rules make of a primitive with a demanded letrec or case keeps types and complete terms.
+pub fn demanded_keep()
+    ensures types { DemandedKeepType }
+    ensures complete { DemandedKeepComplete }
 {}
