@@ -8,7 +8,7 @@ use Rattle.chw_types.specs.Arguments.{arguments}
 use Rattle.chw_types.specs.Kinds.{HasFunctions, KindsOf, kind_data}
 use Rattle.chw_types.specs.Ports.{IsPort}
 use Rattle.chw_types.specs.SameTypes.{SameTypes}
-use Rattle.chw_types.specs.TypeMoves.{Substitution, sub}
+use Rattle.chw_types.specs.TypeMoves.{sub}
 use Rattle.chw_types.specs.TypeTree.{TypeTree, data_of}
 use Rattle.chw_types.specs.TypeView.{trees_of}
 use Rattle.chw_types.specs.declared.kind.Kind.{Kind}
@@ -144,10 +144,6 @@ case_case_typed {s} {kinds} {vars} {t} {e} {inner} {alts} h g d =
         let same = same_kind (same_self parts.type) ku parts.has_kind in
         (parts.result, parts.has_result, functions_compose i parts.kind parts.result (subst (HasFunctions i) same allow) parts.allows)
 
--- a field of a port, by its number
-mapped_at : (fs : List TypeTree) (σ : Substitution) (i : ℕ) (t : TypeTree) → slice_get (map (λ f. sub f σ) fs) i ≡ Some t → (f : TypeTree) × (slice_get fs i ≡ Some f) × (sub f σ ≡ t)
-mapped_at fs σ i t e = found_before_map (λ f. sub f σ) fs i t e
-
 -- what is known of a port's fields
 record PortFields (s : Setting) (t : TypeTree) (c : ConId) (n : ℕ) (fields : List TypeTree) : Type 0 where
   pub looked_at : IsLookedAt t
@@ -186,7 +182,7 @@ port_fields {s} (of_con {d = d} {n = m} {c = c'} {ts = ts} it e o l) h c n is j 
 
     each : (i : ℕ) (f : TypeTree) → slice_get (fields_at it ts) i ≡ Some f → (k : Kind) × HasKind s [] f k × HasFunctions Cir k
     each i f g =
-        let of = mapped_at it.decl.fields (arguments ts) i f g in
+        let of = found_before_map (λ f. sub f (arguments ts)) it.decl.fields i f g in
         let typed = field_typed s c'.number it ts h e kinds i of.0 of.1 in
         let field : IsField it.it of.0 = record { con = at.place; of = it.decl; is_con = at.decl; at = i; is_field = of.1 } in
         let part = fields_ports it.it of.0 data_type field port in

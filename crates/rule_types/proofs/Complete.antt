@@ -52,7 +52,7 @@ mutual
   renamed_alts_complete datas no_alts ρ h = tt
   renamed_alts_complete datas (alt q e more) ρ h = (renamed_complete datas e (lift_by (binders q) ρ) h.0, renamed_alts_complete datas more ρ h.1)
 
-pub patterns_typed : (alts : Alts) (τ : TypeSubstitution) → patterns (sub_types_alts alts τ) ≡ patterns alts
+patterns_typed : (alts : Alts) (τ : TypeSubstitution) → patterns (sub_types_alts alts τ) ≡ patterns alts
 unfolding sub_types_alts
 patterns_typed no_alts τ = refl
 patterns_typed (alt q e more) τ = ap (λ qs. q ∷ qs) (patterns_typed more τ)
@@ -173,7 +173,7 @@ mutual
   evaluated_alts_complete datas (alt q e more) h = (evaluated_complete datas e h.0, evaluated_alts_complete datas more h.1)
 
 -- a case of which each body changes
-pub each_alts_complete : (datas : List Data) (F : ℕ → TermTree → TermTree) (alts : Alts) → ((n : ℕ) (e : TermTree) → IsComplete datas e → IsComplete datas (F n e)) → AltsAreComplete datas alts → AltsAreComplete datas (each_body F alts)
+each_alts_complete : (datas : List Data) (F : ℕ → TermTree → TermTree) (alts : Alts) → ((n : ℕ) (e : TermTree) → IsComplete datas e → IsComplete datas (F n e)) → AltsAreComplete datas alts → AltsAreComplete datas (each_body F alts)
 each_alts_complete datas F no_alts f h = tt
 each_alts_complete datas F (alt q e more) f h = (f (binders q) e h.0, each_alts_complete datas F more f h.1)
 
@@ -220,3 +220,9 @@ spine_complete datas e (OfTerm a ∷ args) h =
 spine_complete datas e (OfType t ∷ args) h =
     let rest = spine_complete datas (ty_app e t) args h in
     (rest.0, (tt, rest.1))
+
+-- a spine with another head
+pub core_complete : (datas : List Data) (e f : TermTree) (args : List Arg) → (IsComplete datas e → IsComplete datas f) → IsComplete datas (applied e args) → IsComplete datas (applied f args)
+core_complete datas e f args g h =
+    let parts = spine_complete datas e args h in
+    applied_complete datas f args (g parts.0) parts.1

@@ -1,9 +1,14 @@
 //! The laws, each as the contract of a call that does nothing.
-ghost use Rattle.rule_types.specs.Laws.{CoresKeepType, FunctionsKeepType, FunctionsKeepComplete, CasesKeepType, CasesKeepComplete, LetsKeepType, LetsKeepComplete, DemandedKeepType, DemandedKeepComplete};
+ghost use Rattle.rule_types.specs.Laws.{CoresKeepType, CoresKeepComplete};
+ghost use Rattle.rule_types.specs.Laws.{FunctionsKeepType, FunctionsKeepComplete};
+ghost use Rattle.rule_types.specs.Laws.{CasesKeepType, CasesKeepComplete};
+ghost use Rattle.rule_types.specs.Laws.{LetsKeepType, LetsKeepComplete};
+ghost use Rattle.rule_types.specs.Laws.{DemandedKeepType, DemandedKeepComplete};
 
-/// A spine keeps its type where its core does.
-pub fn cores_keep_type()
-    ensures { CoresKeepType }
+/// A spine keeps its type, and stays complete, where its core does.
+pub fn cores_keep()
+    ensures types { CoresKeepType }
+    ensures complete { CoresKeepComplete }
 {}
 
 /// What rules make of functions keeps types and complete terms.

@@ -1,7 +1,0 @@
-use Rattle.std.proofs.Common.{[]}
-use Rattle.scenes.specs.Origins.{setting_at}
-use Rattle.spine_types.proofs.Spines.{head_changed}
-use Rattle.rule_types.proofs.laws.cores_keep_type.Goals as goal
-
-pub returns : goal.returns
-returns c o at core core' rest h keeps t d = head_changed (setting_at o) [] at.vars core core' rest t h.sound h.vars keeps d
