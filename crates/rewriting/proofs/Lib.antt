@@ -1,0 +1,10 @@
+pub mod CaseMakes
+pub mod Cores
+pub mod Counted
+pub mod LetMakes
+pub mod Lists
+pub mod Makes
+pub mod Named
+pub mod Primitives
+pub mod Signals
+pub mod Spines

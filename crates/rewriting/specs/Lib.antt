@@ -1,0 +1,14 @@
+pub mod Calls
+pub mod Cases
+pub mod Demanded
+pub mod Functions
+pub mod Instances
+pub mod Laws
+pub mod Lets
+pub mod Lifted
+pub mod Names
+pub mod Numbers
+pub mod Operands
+pub mod Primitives
+pub mod Shapes
+pub mod Signals
