@@ -1,19 +1,19 @@
 -- What a rule makes of a letrec is one term.
-use Rattle.std.proofs.Common.{◌≡◌, ◌∙◌, sym, ap, refl, subst, inl, inr, ◌⊎◌, ◌↔◌, suc, ◌+◌, ◌<◌, Bool, true, false, List, reverse, Some, slice_get, true≢false}
+use Rattle.std.proofs.Common.{◌≡◌, ◌∙◌, sym, ap, refl, subst, inl, inr, ◌⊎◌, ◌↔◌, suc, ◌+◌, ◌<◌, Bool, true, false, List, Some, slice_get, true≢false}
 use Rattle.chw_types.specs.TypeTree.{TypeTree}
 use Rattle.chw_types.specs.declared.declarations.Data.{Data}
 use Rattle.chw_terms.specs.declared.rule.Rule.{Rule}
 use Rattle.chw_terms.specs.declared.scene.Mode.{Mode}
 use Rattle.chw_terms.specs.Occurs.{occurs}
-use Rattle.chw_terms.specs.TermMoves.{rename, rename_group, shift, sub, sub_group, in_place_of, lowered}
+use Rattle.chw_terms.specs.TermMoves.{shift}
 use Rattle.chw_terms.specs.TermTree.{TermTree, letrec, Group, no_bindings, bind, size_of}
 use Rattle.group_laws.specs.Groups.{joined, Reached}
 use Rattle.group_laws.proofs.Parts.{size_joined}
 use Rattle.scenes.specs.Named.{IsNamed}
 use Rattle.scenes.specs.Origins.{Origins}
 use Rattle.active_places.specs.Spots.{Spot}
-use Rattle.rewriting.specs.Lets.{OfLets, flat_side, flat_body, dead, inline, side_joined, MarksReached, EachStays}
-use Rattle.rewriting.specs.Shapes.{IsLet, NoLetIn, or_body, marked, closed_up}
+use Rattle.rewriting.specs.Lets.{OfLets, flat_side, flat_body, dead, inline, side_joined, inlined, kept, MarksReached, EachStays}
+use Rattle.rewriting.specs.Shapes.{IsLet, NoLetIn}
 use Rattle.rewriting.proofs.Lists.{marks_same}
 
 -- a group in two parts
@@ -109,7 +109,7 @@ one_let (dead {g = g} {e = e} {marks = xs} m d u) (dead {g = h} {e = f} {marks =
     let groups : g ≡ h = cc in
     let body : e ≡ f = cc in
     let marks = one_marking g h e f xs ys d d' groups body in
-    λ i. or_body (rename_group (marked (marks i) (groups i)) (closed_up (reverse (marks i)))) (rename (body i) (closed_up (reverse (marks i))))
+    λ i. kept (marks i) (groups i) (body i)
 one_let {o} {at} (inline front t x back {e = e} m n d s) (inline front' t' x' back' {e = e'} m' n' d' s') k q =
     let groups : joined front (bind t x back) ≡ joined front' (bind t' x' back') = cc in
     let body : e ≡ e' = cc in
@@ -118,7 +118,7 @@ one_let {o} {at} (inline front t x back {e = e} m n d s) (inline front' t' x' ba
     let second : bind t x back ≡ bind t' x' back' = same.second in
     let side : x ≡ x' = cc in
     let behind : back ≡ back' = cc in
-    λ i. or_body (sub_group (joined (first i) (behind i)) (in_place_of (size_of (behind i)) (rename (side i) (lowered (size_of (behind i)))))) (sub (body i) (in_place_of (size_of (behind i)) (rename (side i) (lowered (size_of (behind i))))))
+    λ i. inlined (first i) (side i) (behind i) (body i)
 one_let (flat_side front t cs x back m n) (dead m' d' u') k q = absurd cc
 one_let (flat_side front t cs x back m n) (inline front' t' x' back' m' n' d' s') k q = absurd cc
 one_let (flat_body m n) (dead m' d' u') k q = absurd cc

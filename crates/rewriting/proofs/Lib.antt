@@ -7,4 +7,5 @@ pub mod Makes
 pub mod Named
 pub mod Primitives
 pub mod Signals
+pub mod Shown
 pub mod Spines

@@ -27,6 +27,18 @@ side_joined front t cs x back =
     (joined (rename_group cs swap)
     (bind t (rename x swap) (shift_group back n (size_of cs))))
 
+-- the letrec without the binding between these two groups: for its name its right side x is put
+abbrev pub inlined : Group → TermTree → Group → TermTree → TermTree
+inlined front x back e =
+    let put = in_place_of (size_of back) (rename x (lowered (size_of back))) in
+    or_body (sub_group (joined front back) put) (sub e put)
+
+-- the bindings that are marked; the variables of the others don't occur in these and in e
+abbrev pub kept : List Bool → Group → TermTree → TermTree
+kept marks g e =
+    let close = closed_up (reverse marks) in
+    or_body (rename_group (marked marks g) close) (rename e close)
+
 -- the marks are those of the bindings that the body reaches
 pub record MarksReached (g : Group) (e : TermTree) (marks : List Bool) : Type 0 where
   pub each_one : length marks ≡ size_of g
@@ -57,9 +69,7 @@ pub data OfLets (o : Origins) (at : Spot) : Rule → TermTree → TermTree → T
       → (IsOfHead at.mode → ⊥) → MarksReached g e marks
       → ((g ≡ no_bindings) ⊎ Contains marks false)
       → OfLets o at Dead
-      (letrec g e)
-      (or_body (rename_group (marked marks g) (closed_up (reverse marks)))
-      (rename e (closed_up (reverse marks))))
+      (letrec g e) (kept marks g e)
   -- the first binding of a type that isn't named, and that doesn't occur in its own right side, is
   -- put for its name
   inline : (front : Group) (t : TypeTree) (x : TermTree) (back : Group) {e : TermTree}
@@ -68,5 +78,4 @@ pub data OfLets (o : Origins) (at : Spot) : Rule → TermTree → TermTree → T
       → EachStays o.program.datas at.mode front (suc (size_of back))
       → OfLets o at Inline
       (letrec (joined front (bind t x back)) e)
-      (let put = in_place_of (size_of back) (rename x (lowered (size_of back))) in
-      or_body (sub_group (joined front back) put) (sub e put))
+      (inlined front x back e)

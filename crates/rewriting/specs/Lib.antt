@@ -1,6 +1,7 @@
 pub mod Calls
 pub mod Cases
 pub mod Demanded
+pub mod Examples
 pub mod Functions
 pub mod Instances
 pub mod Laws
