@@ -9,3 +9,5 @@ pub mod Primitives
 pub mod Signals
 pub mod Shown
 pub mod Spines
+pub mod Runs
+pub mod Steps

@@ -92,7 +92,7 @@ one_join (ap_ap p n x y) (ap_value p' n' x') q = absurd cc
 one_join (ap_ap p n x y) (ap_fmap p' n' x' y') q = absurd cc
 
 -- a lifted function has one list of parameters
-one_lifted : {o : Origins} {at : Spot} {g g' : TermTree} {t t' r r' : TypeTree} {ts ts' : List TypeTree} → IsLifted o at g t ts r → IsLifted o at g' t' ts' r' → g ≡ g' → SameFunction (t ∷ ts) (t' ∷ ts') r r'
+pub one_lifted : {o : Origins} {at : Spot} {g g' : TermTree} {t t' r r' : TypeTree} {ts ts' : List TypeTree} → IsLifted o at g t ts r → IsLifted o at g' t' ts' r' → g ≡ g' → SameFunction (t ∷ ts) (t' ∷ ts') r r'
 one_lifted {o} {t = t} {t' = t'} {r = r} {r' = r'} {ts = ts} {ts' = ts'} l m q =
     function_same o.program.datas (t ∷ ts) (t' ∷ ts') r r' l.gives m.gives (one_type_found l.has m.has q)
 

@@ -1,11 +1,16 @@
--- What is promised of rules: each has at most one instance on a term at a place.
-use Rattle.std.specs.Prelude.{◌≡◌}
+-- What is promised of rules: each has at most one instance on a term at a place, and there is at
+-- most one run.
+use Rattle.std.specs.Prelude.{◌≡◌, ℕ, List}
+use Rattle.chw_terms.specs.declared.program.Program.{Program}
 use Rattle.chw_terms.specs.declared.rule.Rule.{Rule}
+use Rattle.chw_terms.specs.declared.scene.Made.{Made}
 use Rattle.chw_terms.specs.TermTree.{TermTree}
 use Rattle.scenes.specs.Origins.{Origins}
 use Rattle.active_places.specs.Spots.{Spot}
 use Rattle.rewriting.specs.Calls.{OfWhole}
 use Rattle.rewriting.specs.Instances.{Makes, HasInstance}
+use Rattle.rewriting.specs.Runs.{Step, StepsTo, Run}
+use Rattle.rewriting.specs.Steps.{Where, IsFirst}
 
 -- a rule makes at most one term of its own shape
 abbrev pub OneMade : Type 0
@@ -24,3 +29,21 @@ abbrev pub OneInstance : Type 0
 OneInstance =
     (o : Origins) (at : Spot) (r : Rule) (e e' e'' : TermTree)
     → HasInstance o at r e e' → HasInstance o at r e e'' → e' ≡ e''
+
+-- of the steps by some rules one at most is the first, and it makes one term
+abbrev pub OneFirst : Type 0
+OneFirst =
+    (rules : List Rule) (p : Program) (made : List Made) (w v : Where) (e f : TermTree)
+    → IsFirst rules p made w e → IsFirst rules p made v f → (w ≡ v) × (e ≡ f)
+
+-- it leads to one state at most
+abbrev pub OneState : Type 0
+OneState =
+    (rules : List Rule) (p : Program) (made xs ys : List Made) (s t : Step)
+    → StepsTo rules p made s xs → StepsTo rules p made t ys → (s ≡ t) × (xs ≡ ys)
+
+-- so a program has one run at most by some rules, of each number of steps
+abbrev pub OneRun : Type 0
+OneRun =
+    (rules : List Rule) (p : Program) (n : ℕ) (ss ts : List Step) (xs ys : List Made)
+    → Run rules p n ss xs → Run rules p n ts ys → (ss ≡ ts) × (xs ≡ ys)

@@ -11,5 +11,7 @@ pub mod Names
 pub mod Numbers
 pub mod Operands
 pub mod Primitives
+pub mod Runs
 pub mod Shapes
 pub mod Signals
+pub mod Steps

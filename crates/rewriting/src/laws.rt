@@ -1,5 +1,7 @@
 //! The laws, each as the contract of a call that does nothing.
-ghost use Rattle.rewriting.specs.Laws.{OneMade, OneOfWhole, OneInstance};
+ghost use Rattle.rewriting.specs.Laws.{OneMade, OneOfWhole, OneInstance, OneFirst, OneState, OneRun};
+
+use active_places::laws::one_place;
 
 /// A rule makes one term at most, of its own shape and of a whole term.
 pub fn one_made()
@@ -11,3 +13,18 @@ pub fn one_made()
 pub fn one_instance()
     ensures { OneInstance }
 {}
+
+/// Of the steps by some rules one at most is the first, and it leads to one state.
+pub fn one_first()
+    ensures step { OneFirst }
+    ensures state { OneState }
+{
+    one_place();
+}
+
+/// A program has one run at most by some rules, of each number of steps.
+pub fn one_run()
+    ensures { OneRun }
+{
+    one_place();
+}
