@@ -65,7 +65,7 @@ function_same datas (t ∷ ts) (u ∷ us) r q h g e =
     record { params = λ i. first i ∷ same.params i; result = same.result }
 
 -- a made definition of a number is one of them
-origin_within : (o : Origins) (e : TermTree) (m : ℕ) → HasOrigin o e m → m < length o.made
+pub origin_within : (o : Origins) (e : TermTree) (m : ℕ) → HasOrigin o e m → m < length o.made
 origin_within o e m h = slice_get_within o.made m h.0 h.1
 
 least : (o : Origins) (e : TermTree) (m n : ℕ) → IsNumberOf o e m → IsNumberOf o e n → m < n → ⊥

@@ -36,7 +36,14 @@ OneFirst =
     (rules : List Rule) (p : Program) (made : List Made) (w v : Where) (e f : TermTree)
     → IsFirst rules p made w e → IsFirst rules p made v f → (w ≡ v) × (e ≡ f)
 
--- it leads to one state at most
+-- it leads to a state
+abbrev pub FirstLeads : Type 0
+FirstLeads =
+    (rules : List Rule) (p : Program) (made : List Made) (w : Where) (e : TermTree)
+    → IsFirst rules p made w e
+    → (xs : List Made) × StepsTo rules p made (record { place = w; new = e }) xs
+
+-- and to one at most
 abbrev pub OneState : Type 0
 OneState =
     (rules : List Rule) (p : Program) (made xs ys : List Made) (s t : Step)
