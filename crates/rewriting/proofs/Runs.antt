@@ -27,6 +27,8 @@ use Rattle.rewriting.specs.Calls.{OfWhole, spec_call}
 use Rattle.rewriting.specs.Instances.{HasInstance, on_core, on_whole}
 use Rattle.rewriting.specs.Signals.{OfSignals, spec_function}
 use Rattle.rewriting.specs.Steps.{Where, IsFirst}
+use Rattle.scenes.specs.Origins.{made_of}
+use Rattle.std.proofs.Common.{arith, zero, suc, length}
 use Rattle.rewriting.proofs.CaseMakes.{one_type_found}
 use Rattle.rewriting.proofs.Lists.{somes_same, origin_within}
 use Rattle.rewriting.proofs.Signals.{one_lifted}
@@ -165,3 +167,26 @@ first_leads rules p made w new h =
     let step = h.step.1 in
     let after = after_any p made step.at w.rule step.term new step.made_new in
     (set after.0 w.number (record step.it { body = with_part step.it.body w.path new }), record { is_first = h; with_new = after.0; after = after.1; is = refl })
+
+-- the last of them
+last_there : (xs : List Made) (x : Made) (m : ℕ) → m ≡ length (map made_of xs) → slice_get (map made_of (xs ++ x ∷ [])) m ≡ Some (made_of x)
+last_there [] x m q = ap (slice_get (made_of x ∷ [])) q
+last_there (y ∷ xs) x zero q = absurd (omega (arith, q))
+last_there (y ∷ xs) x (suc m) q = last_there xs x m (omega (arith, q))
+
+by_origin : (p : Program) (made : List Made) (it : MadeOf) (m : ℕ) → ((j : ℕ) → HasOrigin (origins_in p made) it.origin j → ⊥) → IsNumberOf (origins_in p made) it.origin m → HasOrigin (origins_in p (made ++ opened p it ∷ [])) it.origin m
+by_origin p made it m n (inl h, f) = absurd (n m h)
+by_origin p made it m n (inr q, f) = (it, last_there made (opened p it) m q, refl)
+
+by_known : (p : Program) (made : List Made) (e : TermTree) (m j : ℕ) → HasOrigin (origins_in p made) e j → IsNumberOf (origins_in p made) e m → HasOrigin (origins_in p made) e m
+by_known p made e m j h (inl g, f) = g
+by_known p made e m j h (inr q, f) = absurd (f j (subst (λ k. j < k) (sym q) (origin_within (origins_in p made) e j h)) h)
+
+pub number_is_there : {p : Program} {made xs : List Made} {at : Spot} {e : TermTree} {it : MadeOf} {m : ℕ} → BecomesMade (origins_in p made) at e it → IsNumberOf (origins_in p made) it.origin m → After p made at e Spec xs → HasOrigin (origins_in p xs) it.origin m
+number_is_there b i (no_call n) = absurd (n refl)
+number_is_there {p} {made} {it = it} {m = m} b i (known {it = other} j c h) =
+    by_known p made it.origin m j (subst (λ (it : MadeOf). HasOrigin (origins_in p made) it.origin j) (one_becomes c b refl) h) i
+number_is_there {p} {made} {it = it} {m = m} b i (one_more {it = other} c n) =
+    let same = one_becomes c b refl in
+    subst (λ (of : MadeOf). HasOrigin (origins_in p (made ++ opened p of ∷ [])) it.origin m) (sym same)
+    (by_origin p made it m (subst (λ (of : MadeOf). (j : ℕ) → HasOrigin (origins_in p made) of.origin j → ⊥) same n) i)

@@ -1,5 +1,5 @@
 //! The laws, each as the contract of a call that does nothing.
-ghost use Rattle.rewriting.specs.Laws.{OneMade, OneOfWhole, OneInstance, OneFirst, FirstLeads, OneState, OneRun};
+ghost use Rattle.rewriting.specs.Laws.{OneMade, OneOfWhole, OneInstance, OneFirst, FirstLeads, NumberIsThere, OneState, OneRun};
 
 use active_places::laws::one_place;
 
@@ -22,6 +22,11 @@ pub fn one_first()
 {
     one_place();
 }
+
+/// The number that is written for a call is that of a made definition with its origin.
+pub fn number_is_there()
+    ensures { NumberIsThere }
+{}
 
 /// A program has one run at most by some rules, of each number of steps.
 pub fn one_run()
