@@ -1,5 +1,5 @@
 //! The laws, each as the contract of a call that does nothing.
-ghost use Rattle.scenes.specs.Laws.{SettingOfScene, TypedSceneIsSound, SameKeepsNamed, NamedIsTermKind, NamedIsDecided, PutMadeKeepsType, OriginKeepsType, OneUnderLambdas};
+ghost use Rattle.scenes.specs.Laws.{SettingOfScene, TypedSceneIsSound, SameKeepsNamed, NamedIsTermKind, NamedIsDecided, PutMadeKeepsType, NoMadeKeepsType, OriginNeedsProgram, OriginKeepsType, OneUnderLambdas};
 
 use chw_typing::laws::typed_is_sound;
 use like_types::laws::same_types_keep_names;
@@ -25,10 +25,17 @@ pub fn names_of_modes()
     named_types_are_decided();
 }
 
-/// A term keeps its type, up to naturals, where closed terms of their types are put for the made definitions; so where their origins are.
-pub fn origins_keep_types()
+/// A term keeps its type, up to naturals, where closed terms of their types are put for the made definitions. Where none occurs, none is
+/// needed.
+pub fn made_definitions_replaced()
     ensures put { PutMadeKeepsType }
-    ensures origins { OriginKeepsType }
+    ensures none { NoMadeKeepsType }
+{}
+
+/// So a term of a typed scene with its made definitions replaced by their origins has its type over the program alone, and in the scene.
+pub fn origins_keep_types()
+    ensures alone { OriginNeedsProgram }
+    ensures scene { OriginKeepsType }
 {
     typed_is_sound();
 }
