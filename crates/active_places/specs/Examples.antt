@@ -1,6 +1,5 @@
 -- Worked examples of active places.
-use Rattle.std.specs.Prelude.{ℕ, true, false, List, [], ◌∷◌, codes}
-use Rattle.chw_types.specs.BuiltIn.{built_in}
+use Rattle.std.specs.Prelude.{ℕ, true, false, List, [], ◌∷◌}
 use Rattle.chw_types.specs.declared.kind.Scalar.TheVariants.{U}
 use Rattle.chw_types.specs.TypeTree.{TypeTree, nat_lit, domain, fun, signal}
 use Rattle.chw_prims.specs.declared.prim.Primitive.TheVariants.{AddU, Ap, Register}
@@ -13,24 +12,9 @@ use Rattle.chw_terms.specs.TermTree.{TermTree, var, lam, letrec, con, prim, lit,
 use Rattle.chw_terms.specs.TermTree.{no_bindings, bind, Alts, no_alts, alt}
 use Rattle.chw_terms.specs.TermView.{applied}
 use Rattle.chw_typing.specs.Examples.{five}
-use Rattle.scenes.specs.Origins.{Origins}
+use Rattle.scenes.specs.Examples.{bare, bits}
 use Rattle.active_places.specs.Active.{Below, IsActive}
 use Rattle.active_places.specs.Spots.{Spot, spot}
-
--- one domain, the built-in data types, and nothing else
-abbrev pub bare : Origins
-bare =
-    record {
-      program =
-          record {
-            domains = codes "A" ∷ [];
-            resets = [];
-            datas = built_in;
-            defs = [];
-            top = record { «def» = record { number = 0 }; inputs = []; outputs = [] };
-          };
-      made = [];
-    }
 
 -- one step below a body of this mode, with variables of these types in scope
 abbrev pub FirstBelow : Mode → List TypeTree → TermTree → List ℕ → Spot → TermTree → Type 0
@@ -60,10 +44,7 @@ UnnamedSide = NothingBelow V [] two_sides (1 ∷ [])
 abbrev pub LetBody : Type 0
 LetBody = FirstBelow V [] two_sides (2 ∷ []) (spot V true (fun bool bool ∷ bool ∷ [])) (var 1)
 
--- `Signal A Bool`, and `Signal A (Bool -> Bool)`
-abbrev pub bits : TypeTree
-bits = signal (domain 0) bool
-
+-- `Signal A (Bool -> Bool)`
 abbrev pub functions : TypeTree
 functions = signal (domain 0) (fun bool bool)
 

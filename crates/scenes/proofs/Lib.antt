@@ -3,3 +3,4 @@ pub mod Names
 pub mod NoMade
 pub mod PutMade
 pub mod Settings
+pub mod Shown
