@@ -3,13 +3,19 @@
 //! `check TEXT` and `emit TEXT` are these commands on a file of this text. `accepts TEXT` is `check`, of which the text isn't shown, and
 //! `both TEXT` is `check` and `emit`, which are to answer alike. `words "WORD" .. TEXT` has all words between quotation marks. `absent`,
 //! `unread`, `unwritten` and `untold` are `emit` where no file has the name, or where the file, the text or the line is at fault.
+//!
+//! `run VERILOG %% STIM` is this command on two files of these texts, and `files "WORD" .. VERILOG %% STIM` has other words, where the
+//! files are `v` and `s`. `fails N N N VERILOG %% STIM` is `run` where a call of the shelf, of the output and of the error output fails,
+//! by their numbers from 0, and shows how many bytes were written.
 #![tactic(auto)]
 
+mod nets;
 mod run;
 
 use chw_base::{Name, NoMemory, Or};
+use nets::{put_failing, put_net, put_words_on_files};
 use row_tables::{Unread, bytes_of, print_rows, words_of};
-use run::{Given, put_run};
+use run::{Fails, NONE, Shown, one_file, put_run};
 use std::alloc::Global;
 use std::io;
 
@@ -23,6 +29,9 @@ fn answer(alloc: Global, call: &str, text: &str, out: &mut Vec<u8>) -> Result<()
         "words" => put_words(alloc, text, out),
         "both" => put_both(alloc, text, out),
         "check" | "accepts" => put_command(alloc, "check", call, text, out),
+        "run" => put_net(alloc, text, out),
+        "fails" => put_failing(alloc, text, out),
+        "files" => put_words_on_files(alloc, text, out),
         _ => put_command(alloc, "emit", call, text, out),
     }
 }
@@ -32,15 +41,8 @@ fn put_words(alloc: Global, row: &str, out: &mut Vec<u8>) -> Result<(), Or<Unrea
     let words = words_of(alloc, row)?;
     let (_, text) = row.rsplit_once('"').unwrap_or(("", row));
     let text = bytes_of(alloc, text.trim_start())?;
-    Ok(put_run(
-        alloc,
-        words.as_slice(),
-        &Given {
-            text: &text,
-            call: "words",
-        },
-        out,
-    )?)
+    let files = one_file(alloc, "a.chw", &text)?;
+    Ok(put_run(alloc, words.as_slice(), files, &NONE, Shown::Text, out)?)
 }
 
 // Writes what is answered to a command.
@@ -53,7 +55,41 @@ fn put_command(
 ) -> Result<(), Or<Unread>> {
     let text = bytes_of(alloc, text)?;
     let words = words(alloc, command)?;
-    Ok(put_run(alloc, words.as_slice(), &Given { text: &text, call }, out)?)
+    let files = one_file(alloc, file_of(call), &text)?;
+    Ok(put_run(
+        alloc,
+        words.as_slice(),
+        files,
+        &fails_of(call),
+        shown_of(call),
+        out,
+    )?)
+}
+
+// The name of the file: another one for the call `absent`.
+fn file_of(call: &str) -> &'static str {
+    if call == "absent" { "b.chw" } else { "a.chw" }
+}
+
+// The call that fails, which the row's call names.
+fn fails_of(call: &str) -> Fails {
+    Fails {
+        shelf: first_if(call == "unread"),
+        out: first_if(call == "unwritten"),
+        err: first_if(call == "untold"),
+    }
+}
+
+fn first_if(fails: bool) -> Option<u32> {
+    if fails { Some(0) } else { None }
+}
+
+fn shown_of(call: &str) -> Shown {
+    if call == "accepts" {
+        Shown::Nothing
+    } else {
+        Shown::Text
+    }
 }
 
 // The words of a command on the file `a.chw`.

@@ -4,55 +4,74 @@ use chw_cli::top::top;
 use row_tables::{put, put_number};
 use std::alloc::Global;
 
-/// What a run is given beside its words: the text of the file, and the call of the row, which names what fails.
+/// The call of each object that fails, by its number from 0, if one does.
 #[derive(Clone, Copy)]
-pub struct Given<'a> {
-    pub text: &'a [u8],
-    pub call: &'a str,
+pub struct Fails {
+    pub shelf: Option<u32>,
+    pub out: Option<u32>,
+    pub err: Option<u32>,
 }
 
-/// Writes what `top` answers: its status, its line, and in lines of their own what else it writes, but for the call `accepts`.
+/// No call fails.
+pub const NONE: Fails = Fails {
+    shelf: None,
+    out: None,
+    err: None,
+};
+
+/// What is shown of the text that a run writes.
+#[derive(Clone, Copy)]
+pub enum Shown {
+    Text,
+    Length,
+    Nothing,
+}
+
+/// Writes what `top` answers: its status, its line, and what is to be shown of the text that it writes.
 pub fn put_run(
     alloc: Global,
     words: &[Name],
-    given: &Given<'_>,
+    files: Vec<(Name, Vec<u8>)>,
+    fails: &Fails,
+    shown: Shown,
     answer: &mut Vec<u8>,
 ) -> Result<(), NoMemory> {
-    let mut shelf = shelf(alloc, given)?;
-    let mut out = sink(alloc, given.call == "unwritten")?;
-    let mut err = sink(alloc, given.call == "untold")?;
+    let mut shelf = MemShelf::new(files, failing(alloc, fails.shelf)?);
+    let mut out = MemSink::new(alloc, failing(alloc, fails.out)?);
+    let mut err = MemSink::new(alloc, failing(alloc, fails.err)?);
     let status = top(alloc, words, &mut shelf, &mut out, &mut err);
     put_number(answer, "", u32::from(status.code()))?;
     put_lines(answer, " ", err.bytes())?;
-    if given.call != "accepts" {
-        put_lines(answer, "\n", out.bytes())?;
+    match shown {
+        Shown::Text => put_lines(answer, "\n", out.bytes()),
+        Shown::Length => put_length(answer, out.bytes()),
+        Shown::Nothing => Ok(()),
     }
-    Ok(())
 }
 
-// The file, under the name that the words say or, for the call `absent`, under another.
-fn shelf(alloc: Global, given: &Given<'_>) -> Result<MemShelf, NoMemory> {
-    let name = if given.call == "absent" {
-        "b.chw"
-    } else {
-        "a.chw"
-    };
+/// The one file of a text.
+pub fn one_file(alloc: Global, name: &str, text: &[u8]) -> Result<Vec<(Name, Vec<u8>)>, NoMemory> {
     let mut files = Vec::new(alloc);
     files.push((
         Name::copy_of(alloc, name.as_bytes())?,
-        Vec::from_slice(alloc, given.text)?,
+        Vec::from_slice(alloc, text)?,
     ))?;
-    Ok(MemShelf::new(files, failing(alloc, given.call == "unread")?))
+    Ok(files)
 }
 
-fn sink(alloc: Global, fails: bool) -> Result<MemSink, NoMemory> {
-    Ok(MemSink::new(alloc, failing(alloc, fails)?))
+// The calls that fail: this one, or none.
+fn failing(alloc: Global, call: Option<u32>) -> Result<Vec<u32>, NoMemory> {
+    let mut calls = Vec::new(alloc);
+    if let Some(call) = call {
+        calls.push(call)?;
+    }
+    Ok(calls)
 }
 
-// The calls that fail: the first one, or none.
-fn failing(alloc: Global, fails: bool) -> Result<Vec<u32>, NoMemory> {
-    let calls: &[u32] = if fails { &[0] } else { &[] };
-    Ok(Vec::from_slice(alloc, calls)?)
+// Writes how many bytes a text has.
+fn put_length(answer: &mut Vec<u8>, text: &[u8]) -> Result<(), NoMemory> {
+    put_number(answer, "; ", chw_base::narrow(text.len())?)?;
+    put(answer, " bytes")
 }
 
 // Writes lines behind a sign and without the last line feed, and where there is none, a word of that.

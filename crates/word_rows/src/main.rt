@@ -1,6 +1,6 @@
 //! Rows of words, each with the command that they are.
 //!
-//! `words "WORD" .. "WORD"` gives the command with its file and its budget, `budget WORD` the budget that a word is.
+//! `words "WORD" .. "WORD"` gives the command with its files and its budget, `budget WORD` the budget that a word is.
 #![tactic(auto)]
 
 use chw_base::{NoMemory, Or};
@@ -31,6 +31,10 @@ fn put_command(alloc: Global, text: &str, out: &mut Vec<u8>) -> Result<(), Or<Un
             Ok(put_number(out, " with ", budget)?)
         }
         Ok(Command::Check { file }) => Ok(put_file(out, "check", file.as_slice())?),
+        Ok(Command::Run { verilog, stimulus }) => {
+            put_file(out, "run", verilog.as_slice())?;
+            Ok(put_file(out, "", stimulus.as_slice())?)
+        }
         Err(Or::Fault(WordsFault)) => Ok(put(out, "none")?),
         Err(Or::Memory) => Err(Or::Memory),
     }
