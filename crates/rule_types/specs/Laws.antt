@@ -3,6 +3,7 @@ use Rattle.std.specs.Prelude.{List, []}
 use Rattle.chw_types.specs.declared.declarations.Data.{Data}
 use Rattle.chw_types.specs.TypeTree.{TypeTree}
 use Rattle.chw_terms.specs.declared.rule.Rule.{Rule}
+use Rattle.chw_terms.specs.declared.rule.Rule.TheVariants.{Anf}
 use Rattle.chw_terms.specs.declared.term.Arg.{Arg}
 use Rattle.chw_terms.specs.TermTree.{TermTree}
 use Rattle.chw_terms.specs.TermView.{applied}
@@ -11,10 +12,12 @@ use Rattle.chw_typing.specs.Scopes.{AreTermTypes}
 use Rattle.chw_typing.specs.Typing.{HasType, HasTypeUpTo}
 use Rattle.scenes.specs.Origins.{Origins, setting_at}
 use Rattle.active_places.specs.Spots.{Spot}
+use Rattle.rewriting.specs.Calls.{OfWhole}
 use Rattle.rewriting.specs.Functions.{OfFunctions}
 use Rattle.rewriting.specs.Cases.{OfCases}
 use Rattle.rewriting.specs.Lets.{OfLets}
 use Rattle.rewriting.specs.Demanded.{OfDemanded}
+use Rattle.rewriting.specs.Operands.{OfOperands}
 
 -- a place where rules keep types: what terms are typed over is sound, and the variables in scope
 -- have types that terms have
@@ -89,3 +92,27 @@ abbrev pub DemandedKeepComplete : Type 0
 DemandedKeepComplete =
     (o : Origins) (at : Spot) (r : Rule) (e e' : TermTree)
     → OfDemanded o at r e e' → IsComplete o.program.datas e → IsComplete o.program.datas e'
+
+-- a name for an operand keeps types
+abbrev pub OperandsKeepType : Type 0
+OperandsKeepType =
+    (o : Origins) (at : Spot) (r : Rule) (e e' : TermTree)
+    → IsTypedPlace o at → OfOperands o at r e e' → KeepsType o at e e'
+
+-- and it keeps complete terms complete
+abbrev pub OperandsKeepComplete : Type 0
+OperandsKeepComplete =
+    (o : Origins) (at : Spot) (r : Rule) (e e' : TermTree)
+    → OfOperands o at r e e' → IsComplete o.program.datas e → IsComplete o.program.datas e'
+
+-- a name for an operand of a call, or for what a result place gives, keeps types
+abbrev pub NamesInWholesKeepType : Type 0
+NamesInWholesKeepType =
+    (o : Origins) (at : Spot) (e e' : TermTree)
+    → IsTypedPlace o at → OfWhole o at Anf e e' → KeepsType o at e e'
+
+-- and it keeps complete terms complete
+abbrev pub NamesInWholesKeepComplete : Type 0
+NamesInWholesKeepComplete =
+    (o : Origins) (at : Spot) (e e' : TermTree)
+    → OfWhole o at Anf e e' → IsComplete o.program.datas e → IsComplete o.program.datas e'

@@ -4,6 +4,8 @@ ghost use Rattle.rule_types.specs.Laws.{FunctionsKeepType, FunctionsKeepComplete
 ghost use Rattle.rule_types.specs.Laws.{CasesKeepType, CasesKeepComplete};
 ghost use Rattle.rule_types.specs.Laws.{LetsKeepType, LetsKeepComplete};
 ghost use Rattle.rule_types.specs.Laws.{DemandedKeepType, DemandedKeepComplete};
+ghost use Rattle.rule_types.specs.Laws.{OperandsKeepType, OperandsKeepComplete};
+ghost use Rattle.rule_types.specs.Laws.{NamesInWholesKeepType, NamesInWholesKeepComplete};
 
 /// A spine keeps its type, and stays complete, where its core does.
 pub fn cores_keep()
@@ -33,4 +35,16 @@ pub fn lets_keep()
 pub fn demanded_keep()
     ensures types { DemandedKeepType }
     ensures complete { DemandedKeepComplete }
+{}
+
+/// A name for an operand keeps types and complete terms.
+pub fn operands_keep()
+    ensures types { OperandsKeepType }
+    ensures complete { OperandsKeepComplete }
+{}
+
+/// A name for an operand of a call, or for what a result place gives, keeps types and complete terms.
+pub fn names_in_wholes_keep()
+    ensures types { NamesInWholesKeepType }
+    ensures complete { NamesInWholesKeepComplete }
 {}
