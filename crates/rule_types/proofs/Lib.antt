@@ -9,6 +9,7 @@ pub mod Functions
 pub mod Groups
 pub mod Lets
 pub mod LetsComplete
+pub mod Names
 pub mod Operands
 pub mod Projected
 pub mod Scrutinees

@@ -6,6 +6,9 @@ ghost use Rattle.rule_types.specs.Laws.{LetsKeepType, LetsKeepComplete};
 ghost use Rattle.rule_types.specs.Laws.{DemandedKeepType, DemandedKeepComplete};
 ghost use Rattle.rule_types.specs.Laws.{OperandsKeepType, OperandsKeepComplete};
 ghost use Rattle.rule_types.specs.Laws.{NamesInWholesKeepType, NamesInWholesKeepComplete};
+ghost use Rattle.rule_types.specs.Laws.{ScenesHaveTypedOrigins, NamesKeepType, NamesKeepComplete};
+
+use scenes::laws::settings_of_scenes;
 
 /// A spine keeps its type, and stays complete, where its core does.
 pub fn cores_keep()
@@ -48,3 +51,12 @@ pub fn names_in_wholes_keep()
     ensures types { NamesInWholesKeepType }
     ensures complete { NamesInWholesKeepComplete }
 {}
+
+/// What rules make of a definition's name keeps types and complete terms; so in a typed scene.
+pub fn names_keep()
+    ensures scenes { ScenesHaveTypedOrigins }
+    ensures types { NamesKeepType }
+    ensures complete { NamesKeepComplete }
+{
+    settings_of_scenes();
+}
