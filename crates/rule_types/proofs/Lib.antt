@@ -11,5 +11,7 @@ pub mod Lets
 pub mod LetsComplete
 pub mod Names
 pub mod Operands
+pub mod Primitives
 pub mod Projected
 pub mod Scrutinees
+pub mod Words

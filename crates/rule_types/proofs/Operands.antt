@@ -108,7 +108,7 @@ record NameTyped (s : Setting) (vars : List TypeTree) (e : TermTree) (path : Lis
   allows : (j : Kind) → HasKind s [] t j → HasFunctions j kind
   inside : HasTypeUpTo s [] (t ∷ vars) (with_part (shift e 0 1) path (var 0)) u
 
-element_kind : {s : Setting} {kinds : List Kind} {vars : List TypeTree} {t : TypeTree} {es : Terms} → AllHave s kinds vars t es → (i : ℕ) (a : TermTree) → element_at es i ≡ Some a → (u : TypeTree) × HasType s kinds vars a u × SameTypes t u
+pub element_kind : {s : Setting} {kinds : List Kind} {vars : List TypeTree} {t : TypeTree} {es : Terms} → AllHave s kinds vars t es → (i : ℕ) (a : TermTree) → element_at es i ≡ Some a → (u : TypeTree) × HasType s kinds vars a u × SameTypes t u
 element_kind none_have i a e = absurd cc
 element_kind {s} {kinds} {vars} (have_and {u = u} {e = x} d y ds) zero a e = let is : x ≡ a = cc in (u, subst (λ z. HasType s kinds vars z u) is d, y)
 element_kind (have_and d y ds) (suc i) a e = element_kind ds i a e

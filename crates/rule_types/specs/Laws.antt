@@ -23,6 +23,7 @@ use Rattle.rewriting.specs.Lets.{OfLets}
 use Rattle.rewriting.specs.Demanded.{OfDemanded}
 use Rattle.rewriting.specs.Names.{OfNames}
 use Rattle.rewriting.specs.Operands.{OfOperands}
+use Rattle.rewriting.specs.Primitives.{OfPrimitives}
 
 -- a place where rules keep types: what terms are typed over is sound, and the variables in scope
 -- have types that terms have
@@ -148,3 +149,9 @@ NamesKeepComplete =
     (o : Origins) (at : Spot) (r : Rule) (e e' : TermTree)
     → AreTypedOrigins o → OfNames o at r e e'
     → IsComplete o.program.datas e → IsComplete o.program.datas e'
+
+-- what is made of a primitive on vectors, and of one on words, keeps types
+abbrev pub PrimitivesKeepType : Type 0
+PrimitivesKeepType =
+    (o : Origins) (at : Spot) (r : Rule) (e e' : TermTree)
+    → IsTypedPlace o at → OfPrimitives o at r e e' → KeepsType o at e e'
