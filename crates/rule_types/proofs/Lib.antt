@@ -12,6 +12,7 @@ pub mod LetsComplete
 pub mod Names
 pub mod Operands
 pub mod Primitives
+pub mod PrimitivesComplete
 pub mod Projected
 pub mod Scrutinees
 pub mod Words

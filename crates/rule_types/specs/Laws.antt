@@ -155,3 +155,10 @@ abbrev pub PrimitivesKeepType : Type 0
 PrimitivesKeepType =
     (o : Origins) (at : Spot) (r : Rule) (e e' : TermTree)
     → IsTypedPlace o at → OfPrimitives o at r e e' → KeepsType o at e e'
+
+-- and it keeps complete terms complete
+abbrev pub PrimitivesKeepComplete : Type 0
+PrimitivesKeepComplete =
+    (o : Origins) (at : Spot) (r : Rule) (e e' : TermTree)
+    → IsTypedPlace o at → OfPrimitives o at r e e'
+    → IsComplete o.program.datas e → IsComplete o.program.datas e'

@@ -7,7 +7,7 @@ ghost use Rattle.rule_types.specs.Laws.{DemandedKeepType, DemandedKeepComplete};
 ghost use Rattle.rule_types.specs.Laws.{OperandsKeepType, OperandsKeepComplete};
 ghost use Rattle.rule_types.specs.Laws.{NamesInWholesKeepType, NamesInWholesKeepComplete};
 ghost use Rattle.rule_types.specs.Laws.{ScenesHaveTypedOrigins, NamesKeepType, NamesKeepComplete};
-ghost use Rattle.rule_types.specs.Laws.{PrimitivesKeepType};
+ghost use Rattle.rule_types.specs.Laws.{PrimitivesKeepType, PrimitivesKeepComplete};
 
 use scenes::laws::settings_of_scenes;
 
@@ -62,7 +62,8 @@ pub fn names_keep()
     settings_of_scenes();
 }
 
-/// What rules make of a primitive on vectors, and of one on words, keeps types.
+/// What rules make of a primitive on vectors, and of one on words, keeps types and complete terms.
 pub fn primitives_keep()
     ensures types { PrimitivesKeepType }
+    ensures complete { PrimitivesKeepComplete }
 {}
