@@ -43,7 +43,7 @@ placed d x (k ∷ ks) others (suc c) it e = next (placed d x ks others c it e)
     next (inr h) = inr (h.0, omega (arith, h.1), h.2)
 
 -- data types are numbered from the first on
-from_first : (d : ℕ) (datas : List Data) (c : ℕ) (it : Constructor) → slice_get (constructors_from d datas) c ≡ Some it → d ≤ it.of
+pub from_first : (d : ℕ) (datas : List Data) (c : ℕ) (it : Constructor) → slice_get (constructors_from d datas) c ≡ Some it → d ≤ it.of
 from_first d [] c it e = absurd (cc)
 from_first d (x ∷ more) c it e = by (from_first (suc d) more) (placed d x x.cons (constructors_from (suc d) more) c it e)
   where
@@ -86,20 +86,20 @@ port_covered {datas} (of_con {d = d} {c = b} {ts = ts} it at of count) c n is po
 port_covered (of_lit l x) c n is port e = absurd (cc)
 port_covered of_any c n is port e = absurd (cc)
 
-abbrev EachTermComplete : List Data → List TermTree → Type 0
+abbrev pub EachTermComplete : List Data → List TermTree → Type 0
 EachTermComplete datas es = AllByRecursion (IsComplete datas) es
 
-named_complete : (datas : List Data) (ts : List TypeTree) (es : List TermTree) → EachTermComplete datas es → GroupIsComplete datas (named ts es)
+pub named_complete : (datas : List Data) (ts : List TypeTree) (es : List TermTree) → EachTermComplete datas es → GroupIsComplete datas (named ts es)
 named_complete datas [] [] h = tt
 named_complete datas [] (e ∷ es) h = tt
 named_complete datas (t ∷ ts) [] h = tt
 named_complete datas (t ∷ ts) (e ∷ es) h = (h.0, named_complete datas ts es h.1)
 
-shifted_complete : (datas : List Data) (n : ℕ) (es : List TermTree) → EachTermComplete datas es → EachTermComplete datas (map (λ e. shift e 0 n) es)
+pub shifted_complete : (datas : List Data) (n : ℕ) (es : List TermTree) → EachTermComplete datas es → EachTermComplete datas (map (λ e. shift e 0 n) es)
 shifted_complete datas n [] h = tt
 shifted_complete datas n (e ∷ es) h = (renamed_complete datas e (raised 0 n) h.0, shifted_complete datas n es h.1)
 
-counted_complete : (datas : List Data) (f : ℕ → TermTree) → ((i : ℕ) → IsComplete datas (f i)) → (xs : List ℕ) → EachTermComplete datas (map f xs)
+pub counted_complete : (datas : List Data) (f : ℕ → TermTree) → ((i : ℕ) → IsComplete datas (f i)) → (xs : List ℕ) → EachTermComplete datas (map f xs)
 counted_complete datas f h [] = tt
 counted_complete datas f h (x ∷ xs) = (h x, counted_complete datas f h xs)
 
@@ -107,7 +107,7 @@ given_terms_complete : (datas : List Data) (es : List TermTree) → ArgsComplete
 given_terms_complete datas [] h = tt
 given_terms_complete datas (e ∷ es) h = (h.0, given_terms_complete datas es h.1)
 
-given_complete : (datas : List Data) (types : List TypeTree) (es : List TermTree) → ArgsComplete datas (types_then types es) → EachTermComplete datas es
+pub given_complete : (datas : List Data) (types : List TypeTree) (es : List TermTree) → ArgsComplete datas (types_then types es) → EachTermComplete datas es
 given_complete datas [] es h = given_terms_complete datas es h
 given_complete datas (t ∷ types) es h = given_complete datas types es h.1
 

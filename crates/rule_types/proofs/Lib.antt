@@ -1,3 +1,4 @@
+pub mod Arguments
 pub mod Bodies
 pub mod Cases
 pub mod CasesComplete
@@ -8,5 +9,10 @@ pub mod Functions
 pub mod Groups
 pub mod Lets
 pub mod LetsComplete
+pub mod Names
+pub mod Operands
+pub mod Primitives
+pub mod PrimitivesComplete
 pub mod Projected
 pub mod Scrutinees
+pub mod Words

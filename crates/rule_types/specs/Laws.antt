@@ -1,26 +1,49 @@
 -- What is promised of the types of what rules make.
-use Rattle.std.specs.Prelude.{List, []}
+use Rattle.std.specs.Prelude.{◌≡◌, ℕ, List, [], Some}
+use Rattle.std.specs.List.{slice_get}
 use Rattle.chw_types.specs.declared.declarations.Data.{Data}
 use Rattle.chw_types.specs.TypeTree.{TypeTree}
+use Rattle.chw_terms.specs.declared.program.Def.{Def}
 use Rattle.chw_terms.specs.declared.rule.Rule.{Rule}
+use Rattle.chw_terms.specs.declared.rule.Rule.TheVariants.{Anf}
+use Rattle.chw_terms.specs.declared.scene.Scene.{Scene}
 use Rattle.chw_terms.specs.declared.term.Arg.{Arg}
 use Rattle.chw_terms.specs.TermTree.{TermTree}
 use Rattle.chw_terms.specs.TermView.{applied}
 use Rattle.chw_typing.specs.Programs.{IsComplete, IsSound}
 use Rattle.chw_typing.specs.Scopes.{AreTermTypes}
 use Rattle.chw_typing.specs.Typing.{HasType, HasTypeUpTo}
-use Rattle.scenes.specs.Origins.{Origins, setting_at}
+use Rattle.scenes.specs.Origins.{MadeOf, Origins, origins_of, setting_at}
+use Rattle.scenes.specs.Typed.{IsTypedScene}
 use Rattle.active_places.specs.Spots.{Spot}
+use Rattle.rewriting.specs.Calls.{OfWhole}
 use Rattle.rewriting.specs.Functions.{OfFunctions}
 use Rattle.rewriting.specs.Cases.{OfCases}
 use Rattle.rewriting.specs.Lets.{OfLets}
 use Rattle.rewriting.specs.Demanded.{OfDemanded}
+use Rattle.rewriting.specs.Names.{OfNames}
+use Rattle.rewriting.specs.Operands.{OfOperands}
+use Rattle.rewriting.specs.Primitives.{OfPrimitives}
 
 -- a place where rules keep types: what terms are typed over is sound, and the variables in scope
 -- have types that terms have
 pub record IsTypedPlace (o : Origins) (at : Spot) : Type 0 where
   pub sound : IsSound (setting_at o)
   pub vars : AreTermTypes (setting_at o) [] at.vars
+
+-- the bodies of definitions and the origins of made definitions are closed, complete, and of the
+-- types that terms see, up to naturals
+pub record AreTypedOrigins (o : Origins) : Type 0 where
+  pub sound : IsSound (setting_at o)
+  pub bodies : (d : ℕ) (it : Def) → slice_get o.program.defs d ≡ Some it
+      → HasTypeUpTo (setting_at o) [] [] it.body it.ty × IsComplete o.program.datas it.body
+  pub origins : (m : ℕ) (it : MadeOf) → slice_get o.made m ≡ Some it
+      → HasTypeUpTo (setting_at o) [] [] it.origin it.ty × IsComplete o.program.datas it.origin
+
+-- so in a typed scene
+abbrev pub ScenesHaveTypedOrigins : Type 0
+ScenesHaveTypedOrigins =
+    (scene : Scene) → IsTypedScene scene → AreTypedOrigins (origins_of scene)
 
 -- at this place the second term has, up to naturals, each type of the first
 abbrev pub KeepsType : Origins → Spot → TermTree → TermTree → Type 0
@@ -89,3 +112,53 @@ abbrev pub DemandedKeepComplete : Type 0
 DemandedKeepComplete =
     (o : Origins) (at : Spot) (r : Rule) (e e' : TermTree)
     → OfDemanded o at r e e' → IsComplete o.program.datas e → IsComplete o.program.datas e'
+
+-- a name for an operand keeps types
+abbrev pub OperandsKeepType : Type 0
+OperandsKeepType =
+    (o : Origins) (at : Spot) (r : Rule) (e e' : TermTree)
+    → IsTypedPlace o at → OfOperands o at r e e' → KeepsType o at e e'
+
+-- and it keeps complete terms complete
+abbrev pub OperandsKeepComplete : Type 0
+OperandsKeepComplete =
+    (o : Origins) (at : Spot) (r : Rule) (e e' : TermTree)
+    → OfOperands o at r e e' → IsComplete o.program.datas e → IsComplete o.program.datas e'
+
+-- a name for an operand of a call, or for what a result place gives, keeps types
+abbrev pub NamesInWholesKeepType : Type 0
+NamesInWholesKeepType =
+    (o : Origins) (at : Spot) (e e' : TermTree)
+    → IsTypedPlace o at → OfWhole o at Anf e e' → KeepsType o at e e'
+
+-- and it keeps complete terms complete
+abbrev pub NamesInWholesKeepComplete : Type 0
+NamesInWholesKeepComplete =
+    (o : Origins) (at : Spot) (e e' : TermTree)
+    → OfWhole o at Anf e e' → IsComplete o.program.datas e → IsComplete o.program.datas e'
+
+-- what is made of a definition's name keeps types
+abbrev pub NamesKeepType : Type 0
+NamesKeepType =
+    (o : Origins) (at : Spot) (r : Rule) (e e' : TermTree)
+    → AreTypedOrigins o → IsTypedPlace o at → OfNames o at r e e' → KeepsType o at e e'
+
+-- and it keeps complete terms complete
+abbrev pub NamesKeepComplete : Type 0
+NamesKeepComplete =
+    (o : Origins) (at : Spot) (r : Rule) (e e' : TermTree)
+    → AreTypedOrigins o → OfNames o at r e e'
+    → IsComplete o.program.datas e → IsComplete o.program.datas e'
+
+-- what is made of a primitive on vectors, and of one on words, keeps types
+abbrev pub PrimitivesKeepType : Type 0
+PrimitivesKeepType =
+    (o : Origins) (at : Spot) (r : Rule) (e e' : TermTree)
+    → IsTypedPlace o at → OfPrimitives o at r e e' → KeepsType o at e e'
+
+-- and it keeps complete terms complete
+abbrev pub PrimitivesKeepComplete : Type 0
+PrimitivesKeepComplete =
+    (o : Origins) (at : Spot) (r : Rule) (e e' : TermTree)
+    → IsTypedPlace o at → OfPrimitives o at r e e'
+    → IsComplete o.program.datas e → IsComplete o.program.datas e'

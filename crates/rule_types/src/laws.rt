@@ -4,6 +4,12 @@ ghost use Rattle.rule_types.specs.Laws.{FunctionsKeepType, FunctionsKeepComplete
 ghost use Rattle.rule_types.specs.Laws.{CasesKeepType, CasesKeepComplete};
 ghost use Rattle.rule_types.specs.Laws.{LetsKeepType, LetsKeepComplete};
 ghost use Rattle.rule_types.specs.Laws.{DemandedKeepType, DemandedKeepComplete};
+ghost use Rattle.rule_types.specs.Laws.{OperandsKeepType, OperandsKeepComplete};
+ghost use Rattle.rule_types.specs.Laws.{NamesInWholesKeepType, NamesInWholesKeepComplete};
+ghost use Rattle.rule_types.specs.Laws.{ScenesHaveTypedOrigins, NamesKeepType, NamesKeepComplete};
+ghost use Rattle.rule_types.specs.Laws.{PrimitivesKeepType, PrimitivesKeepComplete};
+
+use scenes::laws::settings_of_scenes;
 
 /// A spine keeps its type, and stays complete, where its core does.
 pub fn cores_keep()
@@ -33,4 +39,31 @@ pub fn lets_keep()
 pub fn demanded_keep()
     ensures types { DemandedKeepType }
     ensures complete { DemandedKeepComplete }
+{}
+
+/// A name for an operand keeps types and complete terms.
+pub fn operands_keep()
+    ensures types { OperandsKeepType }
+    ensures complete { OperandsKeepComplete }
+{}
+
+/// A name for an operand of a call, or for what a result place gives, keeps types and complete terms.
+pub fn names_in_wholes_keep()
+    ensures types { NamesInWholesKeepType }
+    ensures complete { NamesInWholesKeepComplete }
+{}
+
+/// What rules make of a definition's name keeps types and complete terms; so in a typed scene.
+pub fn names_keep()
+    ensures scenes { ScenesHaveTypedOrigins }
+    ensures types { NamesKeepType }
+    ensures complete { NamesKeepComplete }
+{
+    settings_of_scenes();
+}
+
+/// What rules make of a primitive on vectors, and of one on words, keeps types and complete terms.
+pub fn primitives_keep()
+    ensures types { PrimitivesKeepType }
+    ensures complete { PrimitivesKeepComplete }
 {}
