@@ -1,0 +1,4 @@
+pub mod Choices
+pub mod Frames
+pub mod Moves
+pub mod Outside

@@ -1,0 +1,19 @@
+//! Laws of the meaning of rules on cases, each as the contract of a call that does nothing.
+ghost use Rattle.act_cases.specs.Laws.{CaseAppActs, CaseTypeAppActs, CaseCaseActs};
+
+use chw_typing::laws::typed_is_sound;
+
+/// A case on an argument or on a type acts so with the argument inside.
+pub fn app_case_acts()
+    ensures terms { CaseAppActs }
+    ensures types { CaseTypeAppActs }
+{
+    typed_is_sound();
+}
+
+/// A case of a case acts so with the outer one inside.
+pub fn case_case_acts()
+    ensures { CaseCaseActs }
+{
+    typed_is_sound();
+}
