@@ -1,11 +1,15 @@
 -- What is promised of rules on cases: what they make of a typed term acts as the term.
-use Rattle.std.specs.Prelude.{ℕ}
+use Rattle.std.specs.Prelude.{◌≡◌, ℕ, List, Some, slice_get, set}
 use Rattle.chw_types.specs.TypeTree.{TypeTree}
+use Rattle.chw_prims.specs.declared.prim.Primitive.{Primitive as Prim}
+use Rattle.chw_terms.specs.declared.term.Arg.{Arg}
+use Rattle.chw_terms.specs.declared.term.Arg.TheVariants.{OfTerm}
 use Rattle.chw_terms.specs.TermMoves.{shift}
-use Rattle.chw_terms.specs.TermTree.{TermTree, var, app, ty_app, letrec}
-use Rattle.chw_terms.specs.TermTree.{no_bindings, bind, case_of, Alts}
+use Rattle.chw_terms.specs.TermTree.{TermTree, var, app, ty_app, letrec, prim}
+use Rattle.chw_terms.specs.TermTree.{Group, no_bindings, bind, size_of, case_of, Alts}
+use Rattle.chw_terms.specs.TermView.{applied}
 use Rattle.group_laws.specs.Groups.{each_body}
-use Rattle.rewriting.specs.Shapes.{shift_alts}
+use Rattle.rewriting.specs.Shapes.{shift_alts, shift_args}
 use Rattle.act_rules.specs.Laws.{KeepsMeaning}
 
 -- `(case e of { p -> f; .. }) a` becomes `letrec { x : t = a; } in case e of { p -> f x; .. }`
@@ -31,3 +35,21 @@ CaseCaseActs =
     → KeepsMeaning
     (case_of e (each_body (λ n f. case_of f (shift_alts alts 0 n)) inner))
     (case_of (case_of e inner) alts)
+
+-- `q .. (letrec { g } in e) ..` becomes `letrec { g } in q .. e ..`
+abbrev pub PrimLetActs : Type 0
+PrimLetActs =
+    (q : Prim) (args : List Arg) (i : ℕ) (g : Group) (e : TermTree)
+    → slice_get args i ≡ Some (OfTerm (letrec g e))
+    → KeepsMeaning
+    (letrec g (applied (prim q) (set (shift_args args 0 (size_of g)) i (OfTerm e))))
+    (applied (prim q) args)
+
+-- `q .. (case e of { p -> f; .. }) ..` becomes `case e of { p -> q .. f ..; .. }`
+abbrev pub PrimCaseActs : Type 0
+PrimCaseActs =
+    (q : Prim) (args : List Arg) (i : ℕ) (e : TermTree) (alts : Alts)
+    → slice_get args i ≡ Some (OfTerm (case_of e alts))
+    → KeepsMeaning
+    (case_of e (each_body (λ n f. applied (prim q) (set (shift_args args 0 n) i (OfTerm f))) alts))
+    (applied (prim q) args)

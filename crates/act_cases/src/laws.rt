@@ -1,5 +1,5 @@
 //! Laws of the meaning of rules on cases, each as the contract of a call that does nothing.
-ghost use Rattle.act_cases.specs.Laws.{CaseAppActs, CaseTypeAppActs, CaseCaseActs};
+ghost use Rattle.act_cases.specs.Laws.{CaseAppActs, CaseTypeAppActs, CaseCaseActs, PrimLetActs, PrimCaseActs};
 
 use chw_typing::laws::typed_is_sound;
 
@@ -14,6 +14,14 @@ pub fn app_case_acts()
 /// A case of a case acts so with the outer one inside.
 pub fn case_case_acts()
     ensures { CaseCaseActs }
+{
+    typed_is_sound();
+}
+
+/// A primitive on a letrec or on a case acts so inside.
+pub fn prim_argument_acts()
+    ensures lets { PrimLetActs }
+    ensures cases { PrimCaseActs }
 {
     typed_is_sound();
 }
