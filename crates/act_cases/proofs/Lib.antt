@@ -1,6 +1,10 @@
 pub mod Arguments
 pub mod Choices
+pub mod Constructed
 pub mod Frames
 pub mod Moves
+pub mod Named
 pub mod Outside
+pub mod Places
 pub mod Spines
+pub mod Taken
