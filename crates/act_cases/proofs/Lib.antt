@@ -2,6 +2,8 @@ pub mod Arguments
 pub mod Choices
 pub mod Constructed
 pub mod Frames
+pub mod Known
+pub mod Literals
 pub mod Moves
 pub mod Named
 pub mod Outside

@@ -141,8 +141,8 @@ module _ (p : Program) (sound : IsSound (setting_of p)) (typed : IsTyped p) (typ
             has_first = member_at members γ' δ x j (place ∙ lengths ∙ sym counts);
             has_second = second.1;
             acts = member_runs l (closed_type u δ) members j (with_origins o (shift one.term 0 (length es))) γ' δ (thunk_has p second.0)
-            (body_named o us shifted j (shift one.term 0 (length es)) whole (found_in_map (λ a. shift a 0 (length es)) es j one.term one.is))
-            (runs_more l (closed_type u δ) (term_runs p (with_origins o (shift one.term 0 (length es))) Γ δ) (term_has p (with_origins o one.term) γ δ) (thunk_has p second.0) second.2 side);
+                (body_named o us shifted j (shift one.term 0 (length es)) whole (found_in_map (λ a. shift a 0 (length es)) es j one.term one.is))
+                (runs_more l (closed_type u δ) (term_runs p (with_origins o (shift one.term 0 (length es))) Γ δ) (term_has p (with_origins o one.term) γ δ) (thunk_has p second.0) second.2 side);
           }
       look x u (inr (y, place, found)) =
           let k = names y u found in

@@ -1,16 +1,35 @@
 -- What is promised of rules on cases: what they make of a typed term acts as the term.
-use Rattle.std.specs.Prelude.{◌≡◌, ℕ, List, Some, slice_get, set}
+use Rattle.std.specs.Prelude.{◌≡◌, ℕ, Bool, List, length, Some, slice_get, set}
+use Rattle.chw_types.specs.declared.kind.Kind.{Kind}
+use Rattle.chw_types.specs.declared.kind.Scalar.{Scalar}
 use Rattle.chw_types.specs.TypeTree.{TypeTree}
 use Rattle.chw_prims.specs.declared.prim.Primitive.{Primitive as Prim}
+use Rattle.chw_terms.specs.Constructors.{Constructor, con_at}
+use Rattle.chw_terms.specs.declared.program.Program.{Program}
 use Rattle.chw_terms.specs.declared.term.Arg.{Arg}
 use Rattle.chw_terms.specs.declared.term.Arg.TheVariants.{OfTerm}
+use Rattle.chw_terms.specs.declared.term.Pattern.TheVariants.{OfCon, OfLit, Default}
 use Rattle.chw_terms.specs.TermMoves.{shift}
-use Rattle.chw_terms.specs.TermTree.{TermTree, var, app, ty_app, letrec, prim}
-use Rattle.chw_terms.specs.TermTree.{Group, no_bindings, bind, size_of, case_of, Alts}
+use Rattle.chw_terms.specs.TermTree.{TermTree, var, app, ty_app, letrec, con, prim, lit}
+use Rattle.chw_terms.specs.TermTree.{Group, no_bindings, bind, size_of, case_of, Alts, no_alts, alt}
 use Rattle.chw_terms.specs.TermView.{applied}
+use Rattle.chw_typing.specs.Scopes.{AreTermTypes}
+use Rattle.chw_typing.specs.Typing.{HasType}
 use Rattle.group_laws.specs.Groups.{each_body}
-use Rattle.rewriting.specs.Shapes.{shift_alts, shift_args}
-use Rattle.act_rules.specs.Laws.{KeepsMeaning}
+use Rattle.term_paths.specs.Paths.{Branch}
+use Rattle.spine_types.specs.Given.{types_then}
+use Rattle.rewriting.specs.Shapes.{IsTakenBy, shift_alts, shift_args, with_fields}
+use Rattle.acts.specs.Terms.{ActsUnder, with_origins, setting_with}
+use Rattle.act_rules.specs.Laws.{HasOrigins, KeepsMeaning}
+
+-- where the second term is typed in this program, the first acts as it
+abbrev pub KeepsMeaningIn : Program → TermTree → TermTree → Type 0
+KeepsMeaningIn p e' e =
+    (types : List TypeTree) (o : ℕ → TermTree)
+    (kinds : List Kind) (vars : List TypeTree) (t : TypeTree)
+    → HasOrigins p types o
+    → AreTermTypes (setting_with p types) kinds vars → HasType (setting_with p types) kinds vars e t
+    → ActsUnder p kinds vars (with_origins o e') (with_origins o e) t
 
 -- `(case e of { p -> f; .. }) a` becomes `letrec { x : t = a; } in case e of { p -> f x; .. }`
 abbrev pub CaseAppActs : Type 0
@@ -35,6 +54,31 @@ CaseCaseActs =
     → KeepsMeaning
     (case_of e (each_body (λ n f. case_of f (shift_alts alts 0 n)) inner))
     (case_of (case_of e inner) alts)
+
+-- `case c @.. e .. of { .. c x .. -> f; .. }` becomes `letrec { x = e; .. } in f`, by the first
+-- alternative that takes c; where it binds nothing, f
+abbrev pub CaseConActs : Type 0
+CaseConActs =
+    (p : Program) (c : ℕ) (it : Constructor) (us types : List TypeTree) (es : List TermTree)
+    (alts : Alts) (b : Branch)
+    → con_at p.datas c ≡ Some it
+    → length types ≡ length it.it.params → length es ≡ length it.decl.fields
+    → length us ≡ length es
+    → IsTakenBy (OfCon (record { number = c }) (length es)) alts b
+    → KeepsMeaningIn p
+    (with_fields b.pattern us es b.body) (case_of (applied (con c) (types_then types es)) alts)
+
+-- a case of a literal becomes the body of the first alternative that takes it
+abbrev pub CaseLitActs : Type 0
+CaseLitActs =
+    (r : Scalar) (bits : List Bool) (alts : Alts) (b : Branch)
+    → IsTakenBy (OfLit r bits) alts b
+    → KeepsMeaning b.body (case_of (lit r bits) alts)
+
+-- `case e of { _ -> f; }` becomes f
+abbrev pub CaseDefaultActs : Type 0
+CaseDefaultActs =
+    (e f : TermTree) → KeepsMeaning f (case_of e (alt Default f no_alts))
 
 -- `q .. (letrec { g } in e) ..` becomes `letrec { g } in q .. e ..`
 abbrev pub PrimLetActs : Type 0

@@ -1,5 +1,5 @@
 //! Laws of the meaning of rules on cases, each as the contract of a call that does nothing.
-ghost use Rattle.act_cases.specs.Laws.{CaseAppActs, CaseTypeAppActs, CaseCaseActs, PrimLetActs, PrimCaseActs};
+ghost use Rattle.act_cases.specs.Laws.{CaseAppActs, CaseTypeAppActs, CaseCaseActs, CaseConActs, CaseLitActs, CaseDefaultActs, PrimLetActs, PrimCaseActs};
 
 use chw_typing::laws::typed_is_sound;
 
@@ -22,6 +22,15 @@ pub fn case_case_acts()
 pub fn prim_argument_acts()
     ensures lets { PrimLetActs }
     ensures cases { PrimCaseActs }
+{
+    typed_is_sound();
+}
+
+/// A case of what has a constructor, or of a literal, acts so by the alternative that takes it; so does a default alone.
+pub fn known_case_acts()
+    ensures constructors { CaseConActs }
+    ensures literals { CaseLitActs }
+    ensures defaults { CaseDefaultActs }
 {
     typed_is_sound();
 }
