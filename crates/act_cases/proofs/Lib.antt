@@ -8,5 +8,6 @@ pub mod Moves
 pub mod Named
 pub mod Outside
 pub mod Places
+pub mod Projected
 pub mod Spines
 pub mod Taken

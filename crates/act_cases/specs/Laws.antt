@@ -1,7 +1,9 @@
 -- What is promised of rules on cases: what they make of a typed term acts as the term.
 use Rattle.std.specs.Prelude.{◌≡◌, ℕ, Bool, List, length, Some, slice_get, set}
+use Rattle.chw_base.specs.declared.index.ConId.{ConId}
 use Rattle.chw_types.specs.declared.kind.Kind.{Kind}
 use Rattle.chw_types.specs.declared.kind.Scalar.{Scalar}
+use Rattle.chw_types.specs.Ports.{IsPort}
 use Rattle.chw_types.specs.TypeTree.{TypeTree}
 use Rattle.chw_prims.specs.declared.prim.Primitive.{Primitive as Prim}
 use Rattle.chw_terms.specs.Constructors.{Constructor, con_at}
@@ -13,12 +15,15 @@ use Rattle.chw_terms.specs.TermMoves.{shift}
 use Rattle.chw_terms.specs.TermTree.{TermTree, var, app, ty_app, letrec, con, prim, lit}
 use Rattle.chw_terms.specs.TermTree.{Group, no_bindings, bind, size_of, case_of, Alts, no_alts, alt}
 use Rattle.chw_terms.specs.TermView.{applied}
+use Rattle.chw_terms.specs.Unrolled.{named}
+use Rattle.chw_typing.specs.HeadTypes.{PatternOf}
 use Rattle.chw_typing.specs.Scopes.{AreTermTypes}
 use Rattle.chw_typing.specs.Typing.{HasType}
 use Rattle.group_laws.specs.Groups.{each_body}
 use Rattle.term_paths.specs.Paths.{Branch}
 use Rattle.spine_types.specs.Given.{types_then}
 use Rattle.rewriting.specs.Shapes.{IsTakenBy, shift_alts, shift_args, with_fields}
+use Rattle.rewriting.specs.Shapes.{or_body, projections}
 use Rattle.acts.specs.Terms.{ActsUnder, with_origins, setting_with}
 use Rattle.act_rules.specs.Laws.{HasOrigins, KeepsMeaning}
 
@@ -79,6 +84,16 @@ CaseLitActs =
 abbrev pub CaseDefaultActs : Type 0
 CaseDefaultActs =
     (e f : TermTree) → KeepsMeaning f (case_of e (alt Default f no_alts))
+
+-- where x is a port, `case x of { c y .. -> e; .. }` becomes
+-- `letrec { y = case x of { c y .. -> y; }; .. } in e`; where it binds nothing, e
+abbrev pub ProjectionsAct : Type 0
+ProjectionsAct =
+    (p : Program) (t : TypeTree) (fields : List TypeTree) (x n : ℕ) (c : ConId)
+    (e : TermTree) (more : Alts)
+    → IsPort p.datas t → PatternOf p.datas t (OfCon c n) fields
+    → KeepsMeaningIn p
+    (or_body (named fields (projections c n x)) e) (case_of (var x) (alt (OfCon c n) e more))
 
 -- `q .. (letrec { g } in e) ..` becomes `letrec { g } in q .. e ..`
 abbrev pub PrimLetActs : Type 0

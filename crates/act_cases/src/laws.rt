@@ -1,5 +1,5 @@
 //! Laws of the meaning of rules on cases, each as the contract of a call that does nothing.
-ghost use Rattle.act_cases.specs.Laws.{CaseAppActs, CaseTypeAppActs, CaseCaseActs, CaseConActs, CaseLitActs, CaseDefaultActs, PrimLetActs, PrimCaseActs};
+ghost use Rattle.act_cases.specs.Laws.{CaseAppActs, CaseTypeAppActs, CaseCaseActs, CaseConActs, CaseLitActs, CaseDefaultActs, ProjectionsAct, PrimLetActs, PrimCaseActs};
 
 use chw_typing::laws::typed_is_sound;
 
@@ -31,6 +31,13 @@ pub fn known_case_acts()
     ensures constructors { CaseConActs }
     ensures literals { CaseLitActs }
     ensures defaults { CaseDefaultActs }
+{
+    typed_is_sound();
+}
+
+/// A case of a port acts so by its projections.
+pub fn projections_act()
+    ensures { ProjectionsAct }
 {
     typed_is_sound();
 }
