@@ -1,0 +1,13 @@
+pub mod Arguments
+pub mod Choices
+pub mod Constructed
+pub mod Frames
+pub mod Known
+pub mod Literals
+pub mod Moves
+pub mod Named
+pub mod Outside
+pub mod Places
+pub mod Projected
+pub mod Spines
+pub mod Taken

@@ -1,0 +1,43 @@
+//! Laws of the meaning of rules on cases, each as the contract of a call that does nothing.
+ghost use Rattle.act_cases.specs.Laws.{CaseAppActs, CaseTypeAppActs, CaseCaseActs, CaseConActs, CaseLitActs, CaseDefaultActs, ProjectionsAct, PrimLetActs, PrimCaseActs};
+
+use chw_typing::laws::typed_is_sound;
+
+/// A case on an argument or on a type acts so with the argument inside.
+pub fn app_case_acts()
+    ensures terms { CaseAppActs }
+    ensures types { CaseTypeAppActs }
+{
+    typed_is_sound();
+}
+
+/// A case of a case acts so with the outer one inside.
+pub fn case_case_acts()
+    ensures { CaseCaseActs }
+{
+    typed_is_sound();
+}
+
+/// A primitive on a letrec or on a case acts so inside.
+pub fn prim_argument_acts()
+    ensures lets { PrimLetActs }
+    ensures cases { PrimCaseActs }
+{
+    typed_is_sound();
+}
+
+/// A case of what has a constructor, or of a literal, acts so by the alternative that takes it; so does a default alone.
+pub fn known_case_acts()
+    ensures constructors { CaseConActs }
+    ensures literals { CaseLitActs }
+    ensures defaults { CaseDefaultActs }
+{
+    typed_is_sound();
+}
+
+/// A case of a port acts so by its projections.
+pub fn projections_act()
+    ensures { ProjectionsAct }
+{
+    typed_is_sound();
+}

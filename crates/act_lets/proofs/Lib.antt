@@ -1,0 +1,5 @@
+pub mod Flat
+pub mod Groups
+pub mod Rights
+pub mod Sides
+pub mod Turns

@@ -1,0 +1,25 @@
+-- What is promised of rules on groups of bindings: what they make of a typed term acts as the term.
+use Rattle.std.specs.Prelude.{ℕ, suc}
+use Rattle.chw_types.specs.TypeTree.{TypeTree}
+use Rattle.chw_terms.specs.TermMoves.{shift}
+use Rattle.chw_terms.specs.TermTree.{TermTree, letrec, Group, bind, size_of}
+use Rattle.group_laws.specs.Groups.{joined}
+use Rattle.rewriting.specs.Shapes.{shift_group}
+use Rattle.rewriting.specs.Lets.{side_joined}
+use Rattle.act_rules.specs.Laws.{KeepsMeaning}
+
+-- `letrec { g } in letrec { cs } in x` becomes `letrec { g cs } in x`
+abbrev pub LetInLetActs : Type 0
+LetInLetActs =
+    (g cs : Group) (x : TermTree)
+    → KeepsMeaning
+    (letrec (joined (shift_group g 0 (size_of cs)) cs) x) (letrec g (letrec cs x))
+
+-- `letrec { front y = letrec { cs } in x; back } in e` becomes
+-- `letrec { front cs y = x; back } in e`
+abbrev pub LetInSideActs : Type 0
+LetInSideActs =
+    (front : Group) (t : TypeTree) (cs : Group) (x : TermTree) (back : Group) (e : TermTree)
+    → KeepsMeaning
+    (letrec (side_joined front t cs x back) (shift e (suc (size_of back)) (size_of cs)))
+    (letrec (joined front (bind t (letrec cs x) back)) e)

@@ -1,0 +1,12 @@
+//! Laws of the meaning of rules on groups of bindings, each as the contract of a call that does nothing.
+ghost use Rattle.act_lets.specs.Laws.{LetInLetActs, LetInSideActs};
+
+use chw_typing::laws::typed_is_sound;
+
+/// A letrec that is the body or a right side of a letrec acts so joined with it.
+pub fn joined_lets_act()
+    ensures bodies { LetInLetActs }
+    ensures sides { LetInSideActs }
+{
+    typed_is_sound();
+}
