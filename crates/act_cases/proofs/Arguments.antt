@@ -21,7 +21,8 @@ use Rattle.rewriting.specs.Shapes.{shift_args}
 use Rattle.chw_meaning.specs.Values.{Thunks, count_of, closed_type, joined, in_group}
 use Rattle.acts.specs.Levels.{Levels, later, term_has}
 use Rattle.acts.specs.Acts.{acts_from}
-use Rattle.acts.specs.Terms.{TiedBy, Kinded, ActsUnder, OriginsTyped, with_origins, with_origins_group, with_origins_alts, setting_with}
+use Rattle.acts.specs.Terms.{TiedBy, Kinded, ActsUnder, OriginsTyped, setting_with}
+use Rattle.scenes.specs.Origins.{with_origins, with_origins_group, with_origins_alts}
 use Rattle.acts.proofs.Forms.{TermsAct}
 use Rattle.acts.proofs.Levels.{IsLevels, from_turns, at_later}
 use Rattle.acts.proofs.Tied.{tied_later}

@@ -19,7 +19,7 @@ use Rattle.chw_meaning.specs.Values.{History, con_head, Value, con_of, partial, 
 use Rattle.chw_meaning.specs.Steps.{gives, takes_types, takes_thunks, lacks, saturated, step, params_of, fields_of}
 use Rattle.chw_meaning.specs.Eval.{plus, Evals, e_app, e_ty_app, e_con, a_runs, t_runs, Runs, r_gives}
 use Rattle.chw_meaning.proofs.Once.{same_some}
-use Rattle.acts.specs.Terms.{with_origins}
+use Rattle.scenes.specs.Origins.{with_origins}
 use Rattle.act_cases.proofs.Places.{onto}
 use Rattle.act_cases.proofs.Spines.{origins_arg, origins_applied}
 

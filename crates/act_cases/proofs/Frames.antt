@@ -17,7 +17,8 @@ use Rattle.chw_meaning.specs.Values.{History, Value, closed, Thunks, none, count
 use Rattle.chw_meaning.specs.Eval.{plus, choice, Choice, goes_on, takes, looks, Arm, arm_of, Evals, e_goes_on, e_takes, e_looks}
 use Rattle.acts.specs.Levels.{Levels, later, Alike, Second, RunsAct, term_runs, term_has}
 use Rattle.acts.specs.Acts.{act_step, acts_from}
-use Rattle.acts.specs.Terms.{TiedBy, Kinded, OriginsTyped, with_origins, with_origins_alts, setting_with}
+use Rattle.acts.specs.Terms.{TiedBy, Kinded, OriginsTyped, setting_with}
+use Rattle.scenes.specs.Origins.{with_origins, with_origins_alts}
 use Rattle.acts.proofs.Arms.{Seen, seen}
 use Rattle.acts.proofs.Cases.{looked_alike}
 use Rattle.acts.proofs.Filled.{filled, filled_alts, filled_renamed_alts, variables_by, itself_keeps}

@@ -26,7 +26,8 @@ use Rattle.chw_meaning.specs.Values.{History, Value, bits, Thunks, none, closed_
 use Rattle.chw_meaning.specs.Eval.{choice, looks, same_bits, bound, Evals, e_lit, e_goes_on, e_looks}
 use Rattle.acts.specs.Levels.{term_runs, term_has}
 use Rattle.acts.specs.Acts.{acts_from}
-use Rattle.acts.specs.Terms.{TiedBy, Kinded, ActsUnder, OriginsTyped, with_origins, with_origins_alts, setting_with}
+use Rattle.acts.specs.Terms.{TiedBy, Kinded, ActsUnder, OriginsTyped, setting_with}
+use Rattle.scenes.specs.Origins.{with_origins, with_origins_alts}
 use Rattle.acts.proofs.Closing.{closed_same}
 use Rattle.acts.proofs.Forms.{TermsAct}
 use Rattle.acts.proofs.Globals.{sound_with}

@@ -9,7 +9,8 @@ use Rattle.chw_meaning.specs.Values.{Thunk, member, Thunks, none, thunk_and, cou
 use Rattle.chw_meaning.specs.Eval.{Evals, e_var, Forces, f_member}
 use Rattle.chw_meaning.proofs.Once.{same_some}
 use Rattle.acts.specs.Levels.{Levels, Second, RunsAct, term_runs, thunk_runs}
-use Rattle.acts.specs.Terms.{TiedBy, with_origins, with_origins_alts}
+use Rattle.acts.specs.Terms.{TiedBy}
+use Rattle.scenes.specs.Origins.{with_origins, with_origins_alts}
 use Rattle.acts.proofs.Levels.{IsLevels, cost}
 
 -- alternatives with changed bodies, after the made definitions

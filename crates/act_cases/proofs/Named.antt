@@ -23,7 +23,8 @@ use Rattle.chw_meaning.specs.Eval.{Evals, e_letrec, Forces, f_member}
 use Rattle.chw_meaning.proofs.Once.{same_some}
 use Rattle.acts.specs.Levels.{Levels, Second, RunsAct, term_runs, term_has, thunk_runs, thunk_has}
 use Rattle.acts.specs.Acts.{acts_from}
-use Rattle.acts.specs.Terms.{LooksAlike, TiedBy, Kinded, OriginsTyped, with_origins, with_origins_group, setting_with}
+use Rattle.acts.specs.Terms.{LooksAlike, TiedBy, Kinded, OriginsTyped, setting_with}
+use Rattle.scenes.specs.Origins.{with_origins, with_origins_group}
 use Rattle.acts.proofs.Closing.{closed_same}
 use Rattle.acts.proofs.Forms.{TermsAct}
 use Rattle.acts.proofs.Globals.{sound_with}

@@ -20,7 +20,8 @@ use Rattle.rewriting.specs.Shapes.{shift_alts}
 use Rattle.chw_meaning.specs.Values.{Thunk, closed, member, Thunks, none, thunk_and, count_of, thunk_at, type_at, closed_type, joined, in_group}
 use Rattle.acts.specs.Levels.{Levels, later, term_runs, term_has, thunk_has}
 use Rattle.acts.specs.Acts.{acts_from}
-use Rattle.acts.specs.Terms.{TiedBy, Kinded, ActsUnder, OriginsTyped, with_origins, with_origins_alts, setting_with}
+use Rattle.acts.specs.Terms.{TiedBy, Kinded, ActsUnder, OriginsTyped, setting_with}
+use Rattle.scenes.specs.Origins.{with_origins, with_origins_alts}
 use Rattle.acts.proofs.Closing.{closed_kind, closed_same, put_closes}
 use Rattle.acts.proofs.Forms.{TermsAct, app_acts, ty_app_acts}
 use Rattle.acts.proofs.Globals.{sound_with}

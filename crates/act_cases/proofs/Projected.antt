@@ -33,7 +33,8 @@ use Rattle.chw_meaning.specs.Eval.{choice, takes, is_only, by_fields, Evals, e_g
 use Rattle.chw_meaning.proofs.Once.{same_some}
 use Rattle.acts.specs.Levels.{Levels, Second, RunsAct, term_runs, term_has, thunk_has, ThunksAct}
 use Rattle.acts.specs.Acts.{AllAct, acts_from}
-use Rattle.acts.specs.Terms.{LooksAlike, TiedBy, Kinded, ActsUnder, OriginsTyped, with_origins, with_origins_group, setting_with}
+use Rattle.acts.specs.Terms.{LooksAlike, TiedBy, Kinded, ActsUnder, OriginsTyped, setting_with}
+use Rattle.scenes.specs.Origins.{with_origins, with_origins_group}
 use Rattle.acts.proofs.Closing.{closed_same}
 use Rattle.acts.proofs.Forms.{TermsAct, thunk_acts}
 use Rattle.acts.proofs.Globals.{sound_with}

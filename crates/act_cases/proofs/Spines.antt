@@ -23,7 +23,8 @@ use Rattle.group_laws.specs.Groups.{rename_arg}
 use Rattle.spine_types.proofs.Spines.{head_typed}
 use Rattle.chw_meaning.specs.Values.{Thunks, type_at, closed_type}
 use Rattle.acts.specs.Levels.{Levels, term_runs, term_has}
-use Rattle.acts.specs.Terms.{Kinded, OriginsTyped, with_origins, setting_with}
+use Rattle.acts.specs.Terms.{Kinded, OriginsTyped, setting_with}
+use Rattle.scenes.specs.Origins.{with_origins}
 use Rattle.acts.proofs.Closing.{closed_kind, closed_same, put_closes}
 use Rattle.acts.proofs.Forms.{TermsAct, app_acts, ty_app_acts}
 use Rattle.acts.proofs.Globals.{sound_with}

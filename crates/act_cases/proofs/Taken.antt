@@ -15,7 +15,7 @@ use Rattle.term_paths.specs.Paths.{Branch}
 use Rattle.rewriting.specs.Shapes.{IsTakenBy, by_first, by_later}
 use Rattle.chw_meaning.specs.Values.{Value, bits, con_of, Thunks}
 use Rattle.chw_meaning.specs.Eval.{matches, bound, arm_of}
-use Rattle.acts.specs.Terms.{with_origins, with_origins_alts}
+use Rattle.scenes.specs.Origins.{with_origins, with_origins_alts}
 
 -- what the taken alternative binds, and its type
 pub record TakenTyped (s : Setting) (kinds : List Kind) (vars : List TypeTree) (u t : TypeTree) (q : Pattern) (e : TermTree) : Type 0 where

@@ -24,7 +24,8 @@ use Rattle.term_paths.specs.Paths.{Branch}
 use Rattle.spine_types.specs.Given.{types_then}
 use Rattle.rewriting.specs.Shapes.{IsTakenBy, shift_alts, shift_args, with_fields}
 use Rattle.rewriting.specs.Shapes.{or_body, projections}
-use Rattle.acts.specs.Terms.{ActsUnder, with_origins, setting_with}
+use Rattle.acts.specs.Terms.{ActsUnder, setting_with}
+use Rattle.scenes.specs.Origins.{with_origins}
 use Rattle.act_rules.specs.Laws.{HasOrigins, KeepsMeaning}
 
 -- where the second term is typed in this program, the first acts as it

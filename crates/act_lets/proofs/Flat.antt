@@ -19,7 +19,8 @@ use Rattle.chw_meaning.specs.Values.{member, Thunks, thunk_at, closed_type, in_g
 use Rattle.chw_meaning.specs.Eval.{e_letrec}
 use Rattle.acts.specs.Levels.{term_runs, term_has}
 use Rattle.acts.specs.Acts.{acts_from}
-use Rattle.acts.specs.Terms.{TiedBy, Kinded, ActsUnder, OriginsTyped, with_origins, with_origins_group, setting_with}
+use Rattle.acts.specs.Terms.{TiedBy, Kinded, ActsUnder, OriginsTyped, setting_with}
+use Rattle.scenes.specs.Origins.{with_origins, with_origins_group}
 use Rattle.acts.proofs.Filled.{size_declared}
 use Rattle.acts.proofs.Forms.{TermsAct}
 use Rattle.acts.proofs.Levels.{from_turns, runs_more}

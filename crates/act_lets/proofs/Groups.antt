@@ -12,7 +12,7 @@ use Rattle.chw_typing.specs.Typing.{HasType, h_letrec, AreBound, none_bound, bou
 use Rattle.chw_typing.proofs.Lists.{turned_onto}
 use Rattle.group_laws.specs.Groups.{joined}
 use Rattle.chw_meaning.specs.Values.{body_at}
-use Rattle.acts.specs.Terms.{with_origins, with_origins_group}
+use Rattle.scenes.specs.Origins.{with_origins, with_origins_group}
 
 pub body_origins : (o : ℕ → TermTree) (g : Group) (i : ℕ) (e : TermTree) → body_at g i ≡ Some e → body_at (with_origins_group o g) i ≡ Some (with_origins o e)
 unfolding with_origins

@@ -17,7 +17,8 @@ use Rattle.chw_meaning.specs.Values.{History, Value, Thunk, member, Thunks, thun
 use Rattle.chw_meaning.specs.Eval.{e_letrec, f_member}
 use Rattle.acts.specs.Levels.{Levels, Second, RunsAct, term_runs, term_has, thunk_has}
 use Rattle.acts.specs.Acts.{acts_from}
-use Rattle.acts.specs.Terms.{TiedBy, Kinded, OriginsTyped, with_origins, with_origins_group, setting_with}
+use Rattle.acts.specs.Terms.{TiedBy, Kinded, OriginsTyped, setting_with}
+use Rattle.scenes.specs.Origins.{with_origins, with_origins_group}
 use Rattle.acts.proofs.Closing.{closed_same}
 use Rattle.acts.proofs.Globals.{sound_with}
 use Rattle.acts.proofs.Levels.{IsLevels, from_turns, cost, runs_more}

@@ -23,7 +23,8 @@ use Rattle.chw_meaning.specs.Eval.{e_letrec}
 use Rattle.chw_meaning.proofs.Once.{same_some}
 use Rattle.acts.specs.Levels.{RunsAct, term_runs, term_has, thunk_has}
 use Rattle.acts.specs.Acts.{acts_from}
-use Rattle.acts.specs.Terms.{TiedBy, Kinded, ActsUnder, OriginsTyped, with_origins, with_origins_group, setting_with}
+use Rattle.acts.specs.Terms.{TiedBy, Kinded, ActsUnder, OriginsTyped, setting_with}
+use Rattle.scenes.specs.Origins.{with_origins, with_origins_group}
 use Rattle.acts.proofs.Filled.{size_declared}
 use Rattle.acts.proofs.Levels.{from_turns, runs_more}
 use Rattle.act_rules.proofs.Lets.{size_with_origins}

@@ -1,0 +1,4 @@
+pub mod FirstOrder
+pub mod Plain
+pub mod Shown
+pub mod Wholes

@@ -1,0 +1,29 @@
+-- What is promised of normal forms.
+use Rattle.std.specs.Prelude.{◌≡◌, ℕ, ◌<◌, List, length, Some}
+use Rattle.std.specs.List.{slice_get}
+use Rattle.chw_terms.specs.declared.program.Program.{Program}
+use Rattle.chw_terms.specs.declared.scene.Made.{Made}
+use Rattle.chw_terms.specs.TermTree.{TermTree}
+use Rattle.normal_forms.specs.Normal.{IsNormal}
+use Rattle.normal_forms.specs.Parts.{IsMonomorphic, IsFirstOrder}
+use Rattle.normal_forms.specs.Uses.{Uses, IsAcyclic, WholeOf}
+
+-- each body of a normal state is monomorphic and first-order
+abbrev pub NormalIsFirstOrder : Type 0
+NormalIsFirstOrder =
+    (p : Program) (state : List Made) (m : ℕ) (it : Made)
+    → IsNormal p state → slice_get state m ≡ Some it
+    → IsMonomorphic it.body × IsFirstOrder p.datas it.body
+
+-- a made definition is one whole at most
+abbrev pub OneWhole : Type 0
+OneWhole =
+    (state : List Made) (m : ℕ) (e f : TermTree)
+    → WholeOf state m e → WholeOf state m f → e ≡ f
+
+-- and one where none uses itself, and each one that is used is there
+abbrev pub WholeIsThere : Type 0
+WholeIsThere =
+    (state : List Made) (m : ℕ)
+    → IsAcyclic state → ((j n : ℕ) → Uses state j n → n < length state) → m < length state
+    → (e : TermTree) × WholeOf state m e

@@ -1,0 +1,29 @@
+//! Worked examples, as the contract of a call that does nothing.
+ghost use Rattle.normal_forms.specs.Examples.{CounterIsCircuit, TwoLifted, Constants, CaseOfBlocks, NoCycle, NoLambda, NoVariableBegins, WidthHolds, WidthFails, WholeOfFirst, UsesItself};
+
+/// Bodies in normal form.
+pub fn of_forms()
+    ensures counter { CounterIsCircuit }
+    ensures lifted { TwoLifted }
+    ensures constants { Constants }
+    ensures blocks { CaseOfBlocks }
+{}
+
+/// Bodies that aren't.
+pub fn of_other_forms()
+    ensures cycle { NoCycle }
+    ensures lambda { NoLambda }
+    ensures begins { NoVariableBegins }
+{}
+
+/// Widths that are within the limits, and one that isn't.
+pub fn of_widths()
+    ensures within { WidthHolds }
+    ensures over { WidthFails }
+{}
+
+/// A made definition as a whole, and one that uses itself.
+pub fn of_uses()
+    ensures whole { WholeOfFirst }
+    ensures itself { UsesItself }
+{}
