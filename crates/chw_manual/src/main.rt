@@ -1,8 +1,9 @@
-//! The examples of the manual, and descriptions of the whole language, each run by its words: what the program writes to either output,
+//! The examples of the manual, descriptions of the whole language, and nets with stimuli, each run by its words: what the program writes to either output,
 //! and its status, stand on standard output.
 #![tactic(auto)]
 
 use chw_base::{FileShelf, Name, StdSink};
+use chw_cli::Status;
 use chw_cli::top::top;
 use std::io;
 
@@ -48,6 +49,13 @@ const ROWS: [[&str; 2]; 38] = [
     ["check", "worked/signed.chw"],
 ];
 
+/// The Verilog texts that are run, with their stimuli.
+const RUNS: [[&str; 3]; 3] = [
+    ["run", "run/acc.v", "run/acc.stim"],
+    ["run", "run/memory.v", "run/memory.stim"],
+    ["run", "run/domains.v", "run/domains.stim"],
+];
+
 fn main(rt: HostRuntime) -> io::Result<()> {
     for row in ROWS {
         println!(rt; "chw {} {}", row[0], row[1])?;
@@ -55,11 +63,25 @@ fn main(rt: HostRuntime) -> io::Result<()> {
         for word in row {
             words.push(Name::from(Vec::from_slice(rt.alloc(), word.as_bytes())?))?;
         }
-        let mut shelf = FileShelf::new(&rt);
-        let mut out = StdSink::new(rt.stdout());
-        let mut err = StdSink::new(rt.stdout());
-        let status = top(rt.alloc(), words.as_slice(), &mut shelf, &mut out, &mut err);
+        let status = run(&rt, words.as_slice());
+        println!(rt; "status {}", status.code())?;
+    }
+    for row in RUNS {
+        println!(rt; "chw {} {} {}", row[0], row[1], row[2])?;
+        let mut words = Vec::new(rt.alloc());
+        for word in row {
+            words.push(Name::from(Vec::from_slice(rt.alloc(), word.as_bytes())?))?;
+        }
+        let status = run(&rt, words.as_slice());
         println!(rt; "status {}", status.code())?;
     }
     Ok(())
+}
+
+// Runs the program on these words, with both outputs on standard output.
+fn run(rt: &HostRuntime, words: &[Name]) -> Status {
+    let mut shelf = FileShelf::new(rt);
+    let mut out = StdSink::new(rt.stdout());
+    let mut err = StdSink::new(rt.stdout());
+    top(rt.alloc(), words, &mut shelf, &mut out, &mut err)
 }

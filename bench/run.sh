@@ -1,0 +1,125 @@
+#!/usr/bin/env bash
+# Times `chw run`, beside Icarus Verilog's vvp on the same net and events where it is installed.
+# Usage: bench/run.sh [counter|sums|wires|stimulus]
+#   counter: a counter of 8 bits, for 1,000 to 100,000 events
+#   sums: a chain of 964 sums between two registers, for 256 to 16,384 events
+#   wires: chains of 1,000 to 199,000 sums, for 16 events
+#   stimulus: a text of 64 MiB of inputs of 4,096 bits, and a quarter of it
+# The time an event is that of the whole program less that of the program on an empty stimulus. vvp prints the same outputs.
+set -eu
+top=$(cd "$(dirname "$0")/.." && pwd)
+form=${1:-counter}
+work=$(mktemp -d)
+trap 'rm -rf "$work"' EXIT
+"$top/tools/build-program" chw
+program=$top/crates/chw/out/chw
+
+# A Verilog text of a chain of so many sums of 16 bits from an input to a register, and a testbench for so many events.
+chain() {
+  python3 - "$1" "$2" "$work" <<'PY'
+import sys
+sums, events, work = int(sys.argv[1]), int(sys.argv[2]), sys.argv[3]
+lines = ["module chw_top (input clk_Sys, input [15:0] i_Sys_x, output [15:0] o_Sys_o);", "  reg [15:0] r = 16'h0001;"]
+lines += [f"  wire [15:0] w{k};" for k in range(sums)]
+lines += ["  always @(posedge clk_Sys) r <= w%d;" % (sums - 1)]
+before = ["i_Sys_x", "r"]
+for k in range(sums):
+    lines.append(f"  assign w{k} = {before[0]} + {before[1]};")
+    before = [before[1], f"w{k}"]
+lines += ["  assign o_Sys_o = r;", "endmodule"]
+open(f"{work}/net.v", "w").write("\n".join(lines) + "\n")
+open(f"{work}/stim", "w").write(f"{events}* Sys: x=0003\n" if events else "")
+open(f"{work}/tb.v", "w").write(f"""module tb;
+  reg clk = 0;
+  wire [15:0] o;
+  integer k;
+  chw_top top (.clk_Sys(clk), .i_Sys_x(16'h0003), .o_Sys_o(o));
+  initial for (k = 0; k < {events}; k = k + 1) begin
+    #1 $display("%0d: o=%h", k, o);
+    clk = 1;
+    #1 clk = 0;
+  end
+endmodule
+""")
+PY
+}
+
+# A stimulus of about so many bytes, and the text of a net that copies its input.
+wide() {
+  python3 - "$1" "$work" <<'PY'
+import sys
+size, work = int(sys.argv[1]), sys.argv[2]
+open(f"{work}/net.v", "w").write("""module chw_top (input clk_Sys, input [4095:0] i_Sys_x, output [0:0] o_Sys_o);
+  wire [0:0] w;
+  assign w = ^i_Sys_x;
+  assign o_Sys_o = w;
+endmodule
+""")
+line = "Sys: x=" + "0123456789abcdef" * 64 + "\n"
+open(f"{work}/stim", "w").write(line * (size // len(line)))
+PY
+}
+
+# The least of so many times, in microseconds.
+least() {
+  local times=$1
+  shift
+  for _ in $(seq "$times"); do
+    local from to
+    from=$(date +%s%N); "$@" >/dev/null 2>&1 || true; to=$(date +%s%N)
+    echo $(((to - from) / 1000))
+  done | sort -n | head -n 1
+}
+
+# The time of `chw run`, and that of vvp or a sign where it isn't installed.
+mine() { least "$1" "$program" run "$work/net.v" "$work/stim"; }
+other() {
+  if command -v iverilog >/dev/null; then
+    iverilog -g2005 -o "$work/net.vvp" "$work/tb.v" "$work/net.v"
+    least "$1" vvp -n "$work/net.vvp"
+  else
+    echo -
+  fi
+}
+
+# The difference of two times, by a number, in nanoseconds.
+by() {
+  if [ "$1" = - ]; then echo -; else awk "BEGIN { printf \"%.1f\", ($1 - $2) * 1000 / $3 }"; fi
+}
+
+# A row of a chain of sums: the whole times, and the nanoseconds an event and a cell.
+row() {
+  local sums=$1 events=$2 times=$3 empty none chw vvp
+  chain "$sums" 0
+  empty=$(mine "$times"); none=$(other "$times")
+  chain "$sums" "$events"
+  chw=$(mine "$times"); vvp=$(other "$times")
+  printf '%8d %8d %10d %12s %12s %12s %12s\n' "$sums" "$events" "$chw" \
+    "$(by "$chw" "$empty" "$events")" "$(by "$chw" "$empty" $((events * (sums + 1))))" "$vvp" "$(by "$vvp" "$none" "$events")"
+}
+
+case "$form" in
+  counter | sums | wires)
+    printf '%8s %8s %10s %12s %12s %12s %12s\n' sums events 'chw us' 'ns event' 'ns cell' 'vvp us' 'ns event'
+    ;;
+esac
+case "$form" in
+  counter) for events in 1000 10000 100000; do row 1 "$events" 9; done ;;
+  sums) for events in 256 4096 16384; do row 964 "$events" 5; done ;;
+  wires) for sums in 1000 10000 100000 199000; do row "$sums" 16 3; done ;;
+  stimulus)
+    printf '%10s %10s %10s\n' bytes 'chw us' 'ns byte'
+    for size in 16777216 67108864; do
+      wide 0
+      empty=$(mine 3)
+      wide "$size"
+      bytes=$(wc -c <"$work/stim")
+      chw=$(mine 3)
+      printf '%10d %10d %10s\n' "$bytes" "$chw" "$(by "$chw" "$empty" "$bytes")"
+    done
+    ;;
+  *)
+    sed -n '3,8s/^# \{0,1\}//p' "$0" >&2
+    exit 1
+    ;;
+esac
