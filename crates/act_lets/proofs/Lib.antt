@@ -1,5 +1,7 @@
+pub mod Dead
 pub mod Flat
 pub mod Groups
+pub mod Marks
 pub mod Rights
 pub mod Sides
 pub mod Turns

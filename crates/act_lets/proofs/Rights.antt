@@ -19,10 +19,10 @@ use Rattle.acts.specs.Levels.{Levels, Second, RunsAct, term_runs, term_has, thun
 use Rattle.acts.specs.Acts.{acts_from}
 use Rattle.acts.specs.Terms.{TiedBy, Kinded, OriginsTyped, with_origins, with_origins_group, setting_with}
 use Rattle.acts.proofs.Closing.{closed_same}
-use Rattle.acts.proofs.Globals.{sound_with}
+use Rattle.acts.proofs.Globals.{sound_with, renamed_acts}
 use Rattle.acts.proofs.Levels.{IsLevels, from_turns, cost, runs_more}
 use Rattle.acts.proofs.SameActs.{same_acts}
-use Rattle.act_rules.proofs.Moves.{moved_acts}
+use Rattle.act_rules.proofs.Moves.{moved_acts, origins_act}
 use Rattle.act_cases.proofs.Places.{outside_at}
 use Rattle.act_lets.proofs.Groups.{more_past}
 
@@ -56,3 +56,13 @@ module _ (p : Program) (sound : IsSound (setting_of p)) (typed : IsTyped p) (typ
       runs_more l (closed_type t δ) (term_runs p (with_origins o (rename e ρ)) γ' δ) (term_has p (with_origins o e) γ δ) (thunk_has p th) has
       (same_acts sound l alike (term_runs p (with_origins o (rename e ρ)) γ' δ) (term_has p (with_origins o e) γ δ)
       (moved_acts p sound typed types o are_closed have ρ g d (acts_from p n) l δ γ' γ known names))
+
+  -- renamed on both sides
+  pub renamed_right : {kinds : List Kind} {vars : List TypeTree} {e : TermTree} {t u : TypeTree} {k : Kind} → AreTermTypes (setting_with p types) kinds vars → HasType (setting_with p types) kinds vars e u → HasKind (setting_of p) kinds t k → SameTypes t u → (n : ℕ) (ρ' ρ : Renaming) (δ : TypeTrees) (γ' γ : Thunks) → Kinded p kinds δ → TiedBy p (acts_from p n) vars ρ' ρ δ γ' γ → (second : Second) → ((h : History) (v : Value) → term_has p (with_origins o (rename e ρ)) γ δ h v → second h v) → RunsAct (acts_from p n) (closed_type t δ) (term_runs p (with_origins o (rename e ρ')) γ' δ) second
+  renamed_right {e = e} {t = t} g d kt same n ρ' ρ δ γ' γ known names second has =
+      let full = sound_with p types sound are_closed in
+      let l = from_turns p n in
+      let alike = closed_same p sound δ known (type_kinded d full g).has kt (same_turned same) in
+      runs_more l (closed_type t δ) (term_runs p (with_origins o (rename e ρ')) γ' δ) (term_has p (with_origins o (rename e ρ)) γ δ) second has
+      (same_acts sound l alike (term_runs p (with_origins o (rename e ρ')) γ' δ) (term_has p (with_origins o (rename e ρ)) γ δ)
+      (renamed_acts p sound typed types o o ρ' ρ are_closed g d (origins_act p sound typed types o are_closed have) n δ γ' γ known names))

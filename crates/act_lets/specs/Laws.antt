@@ -1,11 +1,11 @@
 -- What is promised of rules on groups of bindings: what they make of a typed term acts as the term.
-use Rattle.std.specs.Prelude.{ℕ, suc}
+use Rattle.std.specs.Prelude.{ℕ, suc, Bool, List, reverse}
 use Rattle.chw_types.specs.TypeTree.{TypeTree}
-use Rattle.chw_terms.specs.TermMoves.{shift}
+use Rattle.chw_terms.specs.TermMoves.{rename, rename_group, shift}
 use Rattle.chw_terms.specs.TermTree.{TermTree, letrec, Group, bind, size_of}
 use Rattle.group_laws.specs.Groups.{joined}
-use Rattle.rewriting.specs.Shapes.{shift_group}
-use Rattle.rewriting.specs.Lets.{side_joined}
+use Rattle.rewriting.specs.Shapes.{or_body, shift_group, marked, closed_up}
+use Rattle.rewriting.specs.Lets.{side_joined, MarksReached}
 use Rattle.act_rules.specs.Laws.{KeepsMeaning}
 
 -- `letrec { g } in letrec { cs } in x` becomes `letrec { g cs } in x`
@@ -23,3 +23,13 @@ LetInSideActs =
     → KeepsMeaning
     (letrec (side_joined front t cs x back) (shift e (suc (size_of back)) (size_of cs)))
     (letrec (joined front (bind t (letrec cs x) back)) e)
+
+-- bindings that the body doesn't reach may go
+abbrev pub DeadActs : Type 0
+DeadActs =
+    (g : Group) (e : TermTree) (marks : List Bool)
+    → MarksReached g e marks
+    → KeepsMeaning
+    (or_body (rename_group (marked marks g) (closed_up (reverse marks)))
+    (rename e (closed_up (reverse marks))))
+    (letrec g e)
