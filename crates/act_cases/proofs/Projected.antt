@@ -25,7 +25,7 @@ use Rattle.chw_typing.specs.Programs.{AreClosed, IsSound, IsTyped, setting_of}
 use Rattle.chw_typing.specs.Typing.{HasType}
 use Rattle.chw_typing.proofs.Heads.{is_constructor}
 use Rattle.chw_typing.proofs.Kinded.{typed_more, type_kinded}
-use Rattle.chw_typing.proofs.Lists.{found_in_map, turned_onto}
+use Rattle.chw_typing.proofs.Lists.{found_in_map}
 use Rattle.chw_typing.proofs.Patterns.{binds}
 use Rattle.rewriting.specs.Shapes.{IsTakenBy, by_first, or_body, projections}
 use Rattle.chw_meaning.specs.Values.{Thunk, closed, member, field, Thunks, none, thunk_at, closed_type, in_group, fields_from}
@@ -46,7 +46,7 @@ use Rattle.act_rules.proofs.Moves.{moved_acts, same_term_acts}
 use Rattle.act_cases.proofs.Known.{CaseTyped, case_typed}
 use Rattle.act_cases.proofs.Moves.{var_runs}
 use Rattle.act_cases.proofs.Named.{member_runs, or_body_runs, size_named, body_named}
-use Rattle.act_cases.proofs.Places.{NewOrOuter, new_or_outer, member_at, outside_at, field_at, field_past}
+use Rattle.act_cases.proofs.Places.{NewOrOuter, new_or_outer, name_at, member_at, outside_at, field_at, field_past}
 use Rattle.act_cases.proofs.Taken.{TakenTyped, taken_typed}
 
 -- the constructor of a port is the only one of its data type
@@ -66,20 +66,6 @@ each_at f a (suc n) (suc j) less = each_at f (a + 1) n j (omega (arith, less)) �
 
 pattern_length : {datas : List Data} {t : TypeTree} {c : ConId} {n : ℕ} {fields : List TypeTree} → PatternOf datas t (OfCon c n) fields → length fields ≡ n
 pattern_length (of_con {ts = ts} it e o m) = length-map it.decl.fields (λ f. sub f (arguments ts)) ∙ m
-
--- the type of the name for this place
-name_at : (ts vs : List TypeTree) (x j : ℕ) (t : TypeTree) → x + suc j ≡ length ts → slice_get ts j ≡ Some t → slice_get (with_more ts vs) x ≡ Some t
-name_at [] vs x j t size found = cc
-name_at (u ∷ ts) vs x zero t size found =
-    ap (λ us. slice_get us x) (turned_onto u ts vs) ∙ ap (slice_get (with_more ts (u ∷ vs))) (let e : x ≡ 0 + length ts = omega (arith, size) in e) ∙ past ts (u ∷ vs) 0 ∙ found
-  where
-    past : (ts vs : List TypeTree) (y : ℕ) → slice_get (with_more ts vs) (y + length ts) ≡ slice_get vs y
-    past [] vs y = ap (slice_get vs) (let e : y + 0 ≡ y = omega arith in e)
-    past (t ∷ ts) vs y =
-        ap (λ us. slice_get us (y + suc (length ts))) (turned_onto t ts vs)
-        ∙ ap (slice_get (with_more ts (t ∷ vs))) (let e : y + suc (length ts) ≡ suc y + length ts = omega arith in e)
-        ∙ past ts (t ∷ vs) (suc y)
-name_at (u ∷ ts) vs x (suc j) t size found = ap (λ us. slice_get us x) (turned_onto u ts vs) ∙ name_at ts (u ∷ vs) x j t (omega (arith, size)) found
 
 -- a case that takes fields runs as its alternative
 takes_runs : {p : Program} {r : Levels} → IsLevels p r → (t : TypeTree) (s e : TermTree) (alts : Alts) (k : ℕ) (γ : Thunks) (δ : TypeTrees) (second : Second) → choice p.datas alts ≡ takes k e → RunsAct r t (term_runs p e (fields_from zero k (closed s γ δ) γ) δ) second → RunsAct r t (term_runs p (case_of s alts) γ δ) second

@@ -9,7 +9,6 @@ use Rattle.chw_terms.specs.TermMoves.{rename, rename_group}
 use Rattle.chw_terms.specs.TermTree.{TermTree, letrec, Group, no_bindings, bind, size_of}
 use Rattle.chw_typing.specs.Scopes.{Setting, HasKind, with_more, declared}
 use Rattle.chw_typing.specs.Typing.{HasType, h_letrec, AreBound, none_bound, bound_and}
-use Rattle.chw_typing.proofs.Lists.{turned_onto}
 use Rattle.group_laws.specs.Groups.{joined}
 use Rattle.chw_meaning.specs.Values.{body_at}
 use Rattle.acts.specs.Terms.{with_origins, with_origins_group}
@@ -58,14 +57,6 @@ bound_at {s} {kinds} {vars} (bound_and {j = k} {t = u} {u = v} {e = e} {g = g} k
 bound_at (bound_and kt fs d x bs) (suc j) t i =
     let one = bound_at bs j t i in
     record { kind = one.kind; has_kind = one.has_kind; right = one.right; is = one.is; type = one.type; has = one.has; same = one.same }
-
--- the type of a variable outside of those that are bound together
-pub more_past : (ts vs : List TypeTree) (y : ℕ) → slice_get (with_more ts vs) (y + length ts) ≡ slice_get vs y
-more_past [] vs y = ap (slice_get vs) (let e : y + 0 ≡ y = omega arith in e)
-more_past (t ∷ ts) vs y =
-    ap (λ us. slice_get us (y + suc (length ts))) (turned_onto t ts vs)
-    ∙ ap (slice_get (with_more ts (t ∷ vs))) (let e : y + suc (length ts) ≡ suc y + length ts = omega arith in e)
-    ∙ more_past ts (t ∷ vs) (suc y)
 
 -- the bindings of the first of two joined groups
 pub joined_below : (g h : Group) (i : ℕ) → i < size_of g → body_at (joined g h) i ≡ body_at g i

@@ -23,8 +23,7 @@ use Rattle.acts.proofs.Globals.{sound_with, renamed_acts}
 use Rattle.acts.proofs.Levels.{IsLevels, from_turns, cost, runs_more}
 use Rattle.acts.proofs.SameActs.{same_acts}
 use Rattle.act_rules.proofs.Moves.{moved_acts, origins_act}
-use Rattle.act_cases.proofs.Places.{outside_at}
-use Rattle.act_lets.proofs.Groups.{more_past}
+use Rattle.act_cases.proofs.Places.{more_past, outside_at}
 
 -- what a right side has, the binding has
 pub member_has : (p : Program) (g : Group) (i : ℕ) (e : TermTree) (γ : Thunks) (δ : TypeTrees) → body_at g i ≡ Some e → (h : History) (v : Value) → term_has p e (in_group g γ δ) δ h v → thunk_has p (member g i γ δ) h v
