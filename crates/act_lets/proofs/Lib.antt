@@ -1,6 +1,7 @@
 pub mod Dead
 pub mod Flat
 pub mod Groups
+pub mod Inline
 pub mod Marks
 pub mod Rights
 pub mod Sides
