@@ -1,11 +1,11 @@
 -- Where the variables that are bound together have their types and their thunks.
 use Rattle.std.specs.Prelude.{slice_get}
-use Rattle.std.proofs.Common.{◌≡◌, ◌+◌, ◌⊎◌, inl, inr, ℕ, suc, zero, List, [], ◌∷◌, length, Some, refl, sym, ap, ◌∙◌, subst, arith}
+use Rattle.std.proofs.Common.{◌≡◌, ◌+◌, ◌⊎◌, inl, inr, ℕ, suc, zero, List, [], ◌∷◌, length, Some, refl, ap, ◌∙◌, subst, arith}
 use Rattle.chw_types.specs.TypeTree.{TypeTree, TypeTrees}
 use Rattle.chw_typing.specs.Scopes.{with_more}
 use Rattle.chw_typing.proofs.Lists.{turned_onto}
 use Rattle.chw_terms.specs.TermTree.{Group, no_bindings, bind, size_of}
-use Rattle.chw_meaning.specs.Values.{Thunk, member, field, Thunks, none, thunk_and, thunk_at, joined, members, in_group, fields_from}
+use Rattle.chw_meaning.specs.Values.{Thunk, member, field, Thunks, thunk_and, thunk_at, joined, members, in_group, fields_from}
 
 -- the variable is the one for this place among the new ones, or one of those outside
 abbrev pub NewOrOuter : {A : Type 0} → List A → List A → ℕ → A → Type 0

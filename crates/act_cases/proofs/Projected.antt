@@ -1,25 +1,25 @@
 -- A case of a port, and its projections.
 use Rattle.std.specs.Prelude.{slice_get, ◌==◌}
 use Rattle.std.specs.List.{range_with_len}
-use Rattle.std.proofs.Common.{◌≡◌, ◌+◌, ◌-◌, ◌<◌, ◌⊎◌, inl, inr, ℕ, suc, zero, Bool, true, List, [], ◌∷◌, ◌++◌, length, map, reverse, Some, refl, sym, ap, ◌∙◌, subst, arith}
+use Rattle.std.proofs.Common.{◌≡◌, ◌+◌, ◌-◌, ◌<◌, inl, inr, ℕ, suc, zero, true, List, [], length, map, reverse, Some, refl, sym, ap, ◌∙◌, subst, arith}
 use Rattle.std.proofs.lemmas.List.{append-nil, length-map}
 use Rattle.std.proofs.lemmas.List.FromFn.{length-map-range_with_len}
 use Rattle.chw_base.specs.declared.index.ConId.{ConId}
 use Rattle.chw_types.specs.declared.declarations.Data.{Data}
 use Rattle.chw_types.specs.declared.kind.Kind.{Kind}
 use Rattle.chw_types.specs.Arguments.{arguments}
-use Rattle.chw_types.specs.Ports.{IsPort, Leaves, one_leaf, leaves_of_fields}
+use Rattle.chw_types.specs.Ports.{IsPort, Leaves, leaves_of_fields}
 use Rattle.chw_types.specs.declared.ports.Leaf.{Leaf}
 use Rattle.chw_types.specs.TypeTree.{TypeTree, data_of, TypeTrees}
 use Rattle.chw_types.specs.TypeMoves.{raised, sub}
 use Rattle.chw_types.proofs.SameLaws.{same_turned}
-use Rattle.chw_terms.specs.Constructors.{Constructor, con_at}
+use Rattle.chw_terms.specs.Constructors.{con_at}
 use Rattle.chw_terms.specs.declared.program.Program.{Program}
 use Rattle.chw_terms.specs.declared.term.Pattern.TheVariants.{OfCon}
 use Rattle.chw_terms.specs.TermMoves.{rename}
 use Rattle.chw_terms.specs.TermTree.{TermTree, var, Group, size_of, case_of, Alts, no_alts, alt}
 use Rattle.chw_terms.specs.Unrolled.{named}
-use Rattle.chw_typing.specs.HeadTypes.{PatternOf, of_con, fields_at}
+use Rattle.chw_typing.specs.HeadTypes.{PatternOf, of_con}
 use Rattle.chw_typing.specs.Scopes.{AreTermTypes, with_more}
 use Rattle.chw_typing.specs.Programs.{AreClosed, IsSound, IsTyped, setting_of}
 use Rattle.chw_typing.specs.Typing.{HasType}
@@ -27,15 +27,15 @@ use Rattle.chw_typing.proofs.Heads.{is_constructor}
 use Rattle.chw_typing.proofs.Kinded.{typed_more, type_kinded}
 use Rattle.chw_typing.proofs.Lists.{found_in_map}
 use Rattle.chw_typing.proofs.Patterns.{binds}
-use Rattle.rewriting.specs.Shapes.{IsTakenBy, by_first, or_body, projections}
+use Rattle.rewriting.specs.Shapes.{by_first, or_body, projections}
 use Rattle.chw_meaning.specs.Values.{Thunk, closed, member, field, Thunks, none, thunk_at, closed_type, in_group, fields_from}
 use Rattle.chw_meaning.specs.Eval.{choice, takes, is_only, by_fields, Evals, e_goes_on, e_takes, e_looks}
 use Rattle.chw_meaning.proofs.Once.{same_some}
 use Rattle.acts.specs.Levels.{Levels, Second, RunsAct, term_runs, term_has, thunk_has, ThunksAct}
 use Rattle.acts.specs.Acts.{AllAct, acts_from}
-use Rattle.acts.specs.Terms.{LooksAlike, TiedBy, Kinded, ActsUnder, OriginsTyped, with_origins, with_origins_group, setting_with}
+use Rattle.acts.specs.Terms.{LooksAlike, ActsUnder, OriginsTyped, with_origins, with_origins_group, setting_with}
 use Rattle.acts.proofs.Closing.{closed_same}
-use Rattle.acts.proofs.Forms.{TermsAct, thunk_acts}
+use Rattle.acts.proofs.Forms.{thunk_acts}
 use Rattle.acts.proofs.Globals.{sound_with}
 use Rattle.acts.proofs.Levels.{IsLevels, from_turns, cost, runs_more}
 use Rattle.acts.proofs.SameActs.{Same, same_acts}

@@ -1,9 +1,9 @@
 -- A letrec without the bindings that its body doesn't reach.
 use Rattle.std.specs.Prelude.{slice_get}
-use Rattle.std.proofs.Common.{◌≡◌, ◌+◌, ◌-◌, ◌<◌, ◌≤◌, ◌⊎◌, inl, inr, ℕ, suc, zero, Bool, true, List, length, reverse, Some, refl, sym, ap, ◌∙◌, subst, arith}
+use Rattle.std.proofs.Common.{◌≡◌, ◌+◌, ◌-◌, ◌<◌, ◌≤◌, ◌⊎◌, inl, inr, ℕ, suc, zero, Bool, true, List, length, reverse, Some, sym, ap, ◌∙◌, subst, arith}
 use Rattle.std.proofs.lemmas.Bool.{cases_lt}
 use Rattle.chw_types.specs.declared.kind.Kind.{Kind}
-use Rattle.chw_types.specs.TypeTree.{TypeTree, TypeTrees}
+use Rattle.chw_types.specs.TypeTree.{TypeTree}
 use Rattle.chw_types.specs.TypeMoves.{Renaming}
 use Rattle.chw_types.proofs.SameLaws.{same_self}
 use Rattle.chw_terms.specs.declared.program.Program.{Program}
@@ -15,7 +15,7 @@ use Rattle.chw_typing.specs.Scopes.{AreTermTypes, with_more, declared}
 use Rattle.chw_typing.specs.Programs.{AreClosed, IsSound, IsTyped, setting_of}
 use Rattle.chw_typing.specs.Typing.{HasType}
 use Rattle.chw_typing.proofs.Kinded.{typed_more, bound_typed, type_kinded}
-use Rattle.group_laws.specs.Groups.{binding_at, Reached, from_body, from_side}
+use Rattle.group_laws.specs.Groups.{binding_at, from_body, from_side}
 use Rattle.group_laws.proofs.Occurrences.{rename_where}
 use Rattle.typed_parts.proofs.Where.{renamed_where}
 use Rattle.rewriting.specs.Shapes.{or_body, marked, closed_up}
@@ -24,15 +24,15 @@ use Rattle.chw_meaning.specs.Values.{member, Thunks, thunk_at, closed_type, in_g
 use Rattle.chw_meaning.specs.Eval.{Evals, e_letrec}
 use Rattle.acts.specs.Levels.{RunsAct, term_runs, term_has, thunk_has}
 use Rattle.acts.specs.Acts.{acts_from}
-use Rattle.acts.specs.Terms.{TiedBy, Kinded, ActsUnder, OriginsTyped, with_origins, with_origins_group, setting_with}
+use Rattle.acts.specs.Terms.{ActsUnder, OriginsTyped, with_origins, with_origins_group, setting_with}
 use Rattle.acts.proofs.Filled.{size_declared}
 use Rattle.acts.proofs.Globals.{sound_with}
 use Rattle.acts.proofs.Levels.{from_turns}
 use Rattle.act_rules.proofs.Lets.{size_with_origins}
 use Rattle.act_cases.proofs.Named.{or_body_runs}
 use Rattle.act_cases.proofs.Places.{NewOrOuter, new_or_outer, member_at, outside_at}
-use Rattle.act_lets.proofs.Groups.{body_origins, body_renamed, size_renamed, BoundAt, bound_at, LetTyped, let_typed}
-use Rattle.act_lets.proofs.Marks.{opened, stays, outer_stays, outer_was, MarkedAt, marked_at, type_was, marked_typed}
+use Rattle.act_lets.proofs.Groups.{body_origins, body_renamed, size_renamed, bound_at, LetTyped, let_typed}
+use Rattle.act_lets.proofs.Marks.{opened, stays, outer_stays, outer_was, marked_at, type_was, marked_typed}
 use Rattle.act_lets.proofs.Rights.{member_has, renamed_right}
 use Rattle.act_lets.proofs.Turns.{OuterLooks, MemberLooks, by_turns}
 

@@ -1,11 +1,10 @@
 -- A letrec of which one right side is put for its name.
 use Rattle.std.specs.Prelude.{slice_get}
-use Rattle.std.proofs.Common.{◌≡◌, ◌≢◌, ◌+◌, ◌-◌, ◌<◌, ◌≤◌, ◌⊎◌, inl, inr, ℕ, suc, zero, true, false, List, [], ◌∷◌, length, Some, refl, sym, ap, ◌∙◌, subst, arith}
+use Rattle.std.proofs.Common.{◌≡◌, ◌≢◌, ◌+◌, ◌-◌, ◌<◌, ◌≤◌, ◌⊎◌, inl, inr, ℕ, suc, zero, true, false, List, ◌∷◌, length, Some, sym, ap, ◌∙◌, subst, arith}
 use Rattle.std.proofs.lemmas.Bool.{true≢false, cases_lt, cases_eq}
 use Rattle.chw_types.specs.declared.kind.Kind.{Kind}
-use Rattle.chw_types.specs.TypeTree.{TypeTree, TypeTrees}
+use Rattle.chw_types.specs.TypeTree.{TypeTree}
 use Rattle.chw_types.specs.TypeMoves.{Renaming, raised}
-use Rattle.chw_types.specs.SameTypes.{SameTypes}
 use Rattle.chw_types.proofs.SameLaws.{same_turned}
 use Rattle.chw_types.proofs.TypeMoved.{raised_below, raised_above}
 use Rattle.chw_terms.specs.declared.program.Program.{Program}
@@ -14,7 +13,7 @@ use Rattle.chw_terms.specs.TermMoves.{rename, Substitution, sub, sub_group, in_p
 use Rattle.chw_terms.specs.TermTree.{TermTree, var, letrec, Group, bind, size_of}
 use Rattle.chw_terms.proofs.Renamed.{rename_rename, rename_ids}
 use Rattle.chw_terms.proofs.Renumbered.{lowered_above, lowered_below, in_place_below, in_place_here, in_place_above}
-use Rattle.chw_typing.specs.Scopes.{HasKind, AreTermTypes, with_more, declared}
+use Rattle.chw_typing.specs.Scopes.{AreTermTypes, with_more, declared}
 use Rattle.chw_typing.specs.Programs.{AreClosed, IsSound, IsTyped, setting_of}
 use Rattle.chw_typing.specs.Typing.{HasType, AreBound}
 use Rattle.chw_typing.proofs.Kinded.{typed_more, bound_typed, type_kinded}
@@ -23,12 +22,12 @@ use Rattle.group_laws.proofs.Parts.{size_joined}
 use Rattle.group_laws.proofs.Occurrences.{rename_where}
 use Rattle.typed_parts.proofs.Where.{renamed_where}
 use Rattle.rewriting.specs.Shapes.{or_body}
-use Rattle.chw_meaning.specs.Values.{History, Value, Thunk, member, Thunks, thunk_at, closed_type, in_group, body_at}
+use Rattle.chw_meaning.specs.Values.{member, Thunks, thunk_at, closed_type, in_group, body_at}
 use Rattle.chw_meaning.specs.Eval.{e_letrec}
 use Rattle.chw_meaning.proofs.Once.{same_some}
-use Rattle.acts.specs.Levels.{Levels, Second, RunsAct, term_runs, term_has, thunk_has}
+use Rattle.acts.specs.Levels.{RunsAct, term_runs, term_has, thunk_has}
 use Rattle.acts.specs.Acts.{acts_from}
-use Rattle.acts.specs.Terms.{LooksAlike, TiedBy, Kinded, ActsUnder, OriginsTyped, with_origins, with_origins_group, setting_with, StandsFor, ArePut}
+use Rattle.acts.specs.Terms.{LooksAlike, TiedBy, ActsUnder, OriginsTyped, with_origins, with_origins_group, setting_with, StandsFor, ArePut}
 use Rattle.acts.proofs.Closing.{closed_same}
 use Rattle.acts.proofs.Filled.{size_declared}
 use Rattle.acts.proofs.Globals.{sound_with}

@@ -1,6 +1,5 @@
 -- Right sides that are renamed act as what has what they have.
-use Rattle.std.specs.Prelude.{slice_get}
-use Rattle.std.proofs.Common.{◌≡◌, ◌+◌, ℕ, suc, zero, List, length, Some, refl, sym, ap, ◌∙◌, subst}
+use Rattle.std.proofs.Common.{◌≡◌, ◌+◌, ℕ, suc, List, length, Some, sym, ap, ◌∙◌}
 use Rattle.chw_types.specs.declared.kind.Kind.{Kind}
 use Rattle.chw_types.specs.TypeTree.{TypeTree, TypeTrees}
 use Rattle.chw_types.specs.TypeMoves.{Renaming}

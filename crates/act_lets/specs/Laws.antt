@@ -1,5 +1,5 @@
 -- What is promised of rules on groups of bindings: what they make of a typed term acts as the term.
-use Rattle.std.specs.Prelude.{◌≡◌, ℕ, suc, Bool, false, List, reverse}
+use Rattle.std.specs.Prelude.{◌≡◌, suc, Bool, false, List, reverse}
 use Rattle.chw_types.specs.TypeTree.{TypeTree}
 use Rattle.chw_terms.specs.Occurs.{occurs}
 use Rattle.chw_terms.specs.TermMoves.{rename, rename_group, shift, sub, sub_group}
