@@ -1,6 +1,6 @@
 -- A primitive on a letrec or on a case.
 use Rattle.std.specs.Prelude.{slice_get}
-use Rattle.std.proofs.Common.{◌≡◌, ℕ, suc, zero, List, map, set, Some, refl, sym, ap, ◌∙◌, subst}
+use Rattle.std.proofs.Common.{◌≡◌, ℕ, List, map, set, Some, sym, ap, ◌∙◌, subst}
 use Rattle.std.proofs.lemmas.List.{map-set}
 use Rattle.chw_types.specs.declared.kind.Kind.{Kind}
 use Rattle.chw_types.specs.TypeTree.{TypeTree, TypeTrees}

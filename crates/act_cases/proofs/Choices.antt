@@ -5,7 +5,7 @@ use Rattle.std.proofs.lemmas.Bool.{eqb-true}
 use Rattle.std.proofs.lemmas.List.{length-map, length-reverse}
 use Rattle.chw_types.specs.declared.declarations.Data.{Data}
 use Rattle.chw_types.specs.declared.kind.Kind.{Kind}
-use Rattle.chw_types.specs.TypeTree.{TypeTree, TypeTrees}
+use Rattle.chw_types.specs.TypeTree.{TypeTree}
 use Rattle.chw_types.specs.TypeMoves.{sub, Substitution as TypeSubstitution}
 use Rattle.chw_types.specs.Arguments.{arguments}
 use Rattle.chw_terms.specs.declared.program.Program.{Program}
@@ -14,11 +14,10 @@ use Rattle.chw_terms.specs.declared.term.Pattern.TheVariants.{OfCon, OfLit, Defa
 use Rattle.chw_terms.specs.Constructors.{Constructor, con_at}
 use Rattle.chw_terms.specs.TermMoves.{Substitution, up_by}
 use Rattle.chw_terms.specs.TermTree.{TermTree, Alts, no_alts, alt, binders}
-use Rattle.chw_typing.specs.Scopes.{Setting}
 use Rattle.chw_typing.specs.HeadTypes.{PatternOf, of_con, of_lit, of_any, fields_at}
 use Rattle.chw_typing.specs.Typing.{AllGive, none_give, give_and}
 use Rattle.group_laws.specs.Groups.{each_body}
-use Rattle.chw_meaning.specs.Values.{Value, bits, con_of, Thunk, field, Thunks, none, thunk_and, count_of, fields_from}
+use Rattle.chw_meaning.specs.Values.{Value, Thunk, Thunks, none, thunk_and, count_of, fields_from}
 use Rattle.chw_meaning.specs.Eval.{Choice, goes_on, takes, looks, choice, is_only, by_fields, Arm, matches, bound, arm_of}
 use Rattle.chw_meaning.proofs.Once.{same_some}
 use Rattle.acts.specs.Levels.{Levels}

@@ -1,6 +1,6 @@
 -- What a constructor with all its arguments has, and that a data type's only constructor has one number.
 use Rattle.std.specs.Prelude.{slice_get}
-use Rattle.std.proofs.Common.{◌≡◌, ◌<◌, ◌≤◌, ◌+◌, ◌⊎◌, inl, inr, ℕ, suc, zero, Bool, true, false, ◌||◌, if◌then◌else◌, List, [], ◌∷◌, ◌++◌, length, map, Some, refl, sym, ap, ◌∙◌, subst, arith}
+use Rattle.std.proofs.Common.{◌≡◌, ◌<◌, ◌+◌, ◌⊎◌, inl, inr, ℕ, suc, zero, Bool, true, false, ◌||◌, if◌then◌else◌, List, [], ◌∷◌, length, map, Some, refl, sym, ap, ◌∙◌, subst, arith}
 use Rattle.std.specs.Prelude.{nat_lt}
 use Rattle.std.proofs.lemmas.Bool.{lt-ltb, le-ltb}
 use Rattle.chw_types.specs.declared.declarations.ConDecl.{ConDecl}
@@ -9,16 +9,14 @@ use Rattle.chw_types.specs.Arguments.{list_of}
 use Rattle.chw_types.specs.TypeTree.{TypeTree, TypeTrees, no_types, type_and}
 use Rattle.chw_terms.specs.Constructors.{Constructor, cons_of, constructors_from, con_at, first_con}
 use Rattle.chw_terms.specs.declared.program.Program.{Program}
-use Rattle.chw_terms.specs.declared.term.Arg.{Arg}
-use Rattle.chw_terms.specs.declared.term.Arg.TheVariants.{OfTerm, OfType}
+use Rattle.chw_terms.specs.declared.term.Arg.TheVariants.{OfTerm}
 use Rattle.chw_terms.specs.Evaluated.{evaluated}
 use Rattle.chw_terms.specs.TermTree.{TermTree, app, ty_app, con}
 use Rattle.chw_terms.specs.TermView.{applied}
 use Rattle.spine_types.specs.Given.{types_then}
-use Rattle.chw_meaning.specs.Values.{History, con_head, Value, con_of, partial, Thunk, closed, Thunks, none, thunk_and, count_of, closed_type}
+use Rattle.chw_meaning.specs.Values.{History, con_head, Value, con_of, partial, closed, Thunks, none, thunk_and, count_of, closed_type}
 use Rattle.chw_meaning.specs.Steps.{gives, takes_types, takes_thunks, lacks, saturated, step, params_of, fields_of}
 use Rattle.chw_meaning.specs.Eval.{plus, Evals, e_app, e_ty_app, e_con, a_runs, t_runs, Runs, r_gives}
-use Rattle.chw_meaning.proofs.Once.{same_some}
 use Rattle.scenes.specs.Origins.{with_origins}
 use Rattle.act_cases.proofs.Places.{onto}
 use Rattle.act_cases.proofs.Spines.{origins_arg, origins_applied}

@@ -6,22 +6,21 @@ use Rattle.chw_types.specs.TypeMoves.{Renaming}
 use Rattle.chw_types.proofs.SameLaws.{same_self}
 use Rattle.chw_terms.specs.declared.program.Program.{Program}
 use Rattle.chw_terms.specs.TermMoves.{rename_alts, Substitution}
-use Rattle.chw_terms.specs.TermTree.{TermTree, case_of, Alts, no_alts, alt}
+use Rattle.chw_terms.specs.TermTree.{TermTree, case_of, Alts, alt}
 use Rattle.chw_terms.proofs.Renamed.{rename_ids_alts}
-use Rattle.chw_typing.specs.Scopes.{AreTermTypes, HasKind}
-use Rattle.chw_typing.specs.HeadTypes.{IsLookedAt}
+use Rattle.chw_typing.specs.Scopes.{AreTermTypes}
 use Rattle.chw_typing.specs.Programs.{AreClosed, IsSound, IsTyped, setting_of}
-use Rattle.chw_typing.specs.Typing.{HasType, h_case, AllGive, give_and}
+use Rattle.chw_typing.specs.Typing.{HasType, h_case, give_and}
 use Rattle.group_laws.specs.Groups.{each_body}
 use Rattle.chw_meaning.specs.Values.{History, Value, closed, Thunks, none, count_of, closed_type, joined, fields_from}
-use Rattle.chw_meaning.specs.Eval.{plus, choice, Choice, goes_on, takes, looks, Arm, arm_of, Evals, e_goes_on, e_takes, e_looks}
+use Rattle.chw_meaning.specs.Eval.{plus, choice, goes_on, takes, looks, Arm, arm_of, Evals, e_goes_on, e_takes, e_looks}
 use Rattle.acts.specs.Levels.{Levels, later, Alike, Second, RunsAct, term_runs, term_has}
 use Rattle.acts.specs.Acts.{act_step, acts_from}
 use Rattle.acts.specs.Terms.{TiedBy, Kinded, OriginsTyped, setting_with}
-use Rattle.scenes.specs.Origins.{with_origins, with_origins_alts}
-use Rattle.acts.proofs.Arms.{Seen, seen}
+use Rattle.scenes.specs.Origins.{with_origins_alts}
+use Rattle.acts.proofs.Arms.{seen}
 use Rattle.acts.proofs.Cases.{looked_alike}
-use Rattle.acts.proofs.Filled.{filled, filled_alts, filled_renamed_alts, variables_by, itself_keeps}
+use Rattle.acts.proofs.Filled.{filled_alts, filled_renamed_alts, variables_by, itself_keeps}
 use Rattle.acts.proofs.Forms.{TermsAct}
 use Rattle.acts.proofs.Globals.{Any, Unrelated, unrelated_lasts, made_typed, globals_from, sound_with, evaluated_at}
 use Rattle.acts.proofs.HeadsAct.{heads_act}

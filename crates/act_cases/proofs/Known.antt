@@ -1,6 +1,6 @@
 -- A case of a constructor with all its arguments.
 use Rattle.std.specs.Prelude.{slice_get}
-use Rattle.std.proofs.Common.{◌≡◌, ◌+◌, ◌⊎◌, inl, inr, ℕ, suc, zero, Bool, true, false, List, [], ◌∷◌, length, map, Some, refl, sym, ap, ◌∙◌, subst, arith}
+use Rattle.std.proofs.Common.{◌≡◌, ◌+◌, ◌⊎◌, inl, inr, ℕ, zero, Bool, true, false, List, [], ◌∷◌, length, map, Some, refl, sym, ap, ◌∙◌, subst}
 use Rattle.std.proofs.lemmas.Bool.{eqb-true}
 use Rattle.std.proofs.lemmas.List.{length-map}
 use Rattle.chw_base.specs.declared.index.ConId.{ConId}
@@ -18,7 +18,6 @@ use Rattle.chw_terms.specs.declared.term.Pattern.TheVariants.{OfCon, OfLit, Defa
 use Rattle.chw_terms.specs.TermTree.{TermTree, con, case_of, Alts, no_alts, alt}
 use Rattle.chw_terms.specs.TermView.{applied}
 use Rattle.type_laws.proofs.SameForms.{as_data}
-use Rattle.chw_typing.specs.Alternatives.{Hides}
 use Rattle.chw_typing.specs.HeadTypes.{PatternOf, of_con, of_lit, of_any, fields_at}
 use Rattle.chw_typing.specs.Scopes.{Setting, HasKind, AreTermTypes, AreSame, with_more}
 use Rattle.chw_typing.specs.Programs.{AreClosed, IsSound, IsTyped, setting_of}
@@ -33,11 +32,11 @@ use Rattle.spine_types.specs.Given.{types_then, AreGiven}
 use Rattle.spine_types.proofs.Saturated.{con_at_arguments}
 use Rattle.rewriting.specs.Shapes.{IsTakenBy, by_first, by_later, with_fields}
 use Rattle.chw_meaning.specs.Values.{History, Value, con_of, Thunk, closed, field, Thunks, none, thunk_at, closed_type, joined, fields_from}
-use Rattle.chw_meaning.specs.Eval.{choice, looks, is_only, by_fields, bound, arm_of, e_goes_on, e_takes, e_looks, f_closed, f_field}
+use Rattle.chw_meaning.specs.Eval.{choice, looks, is_only, by_fields, bound, e_goes_on, e_takes, e_looks, f_closed, f_field}
 use Rattle.chw_meaning.proofs.Once.{same_some}
-use Rattle.acts.specs.Levels.{Levels, term_runs, term_has, thunk_has}
+use Rattle.acts.specs.Levels.{Levels, term_runs, term_has}
 use Rattle.acts.specs.Acts.{acts_from}
-use Rattle.acts.specs.Terms.{TiedBy, Kinded, ActsUnder, OriginsTyped, setting_with}
+use Rattle.acts.specs.Terms.{ActsUnder, OriginsTyped, setting_with}
 use Rattle.scenes.specs.Origins.{with_origins, with_origins_alts}
 use Rattle.acts.proofs.Closing.{closed_same}
 use Rattle.acts.proofs.Forms.{TermsAct}

@@ -1,12 +1,11 @@
 -- A case of a literal, and a default alone.
-use Rattle.std.specs.Prelude.{◌&&◌, not, if◌then◌else◌}
-use Rattle.std.proofs.Common.{◌≡◌, ◌≤◌, ℕ, suc, zero, Bool, true, false, List, [], ◌∷◌, length, Some, refl, sym, ap, ◌∙◌, subst, arith}
+use Rattle.std.proofs.Common.{◌≡◌, ℕ, Bool, true, false, List, [], ◌∷◌, length, refl, sym, ap, ◌∙◌, subst, arith}
 use Rattle.chw_base.specs.declared.index.ConId.{ConId}
 use Rattle.chw_types.specs.declared.declarations.Data.{Data}
 use Rattle.chw_types.specs.declared.kind.Kind.{Kind}
 use Rattle.chw_types.specs.declared.kind.Scalar.{Scalar}
 use Rattle.chw_types.specs.TypeTree.{TypeTree, nat_lit, scalar, TypeTrees}
-use Rattle.chw_types.specs.Polynomials.{greatest, ended}
+use Rattle.chw_types.specs.Polynomials.{ended}
 use Rattle.chw_types.specs.SamePromises.{natural_value}
 use Rattle.chw_types.specs.SameTypes.{SameTypes, same_naturals}
 use Rattle.chw_types.proofs.SameLaws.{one_value, same_turned}
@@ -34,8 +33,8 @@ use Rattle.acts.proofs.Globals.{sound_with}
 use Rattle.acts.proofs.Levels.{from_turns, runs_more}
 use Rattle.acts.proofs.SameActs.{same_acts}
 use Rattle.act_rules.proofs.Moves.{same_term_acts}
-use Rattle.act_cases.proofs.Known.{CaseTyped, case_typed, any_binds}
-use Rattle.act_cases.proofs.Taken.{TakenTyped, taken_typed, taken_hides, taken_arm, Agrees, AllAgree}
+use Rattle.act_cases.proofs.Known.{case_typed, any_binds}
+use Rattle.act_cases.proofs.Taken.{taken_typed, taken_hides, taken_arm, Agrees, AllAgree}
 
 bits_itself : (b : List Bool) → same_bits b b ≡ true
 bits_itself [] = refl

@@ -1,9 +1,9 @@
 -- Environments with further thunks on the first side, and alternatives with changed bodies.
-use Rattle.std.proofs.Common.{◌≡◌, ◌+◌, ℕ, suc, zero, List, Some, refl, sym, ap, ◌∙◌, subst, arith}
+use Rattle.std.proofs.Common.{◌≡◌, ◌+◌, ℕ, suc, List, Some, refl, sym, ap, ◌∙◌, subst, arith}
 use Rattle.chw_types.specs.TypeTree.{TypeTree, TypeTrees}
 use Rattle.chw_types.specs.TypeMoves.{raised}
 use Rattle.chw_terms.specs.declared.program.Program.{Program}
-use Rattle.chw_terms.specs.TermTree.{TermTree, var, Group, no_bindings, bind, Alts, no_alts, alt, binders}
+use Rattle.chw_terms.specs.TermTree.{TermTree, var, no_bindings, bind, Alts, no_alts, alt, binders}
 use Rattle.group_laws.specs.Groups.{each_body}
 use Rattle.chw_meaning.specs.Values.{Thunk, member, Thunks, none, thunk_and, count_of, thunk_at, joined, in_group}
 use Rattle.chw_meaning.specs.Eval.{Evals, e_var, Forces, f_member}

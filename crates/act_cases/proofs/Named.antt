@@ -1,6 +1,6 @@
 -- Terms that get names, and a body in which these stand for what has what the terms have.
 use Rattle.std.specs.Prelude.{slice_get}
-use Rattle.std.proofs.Common.{◌≡◌, ◌+◌, ◌⊎◌, inl, inr, ℕ, suc, zero, List, [], ◌∷◌, length, map, Some, refl, sym, ap, ◌∙◌, subst, arith}
+use Rattle.std.proofs.Common.{◌≡◌, ◌+◌, inl, inr, ℕ, suc, zero, List, [], ◌∷◌, length, map, Some, refl, sym, ap, ◌∙◌, subst}
 use Rattle.std.proofs.lemmas.List.{length-map}
 use Rattle.chw_types.specs.declared.kind.Kind.{Kind}
 use Rattle.chw_types.specs.TypeTree.{TypeTree, TypeTrees}
@@ -18,8 +18,8 @@ use Rattle.chw_typing.proofs.Kinded.{typed_more, typed_at, type_kinded}
 use Rattle.chw_typing.proofs.Lists.{found_in_map}
 use Rattle.spine_types.specs.Given.{AreGiven}
 use Rattle.rewriting.specs.Shapes.{or_body}
-use Rattle.chw_meaning.specs.Values.{History, Value, Thunk, closed, member, Thunks, thunk_at, closed_type, in_group, body_at}
-use Rattle.chw_meaning.specs.Eval.{Evals, e_letrec, Forces, f_member}
+use Rattle.chw_meaning.specs.Values.{History, Value, Thunk, member, Thunks, thunk_at, closed_type, in_group, body_at}
+use Rattle.chw_meaning.specs.Eval.{Evals, e_letrec, f_member}
 use Rattle.chw_meaning.proofs.Once.{same_some}
 use Rattle.acts.specs.Levels.{Levels, Second, RunsAct, term_runs, term_has, thunk_runs, thunk_has}
 use Rattle.acts.specs.Acts.{acts_from}

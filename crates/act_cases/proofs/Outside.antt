@@ -1,7 +1,7 @@
 -- An argument, a type or a case around a case.
-use Rattle.std.proofs.Common.{◌≡◌, ◌+◌, ℕ, suc, zero, List, Some, refl, sym, ap, ◌∙◌, subst, arith}
+use Rattle.std.proofs.Common.{◌≡◌, ◌+◌, ℕ, List, Some, refl, sym, ap, ◌∙◌, subst, arith}
 use Rattle.chw_types.specs.declared.kind.Kind.{Kind}
-use Rattle.chw_types.specs.TypeTree.{TypeTree, fun, TypeTrees}
+use Rattle.chw_types.specs.TypeTree.{TypeTree}
 use Rattle.chw_types.specs.TypeMoves.{raised, up as up_type, sub as sub_type}
 use Rattle.chw_types.proofs.SameLaws.{same_turned}
 use Rattle.chw_terms.specs.declared.program.Program.{Program}
@@ -17,10 +17,10 @@ use Rattle.chw_typing.proofs.EvaluatedTypes.{kind_evaluated}
 use Rattle.chw_typing.proofs.Kinded.{function_parts, type_kinded}
 use Rattle.group_laws.specs.Groups.{each_body}
 use Rattle.rewriting.specs.Shapes.{shift_alts}
-use Rattle.chw_meaning.specs.Values.{Thunk, closed, member, Thunks, none, thunk_and, count_of, thunk_at, type_at, closed_type, joined, in_group}
-use Rattle.acts.specs.Levels.{Levels, later, term_runs, term_has, thunk_has}
+use Rattle.chw_meaning.specs.Values.{member, Thunks, none, thunk_and, count_of, thunk_at, type_at, closed_type, joined}
+use Rattle.acts.specs.Levels.{Levels, later, term_runs, term_has}
 use Rattle.acts.specs.Acts.{acts_from}
-use Rattle.acts.specs.Terms.{TiedBy, Kinded, ActsUnder, OriginsTyped, setting_with}
+use Rattle.acts.specs.Terms.{TiedBy, ActsUnder, OriginsTyped, setting_with}
 use Rattle.scenes.specs.Origins.{with_origins, with_origins_alts}
 use Rattle.acts.proofs.Closing.{closed_kind, closed_same, put_closes}
 use Rattle.acts.proofs.Forms.{TermsAct, app_acts, ty_app_acts}
@@ -29,7 +29,7 @@ use Rattle.acts.proofs.Levels.{IsLevels, from_turns, at_levels, at_later, runs_l
 use Rattle.acts.proofs.SameActs.{same_acts}
 use Rattle.acts.proofs.Tied.{tied_later}
 use Rattle.act_rules.proofs.Lets.{in_let_acts}
-use Rattle.act_rules.proofs.Moves.{tied_spare, past_one, moved_acts, same_term_acts}
+use Rattle.act_rules.proofs.Moves.{moved_acts, same_term_acts}
 use Rattle.act_rules.proofs.Scrutinees.{other_scrutinee}
 use Rattle.act_cases.proofs.Frames.{ScrutineeActs, framed_acts}
 use Rattle.act_cases.proofs.Moves.{origins_each, thunk_beyond, tied_beyond, var_runs, bound_runs}

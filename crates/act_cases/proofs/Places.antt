@@ -1,11 +1,11 @@
 -- Where the variables that are bound together have their types and their thunks.
 use Rattle.std.specs.Prelude.{slice_get}
-use Rattle.std.proofs.Common.{◌≡◌, ◌+◌, ◌⊎◌, inl, inr, ℕ, suc, zero, List, [], ◌∷◌, length, Some, refl, sym, ap, ◌∙◌, subst, arith}
+use Rattle.std.proofs.Common.{◌≡◌, ◌+◌, ◌⊎◌, inl, inr, ℕ, suc, zero, List, [], ◌∷◌, length, Some, refl, ap, ◌∙◌, subst, arith}
 use Rattle.chw_types.specs.TypeTree.{TypeTree, TypeTrees}
 use Rattle.chw_typing.specs.Scopes.{with_more}
 use Rattle.chw_typing.proofs.Lists.{turned_onto}
 use Rattle.chw_terms.specs.TermTree.{Group, no_bindings, bind, size_of}
-use Rattle.chw_meaning.specs.Values.{Thunk, member, field, Thunks, none, thunk_and, thunk_at, joined, members, in_group, fields_from}
+use Rattle.chw_meaning.specs.Values.{Thunk, member, field, Thunks, thunk_and, thunk_at, joined, members, in_group, fields_from}
 
 -- the variable is the one for this place among the new ones, or one of those outside
 abbrev pub NewOrOuter : {A : Type 0} → List A → List A → ℕ → A → Type 0
@@ -20,6 +20,21 @@ new_or_outer (u ∷ ts) vs x t e = next (new_or_outer ts (u ∷ vs) x t (subst (
     next (inl (j, size, found)) = inl (suc j, omega (arith, size), found)
     next (inr (zero, size, found)) = inl (zero, omega (arith, size), found)
     next (inr (suc y, size, found)) = inr (y, omega (arith, size), found)
+
+-- the type of a variable outside of those that are bound together
+pub more_past : (ts vs : List TypeTree) (y : ℕ) → slice_get (with_more ts vs) (y + length ts) ≡ slice_get vs y
+more_past [] vs y = ap (slice_get vs) (let e : y + 0 ≡ y = omega arith in e)
+more_past (t ∷ ts) vs y =
+    ap (λ us. slice_get us (y + suc (length ts))) (turned_onto t ts vs)
+    ∙ ap (slice_get (with_more ts (t ∷ vs))) (let e : y + suc (length ts) ≡ suc y + length ts = omega arith in e)
+    ∙ more_past ts (t ∷ vs) (suc y)
+
+-- and that of the one for a place among them
+pub name_at : (ts vs : List TypeTree) (x j : ℕ) (t : TypeTree) → x + suc j ≡ length ts → slice_get ts j ≡ Some t → slice_get (with_more ts vs) x ≡ Some t
+name_at [] vs x j t size found = cc
+name_at (u ∷ ts) vs x zero t size found =
+    ap (λ us. slice_get us x) (turned_onto u ts vs) ∙ ap (slice_get (with_more ts (u ∷ vs))) (let e : x ≡ 0 + length ts = omega (arith, size) in e) ∙ more_past ts (u ∷ vs) 0 ∙ found
+name_at (u ∷ ts) vs x (suc j) t size found = ap (λ us. slice_get us x) (turned_onto u ts vs) ∙ name_at ts (u ∷ vs) x j t (omega (arith, size)) found
 
 pub thunk_past : (all g : Group) (i : ℕ) (γ : Thunks) (δ : TypeTrees) (before : Thunks) (x : ℕ) → thunk_at (members all g i γ δ before) (x + size_of g) ≡ thunk_at before x
 thunk_past all no_bindings i γ δ before x = ap (thunk_at before) (let e : x + 0 ≡ x = omega arith in e)

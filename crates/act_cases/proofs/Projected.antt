@@ -1,42 +1,42 @@
 -- A case of a port, and its projections.
 use Rattle.std.specs.Prelude.{slice_get, ◌==◌}
 use Rattle.std.specs.List.{range_with_len}
-use Rattle.std.proofs.Common.{◌≡◌, ◌+◌, ◌-◌, ◌<◌, ◌⊎◌, inl, inr, ℕ, suc, zero, Bool, true, List, [], ◌∷◌, ◌++◌, length, map, reverse, Some, refl, sym, ap, ◌∙◌, subst, arith}
+use Rattle.std.proofs.Common.{◌≡◌, ◌+◌, ◌-◌, ◌<◌, inl, inr, ℕ, suc, zero, true, List, [], length, map, reverse, Some, refl, sym, ap, ◌∙◌, subst, arith}
 use Rattle.std.proofs.lemmas.List.{append-nil, length-map}
 use Rattle.std.proofs.lemmas.List.FromFn.{length-map-range_with_len}
 use Rattle.chw_base.specs.declared.index.ConId.{ConId}
 use Rattle.chw_types.specs.declared.declarations.Data.{Data}
 use Rattle.chw_types.specs.declared.kind.Kind.{Kind}
 use Rattle.chw_types.specs.Arguments.{arguments}
-use Rattle.chw_types.specs.Ports.{IsPort, Leaves, one_leaf, leaves_of_fields}
+use Rattle.chw_types.specs.Ports.{IsPort, Leaves, leaves_of_fields}
 use Rattle.chw_types.specs.declared.ports.Leaf.{Leaf}
 use Rattle.chw_types.specs.TypeTree.{TypeTree, data_of, TypeTrees}
 use Rattle.chw_types.specs.TypeMoves.{raised, sub}
 use Rattle.chw_types.proofs.SameLaws.{same_turned}
-use Rattle.chw_terms.specs.Constructors.{Constructor, con_at}
+use Rattle.chw_terms.specs.Constructors.{con_at}
 use Rattle.chw_terms.specs.declared.program.Program.{Program}
 use Rattle.chw_terms.specs.declared.term.Pattern.TheVariants.{OfCon}
 use Rattle.chw_terms.specs.TermMoves.{rename}
 use Rattle.chw_terms.specs.TermTree.{TermTree, var, Group, size_of, case_of, Alts, no_alts, alt}
 use Rattle.chw_terms.specs.Unrolled.{named}
-use Rattle.chw_typing.specs.HeadTypes.{PatternOf, of_con, fields_at}
+use Rattle.chw_typing.specs.HeadTypes.{PatternOf, of_con}
 use Rattle.chw_typing.specs.Scopes.{AreTermTypes, with_more}
 use Rattle.chw_typing.specs.Programs.{AreClosed, IsSound, IsTyped, setting_of}
 use Rattle.chw_typing.specs.Typing.{HasType}
 use Rattle.chw_typing.proofs.Heads.{is_constructor}
 use Rattle.chw_typing.proofs.Kinded.{typed_more, type_kinded}
-use Rattle.chw_typing.proofs.Lists.{found_in_map, turned_onto}
+use Rattle.chw_typing.proofs.Lists.{found_in_map}
 use Rattle.chw_typing.proofs.Patterns.{binds}
-use Rattle.rewriting.specs.Shapes.{IsTakenBy, by_first, or_body, projections}
+use Rattle.rewriting.specs.Shapes.{by_first, or_body, projections}
 use Rattle.chw_meaning.specs.Values.{Thunk, closed, member, field, Thunks, none, thunk_at, closed_type, in_group, fields_from}
 use Rattle.chw_meaning.specs.Eval.{choice, takes, is_only, by_fields, Evals, e_goes_on, e_takes, e_looks}
 use Rattle.chw_meaning.proofs.Once.{same_some}
 use Rattle.acts.specs.Levels.{Levels, Second, RunsAct, term_runs, term_has, thunk_has, ThunksAct}
 use Rattle.acts.specs.Acts.{AllAct, acts_from}
-use Rattle.acts.specs.Terms.{LooksAlike, TiedBy, Kinded, ActsUnder, OriginsTyped, setting_with}
+use Rattle.acts.specs.Terms.{LooksAlike, ActsUnder, OriginsTyped, setting_with}
 use Rattle.scenes.specs.Origins.{with_origins, with_origins_group}
 use Rattle.acts.proofs.Closing.{closed_same}
-use Rattle.acts.proofs.Forms.{TermsAct, thunk_acts}
+use Rattle.acts.proofs.Forms.{thunk_acts}
 use Rattle.acts.proofs.Globals.{sound_with}
 use Rattle.acts.proofs.Levels.{IsLevels, from_turns, cost, runs_more}
 use Rattle.acts.proofs.SameActs.{Same, same_acts}
@@ -47,7 +47,7 @@ use Rattle.act_rules.proofs.Moves.{moved_acts, same_term_acts}
 use Rattle.act_cases.proofs.Known.{CaseTyped, case_typed}
 use Rattle.act_cases.proofs.Moves.{var_runs}
 use Rattle.act_cases.proofs.Named.{member_runs, or_body_runs, size_named, body_named}
-use Rattle.act_cases.proofs.Places.{NewOrOuter, new_or_outer, member_at, outside_at, field_at, field_past}
+use Rattle.act_cases.proofs.Places.{NewOrOuter, new_or_outer, name_at, member_at, outside_at, field_at, field_past}
 use Rattle.act_cases.proofs.Taken.{TakenTyped, taken_typed}
 
 -- the constructor of a port is the only one of its data type
@@ -67,20 +67,6 @@ each_at f a (suc n) (suc j) less = each_at f (a + 1) n j (omega (arith, less)) �
 
 pattern_length : {datas : List Data} {t : TypeTree} {c : ConId} {n : ℕ} {fields : List TypeTree} → PatternOf datas t (OfCon c n) fields → length fields ≡ n
 pattern_length (of_con {ts = ts} it e o m) = length-map it.decl.fields (λ f. sub f (arguments ts)) ∙ m
-
--- the type of the name for this place
-name_at : (ts vs : List TypeTree) (x j : ℕ) (t : TypeTree) → x + suc j ≡ length ts → slice_get ts j ≡ Some t → slice_get (with_more ts vs) x ≡ Some t
-name_at [] vs x j t size found = cc
-name_at (u ∷ ts) vs x zero t size found =
-    ap (λ us. slice_get us x) (turned_onto u ts vs) ∙ ap (slice_get (with_more ts (u ∷ vs))) (let e : x ≡ 0 + length ts = omega (arith, size) in e) ∙ past ts (u ∷ vs) 0 ∙ found
-  where
-    past : (ts vs : List TypeTree) (y : ℕ) → slice_get (with_more ts vs) (y + length ts) ≡ slice_get vs y
-    past [] vs y = ap (slice_get vs) (let e : y + 0 ≡ y = omega arith in e)
-    past (t ∷ ts) vs y =
-        ap (λ us. slice_get us (y + suc (length ts))) (turned_onto t ts vs)
-        ∙ ap (slice_get (with_more ts (t ∷ vs))) (let e : y + suc (length ts) ≡ suc y + length ts = omega arith in e)
-        ∙ past ts (t ∷ vs) (suc y)
-name_at (u ∷ ts) vs x (suc j) t size found = ap (λ us. slice_get us x) (turned_onto u ts vs) ∙ name_at ts (u ∷ vs) x j t (omega (arith, size)) found
 
 -- a case that takes fields runs as its alternative
 takes_runs : {p : Program} {r : Levels} → IsLevels p r → (t : TypeTree) (s e : TermTree) (alts : Alts) (k : ℕ) (γ : Thunks) (δ : TypeTrees) (second : Second) → choice p.datas alts ≡ takes k e → RunsAct r t (term_runs p e (fields_from zero k (closed s γ δ) γ) δ) second → RunsAct r t (term_runs p (case_of s alts) γ δ) second

@@ -1,6 +1,6 @@
 -- The alternative that takes what is looked at.
 use Rattle.std.specs.Prelude.{if◌then◌else◌, ◌==◌}
-use Rattle.std.proofs.Common.{◌≡◌, ℕ, suc, zero, Bool, true, false, List, [], ◌∷◌, Some, refl, sym, ap, ◌∙◌, subst}
+use Rattle.std.proofs.Common.{◌≡◌, ℕ, Bool, true, false, List, Some, refl, sym, ap, ◌∙◌}
 use Rattle.std.proofs.lemmas.Bool.{eq-eqb, eqb-true}
 use Rattle.chw_types.specs.declared.kind.Kind.{Kind}
 use Rattle.chw_types.specs.TypeTree.{TypeTree}
@@ -10,10 +10,10 @@ use Rattle.chw_terms.specs.declared.term.Pattern.TheVariants.{OfCon, OfLit, Defa
 use Rattle.chw_terms.specs.TermTree.{TermTree, Alts, no_alts, alt}
 use Rattle.chw_typing.specs.Alternatives.{Hides}
 use Rattle.chw_typing.specs.Scopes.{Setting, with_more}
-use Rattle.chw_typing.specs.Typing.{HasType, Binds, AllGive, none_give, give_and}
+use Rattle.chw_typing.specs.Typing.{HasType, Binds, AllGive, give_and}
 use Rattle.term_paths.specs.Paths.{Branch}
 use Rattle.rewriting.specs.Shapes.{IsTakenBy, by_first, by_later}
-use Rattle.chw_meaning.specs.Values.{Value, bits, con_of, Thunks}
+use Rattle.chw_meaning.specs.Values.{Value, con_of, Thunks}
 use Rattle.chw_meaning.specs.Eval.{matches, bound, arm_of}
 use Rattle.scenes.specs.Origins.{with_origins, with_origins_alts}
 

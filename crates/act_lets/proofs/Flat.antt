@@ -1,16 +1,16 @@
 -- A letrec that is the body of a letrec.
 use Rattle.std.specs.Prelude.{slice_get}
-use Rattle.std.proofs.Common.{◌≡◌, ◌+◌, ◌⊎◌, inl, inr, ℕ, suc, zero, List, length, Some, refl, sym, ap, ◌∙◌, subst, arith}
+use Rattle.std.proofs.Common.{◌≡◌, ◌+◌, ◌⊎◌, inl, inr, ℕ, List, length, Some, sym, ap, ◌∙◌, arith}
 use Rattle.chw_types.specs.declared.kind.Kind.{Kind}
-use Rattle.chw_types.specs.TypeTree.{TypeTree, TypeTrees}
+use Rattle.chw_types.specs.TypeTree.{TypeTree}
 use Rattle.chw_types.specs.TypeMoves.{raised}
 use Rattle.chw_terms.specs.declared.program.Program.{Program}
-use Rattle.chw_terms.specs.TermMoves.{rename, rename_group, shift}
+use Rattle.chw_terms.specs.TermMoves.{rename}
 use Rattle.chw_terms.specs.TermTree.{TermTree, letrec, Group, size_of}
 use Rattle.chw_terms.proofs.Renamed.{rename_ids}
 use Rattle.chw_typing.specs.Scopes.{AreTermTypes, with_more, declared}
 use Rattle.chw_typing.specs.Programs.{AreClosed, IsSound, IsTyped, setting_of}
-use Rattle.chw_typing.specs.Typing.{HasType, h_letrec, AreBound}
+use Rattle.chw_typing.specs.Typing.{HasType, h_letrec}
 use Rattle.chw_typing.proofs.Kinded.{typed_more, bound_typed}
 use Rattle.group_laws.specs.Groups.{joined}
 use Rattle.group_laws.proofs.Parts.{size_joined}
@@ -19,10 +19,9 @@ use Rattle.chw_meaning.specs.Values.{member, Thunks, thunk_at, closed_type, in_g
 use Rattle.chw_meaning.specs.Eval.{e_letrec}
 use Rattle.acts.specs.Levels.{term_runs, term_has}
 use Rattle.acts.specs.Acts.{acts_from}
-use Rattle.acts.specs.Terms.{TiedBy, Kinded, ActsUnder, OriginsTyped, setting_with}
+use Rattle.acts.specs.Terms.{ActsUnder, OriginsTyped, setting_with}
 use Rattle.scenes.specs.Origins.{with_origins, with_origins_group}
 use Rattle.acts.proofs.Filled.{size_declared}
-use Rattle.acts.proofs.Forms.{TermsAct}
 use Rattle.acts.proofs.Levels.{from_turns, runs_more}
 use Rattle.act_rules.proofs.Lets.{size_with_origins}
 use Rattle.act_rules.proofs.Moves.{same_term_acts}

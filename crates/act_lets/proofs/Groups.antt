@@ -1,11 +1,11 @@
 -- The right sides of groups that are joined, renamed, and stand for made definitions; and their types.
 use Rattle.std.specs.Prelude.{slice_get}
-use Rattle.std.proofs.Common.{◌≡◌, ◌+◌, ◌<◌, ◌⊎◌, inl, inr, ℕ, suc, zero, List, [], ◌∷◌, length, Some, refl, sym, ap, ◌∙◌, subst, arith}
+use Rattle.std.proofs.Common.{◌≡◌, ◌+◌, ◌<◌, ℕ, suc, zero, List, ◌∷◌, Some, refl, sym, ap, ◌∙◌, subst, arith}
 use Rattle.chw_types.specs.declared.kind.Kind.{Kind}
 use Rattle.chw_types.specs.TypeTree.{TypeTree}
 use Rattle.chw_types.specs.TypeMoves.{Renaming}
 use Rattle.chw_types.specs.SameTypes.{SameTypes}
-use Rattle.chw_terms.specs.TermMoves.{rename, rename_group}
+use Rattle.chw_terms.specs.TermMoves.{rename, rename_group, Substitution, sub, sub_group}
 use Rattle.chw_terms.specs.TermTree.{TermTree, letrec, Group, no_bindings, bind, size_of}
 use Rattle.chw_typing.specs.Scopes.{Setting, HasKind, with_more, declared}
 use Rattle.chw_typing.specs.Typing.{HasType, h_letrec, AreBound, none_bound, bound_and}
@@ -30,6 +30,17 @@ pub size_renamed : (g : Group) (ρ : Renaming) → size_of (rename_group g ρ) �
 unfolding rename
 size_renamed no_bindings ρ = refl
 size_renamed (bind t e g) ρ = ap suc (size_renamed g ρ)
+
+pub body_put : (g : Group) (σ : Substitution) (i : ℕ) (e : TermTree) → body_at g i ≡ Some e → body_at (sub_group g σ) i ≡ Some (sub e σ)
+unfolding sub
+body_put no_bindings σ i e is = cc
+body_put (bind t x g) σ zero e is = let same : x ≡ e = cc in ap (λ e. Some (sub e σ)) same
+body_put (bind t x g) σ (suc i) e is = body_put g σ i e is
+
+pub size_put : (g : Group) (σ : Substitution) → size_of (sub_group g σ) ≡ size_of g
+unfolding sub
+size_put no_bindings σ = refl
+size_put (bind t e g) σ = ap suc (size_put g σ)
 
 pub first_joined : (g h : Group) (i : ℕ) (e : TermTree) → body_at g i ≡ Some e → body_at (joined g h) i ≡ Some e
 first_joined no_bindings h i e is = cc
@@ -59,14 +70,6 @@ bound_at (bound_and kt fs d x bs) (suc j) t i =
     let one = bound_at bs j t i in
     record { kind = one.kind; has_kind = one.has_kind; right = one.right; is = one.is; type = one.type; has = one.has; same = one.same }
 
--- the type of a variable outside of those that are bound together
-pub more_past : (ts vs : List TypeTree) (y : ℕ) → slice_get (with_more ts vs) (y + length ts) ≡ slice_get vs y
-more_past [] vs y = ap (slice_get vs) (let e : y + 0 ≡ y = omega arith in e)
-more_past (t ∷ ts) vs y =
-    ap (λ us. slice_get us (y + suc (length ts))) (turned_onto t ts vs)
-    ∙ ap (slice_get (with_more ts (t ∷ vs))) (let e : y + suc (length ts) ≡ suc y + length ts = omega arith in e)
-    ∙ more_past ts (t ∷ vs) (suc y)
-
 -- the bindings of the first of two joined groups
 pub joined_below : (g h : Group) (i : ℕ) → i < size_of g → body_at (joined g h) i ≡ body_at g i
 joined_below no_bindings h i less = absurd (let e : suc i ≡ zero = omega (arith, less) in cc)
@@ -86,3 +89,19 @@ pub record LetTyped (s : Setting) (kinds : List Kind) (vars : List TypeTree) (g 
 
 pub let_typed : {s : Setting} {kinds : List Kind} {vars : List TypeTree} {g : Group} {e : TermTree} {t : TypeTree} → HasType s kinds vars (letrec g e) t → LetTyped s kinds vars g e t
 let_typed (h_letrec {k = k} d kt bs) = record { kind = k; has = d; bound = bs }
+
+-- the bindings without the one between are typed as before
+pub others_bound : {s : Setting} {kinds : List Kind} {vars : List TypeTree} {k : Kind} (front back : Group) (t : TypeTree) (e : TermTree) → AreBound s kinds vars k (joined front (bind t e back)) → AreBound s kinds vars k (joined front back)
+others_bound no_bindings back t e (bound_and kt fs d x bs) = bs
+others_bound (bind u a front) back t e (bound_and kt fs d x bs) = bound_and kt fs d x (others_bound front back t e bs)
+
+-- the types of the variables, the one between apart
+pub between_apart : (front back : Group) (t : TypeTree) (e : TermTree) (vars : List TypeTree) → with_more (declared (joined front (bind t e back))) vars ≡ with_more (declared back) (t ∷ with_more (declared front) vars)
+between_apart no_bindings back t e vars = turned_onto t (declared back) vars
+between_apart (bind u a front) back t e vars =
+    turned_onto u (declared (joined front (bind t e back))) vars ∙ between_apart front back t e (u ∷ vars) ∙ ap (λ us. with_more (declared back) (t ∷ us)) (sym (turned_onto u (declared front) vars))
+
+pub joined_apart : (front back : Group) (vars : List TypeTree) → with_more (declared (joined front back)) vars ≡ with_more (declared back) (with_more (declared front) vars)
+joined_apart no_bindings back vars = refl
+joined_apart (bind u a front) back vars =
+    turned_onto u (declared (joined front back)) vars ∙ joined_apart front back (u ∷ vars) ∙ ap (with_more (declared back)) (sym (turned_onto u (declared front) vars))

@@ -1,6 +1,5 @@
 -- Right sides that are renamed act as what has what they have.
-use Rattle.std.specs.Prelude.{slice_get}
-use Rattle.std.proofs.Common.{◌≡◌, ◌+◌, ℕ, suc, zero, List, length, Some, refl, sym, ap, ◌∙◌, subst}
+use Rattle.std.proofs.Common.{◌≡◌, ◌+◌, ℕ, suc, List, length, Some, sym, ap, ◌∙◌}
 use Rattle.chw_types.specs.declared.kind.Kind.{Kind}
 use Rattle.chw_types.specs.TypeTree.{TypeTree, TypeTrees}
 use Rattle.chw_types.specs.TypeMoves.{Renaming}
@@ -20,12 +19,11 @@ use Rattle.acts.specs.Acts.{acts_from}
 use Rattle.acts.specs.Terms.{TiedBy, Kinded, OriginsTyped, setting_with}
 use Rattle.scenes.specs.Origins.{with_origins, with_origins_group}
 use Rattle.acts.proofs.Closing.{closed_same}
-use Rattle.acts.proofs.Globals.{sound_with}
+use Rattle.acts.proofs.Globals.{sound_with, renamed_acts}
 use Rattle.acts.proofs.Levels.{IsLevels, from_turns, cost, runs_more}
 use Rattle.acts.proofs.SameActs.{same_acts}
-use Rattle.act_rules.proofs.Moves.{moved_acts}
-use Rattle.act_cases.proofs.Places.{outside_at}
-use Rattle.act_lets.proofs.Groups.{more_past}
+use Rattle.act_rules.proofs.Moves.{moved_acts, origins_act}
+use Rattle.act_cases.proofs.Places.{more_past, outside_at}
 
 -- what a right side has, the binding has
 pub member_has : (p : Program) (g : Group) (i : ℕ) (e : TermTree) (γ : Thunks) (δ : TypeTrees) → body_at g i ≡ Some e → (h : History) (v : Value) → term_has p e (in_group g γ δ) δ h v → thunk_has p (member g i γ δ) h v
@@ -57,3 +55,13 @@ module _ (p : Program) (sound : IsSound (setting_of p)) (typed : IsTyped p) (typ
       runs_more l (closed_type t δ) (term_runs p (with_origins o (rename e ρ)) γ' δ) (term_has p (with_origins o e) γ δ) (thunk_has p th) has
       (same_acts sound l alike (term_runs p (with_origins o (rename e ρ)) γ' δ) (term_has p (with_origins o e) γ δ)
       (moved_acts p sound typed types o are_closed have ρ g d (acts_from p n) l δ γ' γ known names))
+
+  -- renamed on both sides
+  pub renamed_right : {kinds : List Kind} {vars : List TypeTree} {e : TermTree} {t u : TypeTree} {k : Kind} → AreTermTypes (setting_with p types) kinds vars → HasType (setting_with p types) kinds vars e u → HasKind (setting_of p) kinds t k → SameTypes t u → (n : ℕ) (ρ' ρ : Renaming) (δ : TypeTrees) (γ' γ : Thunks) → Kinded p kinds δ → TiedBy p (acts_from p n) vars ρ' ρ δ γ' γ → (second : Second) → ((h : History) (v : Value) → term_has p (with_origins o (rename e ρ)) γ δ h v → second h v) → RunsAct (acts_from p n) (closed_type t δ) (term_runs p (with_origins o (rename e ρ')) γ' δ) second
+  renamed_right {e = e} {t = t} g d kt same n ρ' ρ δ γ' γ known names second has =
+      let full = sound_with p types sound are_closed in
+      let l = from_turns p n in
+      let alike = closed_same p sound δ known (type_kinded d full g).has kt (same_turned same) in
+      runs_more l (closed_type t δ) (term_runs p (with_origins o (rename e ρ')) γ' δ) (term_has p (with_origins o (rename e ρ)) γ δ) second has
+      (same_acts sound l alike (term_runs p (with_origins o (rename e ρ')) γ' δ) (term_has p (with_origins o (rename e ρ)) γ δ)
+      (renamed_acts p sound typed types o o ρ' ρ are_closed g d (origins_act p sound typed types o are_closed have) n δ γ' γ known names))

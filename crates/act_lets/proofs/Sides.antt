@@ -3,7 +3,7 @@ use Rattle.std.specs.Prelude.{slice_get}
 use Rattle.std.proofs.Common.{◌≡◌, ◌+◌, ◌-◌, ◌<◌, ◌≤◌, ◌⊎◌, inl, inr, ℕ, suc, zero, List, length, Some, refl, sym, ap, ◌∙◌, subst, arith}
 use Rattle.std.proofs.lemmas.Bool.{cases_lt}
 use Rattle.chw_types.specs.declared.kind.Kind.{Kind}
-use Rattle.chw_types.specs.TypeTree.{TypeTree, TypeTrees}
+use Rattle.chw_types.specs.TypeTree.{TypeTree}
 use Rattle.chw_types.specs.TypeMoves.{Renaming, raised}
 use Rattle.chw_types.proofs.TypeMoved.{raised_below, raised_above}
 use Rattle.chw_terms.specs.declared.program.Program.{Program}
@@ -12,18 +12,18 @@ use Rattle.chw_terms.specs.TermTree.{TermTree, letrec, Group, bind, size_of}
 use Rattle.chw_terms.proofs.Renumbered.{exchanged_first, exchanged_next, exchanged_above}
 use Rattle.chw_typing.specs.Scopes.{AreTermTypes, with_more, declared}
 use Rattle.chw_typing.specs.Programs.{AreClosed, IsSound, IsTyped, setting_of}
-use Rattle.chw_typing.specs.Typing.{HasType, h_letrec, AreBound}
+use Rattle.chw_typing.specs.Typing.{HasType}
 use Rattle.chw_typing.proofs.Kinded.{typed_more, bound_typed}
 use Rattle.group_laws.specs.Groups.{joined}
 use Rattle.group_laws.proofs.Parts.{size_joined}
 use Rattle.rewriting.specs.Shapes.{shift_group}
 use Rattle.rewriting.specs.Lets.{side_joined}
-use Rattle.chw_meaning.specs.Values.{Thunk, member, Thunks, thunk_at, closed_type, in_group, body_at}
+use Rattle.chw_meaning.specs.Values.{member, Thunks, thunk_at, closed_type, in_group, body_at}
 use Rattle.chw_meaning.specs.Eval.{e_letrec}
 use Rattle.chw_meaning.proofs.Once.{same_some}
 use Rattle.acts.specs.Levels.{RunsAct, term_runs, term_has, thunk_has}
 use Rattle.acts.specs.Acts.{acts_from}
-use Rattle.acts.specs.Terms.{TiedBy, Kinded, ActsUnder, OriginsTyped, setting_with}
+use Rattle.acts.specs.Terms.{ActsUnder, OriginsTyped, setting_with}
 use Rattle.scenes.specs.Origins.{with_origins, with_origins_group}
 use Rattle.acts.proofs.Filled.{size_declared}
 use Rattle.acts.proofs.Levels.{from_turns, runs_more}
