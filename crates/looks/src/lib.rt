@@ -17,7 +17,7 @@ pub trait Looks {
 }
 
 /// A count of looks.
-#[derive(Debug)]
+#[derive(Debug, Drop)]
 pub struct LookCount {
     looks: u64,
 }
@@ -53,9 +53,9 @@ impl Looks for LookCount {
 }
 
 #[test]
-fn looks_are_counted() {
+fn looks_are_counted(rt: HostRuntime) {
     let mut looks = LookCount::new();
     looks.look();
     looks.look();
-    assert_eq!(looks.count(), 2);
+    assert_eq!(rt; looks.count(), 2);
 }
