@@ -1,3 +1,4 @@
+pub mod Counter
 pub mod FirstOrder
 pub mod Plain
 pub mod Shown

@@ -1,9 +1,10 @@
 //! Worked examples, as the contract of a call that does nothing.
-ghost use Rattle.normal_forms.specs.Examples.{CounterIsCircuit, TwoLifted, Constants, CaseOfBlocks, NoCycle, NoLambda, NoVariableBegins, WidthHolds, WidthFails, WholeOfFirst, UsesItself};
+ghost use Rattle.normal_forms.specs.Examples.{CounterIsCircuit, CounterIsNormal, TwoLifted, Constants, CaseOfBlocks, NoCycle, NoLambda, NoVariableBegins, WidthHolds, WidthFails, WholeOfFirst, UsesItself};
 
 /// Bodies in normal form.
 pub fn of_forms()
     ensures counter { CounterIsCircuit }
+    ensures normal { CounterIsNormal }
     ensures lifted { TwoLifted }
     ensures constants { Constants }
     ensures blocks { CaseOfBlocks }
