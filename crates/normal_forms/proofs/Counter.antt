@@ -1,12 +1,11 @@
 -- The counter is in normal form.
-use Rattle.std.proofs.Common.{◌≡◌, ℕ, suc, zero, ◌<◌, refl, sym, ◌∙◌, subst, arith, Some, length, List, [], ◌∷◌}
+use Rattle.std.proofs.Common.{◌≡◌, ℕ, suc, zero, refl, sym, ◌∙◌, subst, arith, Some, List, [], ◌∷◌}
 use Rattle.std.specs.Prelude.{Contains}
 use Rattle.std.specs.List.{AllByRecursion}
 use Rattle.chw_types.specs.BuiltIn.{built_in}
 use Rattle.chw_types.specs.declared.declarations.Data.{Data}
 use Rattle.chw_types.specs.declared.kind.Kind.{Kind}
 use Rattle.chw_types.specs.declared.kind.Kind.TheVariants.{Dom, Val, Cir}
-use Rattle.chw_types.specs.declared.kind.Scalar.TheVariants.{U}
 use Rattle.chw_types.specs.declared.ports.Leaf.{Leaf}
 use Rattle.chw_types.specs.KindFound.{kind_found}
 use Rattle.chw_types.specs.Ports.{Leaves, one_leaf, leaves_of_fields}
@@ -16,16 +15,16 @@ use Rattle.chw_types.specs.TypeMoves.{sub, rename, up, up_by, put_at}
 use Rattle.chw_types.specs.TypeTree.{TypeTree, ty_var, domain, fun, signal, for_all}
 use Rattle.chw_types.proofs.KindsFound.{found_is_kind}
 use Rattle.chw_types.proofs.SameLaws.{same_self}
-use Rattle.chw_terms.specs.TermTree.{TermTree, made, letrec}
+use Rattle.chw_terms.specs.TermTree.{TermTree}
 use Rattle.chw_terms.specs.TypesMoved.{rename_types}
 use Rattle.chw_typing.specs.Scopes.{HasKind}
 use Rattle.chw_typing.specs.Typing.{HasType, h_var, h_made, h_app, h_ty_app, h_letrec, h_prim, h_lit, none_bound, bound_and}
 use Rattle.chw_layout.specs.Measured.{HasWidth, measured_scalar}
 use Rattle.scenes.specs.Named.{under_none}
 use Rattle.scenes.specs.Origins.{setting_at}
-use Rattle.normal_forms.specs.Examples.{byte, bytes, zeros, here, counting, counter, register_of, lifted, CounterIsNormal}
+use Rattle.normal_forms.specs.Examples.{byte, bytes, zeros, here, counter, register_of, lifted, CounterIsNormal}
 use Rattle.normal_forms.specs.Normal.{HoldsWidths}
-use Rattle.normal_forms.specs.Parts.{declared_by, EachDeclared}
+use Rattle.normal_forms.specs.Parts.{declared_by}
 use Rattle.normal_forms.proofs.Plain.{AllParts, part_holds}
 use Rattle.normal_forms.proofs.Shown.{byte_port, counter_is_circuit}
 

@@ -2,4 +2,5 @@ pub mod Counter
 pub mod FirstOrder
 pub mod Plain
 pub mod Shown
+pub mod ShownBlocked
 pub mod Wholes

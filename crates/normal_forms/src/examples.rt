@@ -1,4 +1,5 @@
 //! Worked examples, as the contract of a call that does nothing.
+ghost use Rattle.normal_forms.specs.BlockedExamples.{CycleBlocks, CounterIsFree, FunctionBlocks, WideBinding, LongVector};
 ghost use Rattle.normal_forms.specs.Examples.{CounterIsCircuit, CounterIsNormal, TwoLifted, Constants, CaseOfBlocks, NoCycle, NoLambda, NoVariableBegins, WidthHolds, WidthFails, WholeOfFirst, UsesItself};
 
 /// Bodies in normal form.
@@ -27,4 +28,13 @@ pub fn of_widths()
 pub fn of_uses()
     ensures whole { WholeOfFirst }
     ensures itself { UsesItself }
+{}
+
+/// Places that are blocked, and one that isn't.
+pub fn of_blocked_places()
+    ensures cycle { CycleBlocks }
+    ensures counter { CounterIsFree }
+    ensures function { FunctionBlocks }
+    ensures scalar { WideBinding }
+    ensures length { LongVector }
 {}
