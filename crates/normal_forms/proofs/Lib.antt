@@ -1,4 +1,6 @@
+pub mod Counter
 pub mod FirstOrder
 pub mod Plain
 pub mod Shown
+pub mod ShownBlocked
 pub mod Wholes

@@ -32,7 +32,7 @@ use Rattle.normal_forms.specs.Values.{IsSide, side_variable, side_literal, side_
 abbrev identity : TermTree
 identity = lam byte (var 0)
 
-byte_port : IsPort here.program.datas bytes
+pub byte_port : IsPort here.program.datas bytes
 byte_port = (_, one_leaf {dom = record { number = 0 }} representable_scalar)
 
 pub counter_is_circuit : CounterIsCircuit

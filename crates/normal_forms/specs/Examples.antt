@@ -16,7 +16,7 @@ use Rattle.spine_types.specs.Given.{types_then}
 use Rattle.scenes.specs.Origins.{MadeOf, Origins}
 use Rattle.rewriting.specs.Shapes.{fmap_of, ap_of}
 use Rattle.normal_forms.specs.Circuits.{IsConstant, IsCircuitSide, IsCircuitBody}
-use Rattle.normal_forms.specs.Normal.{HoldsWidths}
+use Rattle.normal_forms.specs.Normal.{HoldsWidths, IsNormalBody}
 use Rattle.normal_forms.specs.Uses.{IsAcyclic, WholeOf}
 use Rattle.normal_forms.specs.Values.{on_names, IsBlock, IsSide}
 
@@ -67,6 +67,10 @@ counter = letrec (bind bytes (register_of zeros 0) (bind bytes (lifted 1) no_bin
 
 abbrev pub CounterIsCircuit : Type 0
 CounterIsCircuit = IsCircuitBody here counter
+
+-- and as the body of m0 it is in normal form
+abbrev pub CounterIsNormal : Type 0
+CounterIsNormal = IsNormalBody here counting counter
 
 -- `ap (fmap m2 x) y`: m2 takes two bytes, and m1 doesn't
 abbrev pub lifted_on_two : ℕ → TermTree

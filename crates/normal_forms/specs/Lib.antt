@@ -1,3 +1,5 @@
+pub mod Blocked
+pub mod BlockedExamples
 pub mod Circuits
 pub mod Examples
 pub mod Laws
