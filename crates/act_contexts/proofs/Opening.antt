@@ -12,7 +12,8 @@ use Rattle.chw_typing.proofs.Lists.{found_in_map}
 use Rattle.chw_meaning.specs.Values.{closed_type}
 use Rattle.chw_meaning.specs.Gives.{Better}
 use Rattle.acts.specs.Acts.{acts_from}
-use Rattle.acts.specs.Terms.{ActsAs, with_origins, eta_expanded}
+use Rattle.scenes.specs.Origins.{with_origins, eta_expanded}
+use Rattle.acts.specs.Terms.{ActsAs}
 use Rattle.acts.proofs.Better.{acts_gives}
 use Rattle.acts.proofs.Eta.{eta_acts}
 use Rattle.acts.proofs.Forms.{TermsAct}

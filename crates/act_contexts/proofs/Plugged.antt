@@ -20,7 +20,8 @@ use Rattle.chw_typing.proofs.SameScopes.{are_same_self, are_same_turned, same_mo
 use Rattle.chw_meaning.specs.Values.{thunk_and, type_at, closed_type}
 use Rattle.acts.specs.Levels.{later, term_runs, term_has}
 use Rattle.acts.specs.Acts.{acts_from}
-use Rattle.acts.specs.Terms.{ActsUnder, OriginsTyped, with_origins, setting_with}
+use Rattle.scenes.specs.Origins.{with_origins}
+use Rattle.acts.specs.Terms.{ActsUnder, OriginsTyped, setting_with}
 use Rattle.acts.proofs.Closing.{closed_kind, closed_same, opens_as, put_closes}
 use Rattle.acts.proofs.Forms.{TermsAct, app_acts, lam_acts, ty_lam_acts, ty_app_acts}
 use Rattle.acts.proofs.Globals.{sound_with}

@@ -18,7 +18,8 @@ use Rattle.chw_meaning.specs.Values.{Value, closed, Thunks, closed_type, joined,
 use Rattle.chw_meaning.specs.Eval.{Arm, bound, arm_of}
 use Rattle.acts.specs.Levels.{Levels, later, term_runs, term_has}
 use Rattle.acts.specs.Acts.{acts_from}
-use Rattle.acts.specs.Terms.{Kinded, ActsUnder, with_origins, with_origins_all, with_origins_group, with_origins_alts, setting_with}
+use Rattle.scenes.specs.Origins.{with_origins, with_origins_all, with_origins_group, with_origins_alts}
+use Rattle.acts.specs.Terms.{Kinded, ActsUnder, setting_with}
 use Rattle.acts.proofs.Arms.{Seen, seen, matches_same, pattern_acts}
 use Rattle.acts.proofs.Cases.{ArmOf, alt_acts}
 use Rattle.acts.proofs.Closing.{closed_same}

@@ -12,7 +12,8 @@ use Rattle.chw_typing.specs.HeadTypes.{from_each}
 use Rattle.chw_typing.specs.Programs.{IsTyped, AreClosed, setting_of}
 use Rattle.chw_typing.specs.Typing.{HasType}
 use Rattle.chw_meaning.specs.Gives.{Better}
-use Rattle.acts.specs.Terms.{ActsUnder, OriginsTyped, with_origins, setting_with, eta_expanded}
+use Rattle.scenes.specs.Origins.{with_origins, eta_expanded}
+use Rattle.acts.specs.Terms.{ActsUnder, OriginsTyped, setting_with}
 use Rattle.term_paths.specs.Paths.{with_part}
 use Rattle.term_contexts.specs.Around.{Around}
 

@@ -16,7 +16,8 @@ use Rattle.chw_meaning.specs.Values.{closed, member, Thunks, thunk_and, closed_t
 use Rattle.chw_meaning.specs.Eval.{Evals, e_lam, e_app, e_ty_lam, e_ty_app, e_letrec, f_closed, f_member, a_closure, t_closure}
 use Rattle.acts.specs.Levels.{Levels, term_runs, term_has, thunk_has, ThunksAct}
 use Rattle.acts.specs.Acts.{acts_from}
-use Rattle.acts.specs.Terms.{ActsUnder, OriginsTyped, with_argument, with_origins, setting_with}
+use Rattle.scenes.specs.Origins.{with_origins}
+use Rattle.acts.specs.Terms.{ActsUnder, OriginsTyped, with_argument, setting_with}
 use Rattle.acts.proofs.Closing.{closed_same, opens_as, put_closes}
 use Rattle.acts.proofs.Forms.{TermsAct}
 use Rattle.acts.proofs.Globals.{put_type_acts, sound_with}

@@ -15,7 +15,8 @@ use Rattle.chw_typing.proofs.Lists.{found_before_map}
 use Rattle.chw_meaning.specs.Values.{Thunk, Thunks, thunk_and, closed_type}
 use Rattle.acts.specs.Levels.{Levels, ThunksAct}
 use Rattle.acts.specs.Acts.{acts_from}
-use Rattle.acts.specs.Terms.{TiedBy, Kinded, OriginsAct, OriginsTyped, with_origins, setting_with}
+use Rattle.scenes.specs.Origins.{with_origins}
+use Rattle.acts.specs.Terms.{TiedBy, Kinded, OriginsAct, OriginsTyped, setting_with}
 use Rattle.acts.proofs.Closing.{closed_stays, closed_shift}
 use Rattle.acts.proofs.Forms.{TermsAct}
 use Rattle.acts.proofs.Globals.{up_to_acts, globals_from, renamed_acts}

@@ -12,7 +12,8 @@ use Rattle.chw_terms.specs.Tidy.{IsTidy}
 use Rattle.chw_typing.specs.Scopes.{AreTermTypes}
 use Rattle.chw_typing.specs.Programs.{IsTyped, AreClosed, setting_of}
 use Rattle.chw_typing.specs.Typing.{HasType}
-use Rattle.acts.specs.Terms.{ActsUnder, OriginsTyped, with_origins, setting_with}
+use Rattle.scenes.specs.Origins.{with_origins}
+use Rattle.acts.specs.Terms.{ActsUnder, OriginsTyped, setting_with}
 
 -- a typed program, and closed terms of these types for its made definitions
 pub record HasOrigins (p : Program) (types : List TypeTree) (o : ℕ → TermTree) : Type 0 where

@@ -40,24 +40,24 @@ head_applied [] e = refl
 head_applied (a ∷ args) e = head_applied args (applied_to e a) ∙ head_applied_to e a
 
 -- the spots below a letrec
-data InLet (at : Spot) (g : Group) (p : List ℕ) (at' : Spot) : Type 0 where
+pub data InLet (at : Spot) (g : Group) (p : List ℕ) (at' : Spot) : Type 0 where
   to_side : (i : ℕ) (b : TypeTree × TermTree) → HasLets at.mode → binding_at g i ≡ Some b → p ≡ i ∷ [] → at' ≡ spot at.mode false (with_more (declared g) at.vars) → InLet at g p at'
   to_body : HasLets at.mode → p ≡ size_of g ∷ [] → at' ≡ spot at.mode true (with_more (declared g) at.vars) → InLet at g p at'
   to_constant : at.mode ≡ K → at' ≡ spot K false (with_more (declared g) at.vars) → InLet at g p at'
 
 -- those below a case
-data InCase (datas : List Data) (at : Spot) (s : TermTree) (alts : Alts) (p : List ℕ) (at' : Spot) : Type 0 where
+pub data InCase (datas : List Data) (at : Spot) (s : TermTree) (alts : Alts) (p : List ℕ) (at' : Spot) : Type 0 where
   to_scrutinee : p ≡ 0 ∷ [] → at' ≡ spot (scrutinee_mode datas at.mode alts) false at.vars → InCase datas at s alts p at'
   to_branch : (x i : ℕ) (u : TypeTree) (a : Branch) (fields : List TypeTree) → p ≡ suc i ∷ [] → s ≡ var x → slice_get at.vars x ≡ Some u → branch_at alts i ≡ Some a → PatternOf datas u a.pattern fields → at' ≡ spot V true (with_more fields at.vars) → InCase datas at s alts p at'
 
 -- and those below a primitive
-data InPrim (at : Spot) (p : Prim) (at' : Spot) : Type 0 where
+pub data InPrim (at : Spot) (p : Prim) (at' : Spot) : Type 0 where
   to_word : at.mode ≡ K → at' ≡ spot K false at.vars → InPrim at p at'
   to_demanded : (i : ℕ) → (at.mode ≡ K → ⊥) → LooksAt p i → at' ≡ spot (head_mode at.mode) false at.vars → InPrim at p at'
   to_beginning : (i j : ℕ) → at.mode ≡ C → BeginsWith p i j → at' ≡ spot K false at.vars → InPrim at p at'
 
 -- where a step may lead, by the head of the term
-abbrev Leads : List Data → Spot → TermTree → List ℕ → Spot → Type 0
+abbrev pub Leads : List Data → Spot → TermTree → List ℕ → Spot → Type 0
 Leads datas at (letrec g e) p at' = InLet at g p at'
 Leads datas at (case_of s alts) p at' = InCase datas at s alts p at'
 Leads datas at (prim q) p at' = InPrim at q at'
@@ -68,7 +68,7 @@ Leads datas at _ p at' = ⊥
 at_head : (datas : List Data) (at at' : Spot) (args : List Arg) (h : TermTree) (p : List ℕ) → head_of h ≡ h → Leads datas at h p at' → Leads datas at (head_of (applied h args)) p at'
 at_head datas at at' args h p is l = subst (λ e. Leads datas at e p at') (sym (head_applied args h ∙ is)) l
 
-leads : {o : Origins} {at at' : Spot} {e x : TermTree} {p : List ℕ} → Below o at e p at' x → Leads o.program.datas at (head_of e) p at'
+pub leads : {o : Origins} {at at' : Spot} {e x : TermTree} {p : List ℕ} → Below o at e p at' x → Leads o.program.datas at (head_of e) p at'
 leads (right_side {i = i} {b = b} l s n) = to_side i b l s refl refl
 leads (let_body l) = to_body l refl refl
 leads (constant_body k) = to_constant k refl

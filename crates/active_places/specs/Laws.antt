@@ -1,13 +1,16 @@
 -- What is promised of active places.
-use Rattle.std.specs.Prelude.{◌≡◌, ℕ, List, []}
+use Rattle.std.specs.Prelude.{◌≡◌, ℕ, List, [], Some, slice_get}
 use Rattle.chw_types.specs.declared.declarations.Data.{Data}
 use Rattle.chw_types.specs.TypeTree.{TypeTree}
+use Rattle.chw_terms.specs.declared.scene.Made.{Made}
+use Rattle.chw_terms.specs.declared.scene.Scene.{Scene}
 use Rattle.chw_terms.specs.TermTree.{TermTree}
-use Rattle.chw_typing.specs.Scopes.{AreTermTypes}
+use Rattle.chw_typing.specs.Scopes.{setting_in, AreTermTypes}
 use Rattle.chw_typing.specs.Programs.{IsSound, IsComplete}
 use Rattle.chw_typing.specs.Typing.{HasType, HasTypeUpTo}
 use Rattle.term_contexts.specs.Around.{Around}
-use Rattle.scenes.specs.Origins.{MadeOf, Origins, setting_at}
+use Rattle.scenes.specs.Origins.{MadeOf, Origins, made_of, origins_of, setting_at}
+use Rattle.scenes.specs.Typed.{IsTypedScene}
 use Rattle.active_places.specs.Active.{Below, IsActive, IsPlaceOf}
 use Rattle.active_places.specs.Spots.{Spot}
 
@@ -75,3 +78,15 @@ abbrev pub ActiveIsComplete : Type 0
 ActiveIsComplete =
     (o : Origins) (at at' : Spot) (e x : TermTree) (p : List ℕ) (datas : List Data)
     → IsComplete datas e → IsActive o at e p at' x → IsComplete datas x
+
+-- so at an active place of a made definition of a typed scene: what is there has a type in its
+-- scope, and its cases are complete
+abbrev pub PlaceOfSceneIsTyped : Type 0
+PlaceOfSceneIsTyped =
+    (scene : Scene) (m : ℕ) (it : Made) (path : List ℕ) (at : Spot) (x : TermTree)
+    → IsTypedScene scene
+    → slice_get scene.made.now m ≡ Some it
+    → IsPlaceOf (origins_of scene) (made_of it) it.body path at x
+    → AreTermTypes (setting_in scene) [] at.vars
+    × ((u : TypeTree) × HasType (setting_in scene) [] at.vars x u)
+    × IsComplete scene.program.now.datas x

@@ -1,3 +1,4 @@
 pub mod Active
+pub mod Examples
 pub mod Laws
 pub mod Spots

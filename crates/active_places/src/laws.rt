@@ -1,5 +1,7 @@
 //! The laws, each as the contract of a call that does nothing.
-ghost use Rattle.active_places.specs.Laws.{OneBelow, OneActive, OnePlace, BelowIsAround, ActiveIsAround, ActiveIsTyped, PlaceIsAround, ActiveIsComplete};
+ghost use Rattle.active_places.specs.Laws.{OneBelow, OneActive, OnePlace, BelowIsAround, ActiveIsAround, ActiveIsTyped, PlaceIsAround, ActiveIsComplete, PlaceOfSceneIsTyped};
+
+use chw_typing::laws::typed_is_sound;
 
 /// A path leads to one place.
 pub fn one_place()
@@ -24,3 +26,10 @@ pub fn active_is_typed()
 pub fn active_is_complete()
     ensures { ActiveIsComplete }
 {}
+
+/// So is what is at an active place of a made definition of a typed scene, and its cases are complete.
+pub fn place_of_scene_is_typed()
+    ensures { PlaceOfSceneIsTyped }
+{
+    typed_is_sound();
+}

@@ -1,19 +1,18 @@
 -- A term acts as another of its type: in all environments that act so, for any number of turns.
-use Rattle.std.specs.Prelude.{◌≡◌, ◌⊎◌, ℕ, suc, zero, List, [], ◌∷◌, map, length, Some, slice_get}
+use Rattle.std.specs.Prelude.{◌≡◌, ◌⊎◌, ℕ, List, [], ◌∷◌, map, length, Some, slice_get}
 use Rattle.chw_types.specs.declared.kind.Kind.{Kind}
 use Rattle.chw_types.specs.TypeTree.{TypeTree, TypeTrees, no_types, type_and}
 use Rattle.chw_types.specs.TypeMoves.{Renaming}
 use Rattle.chw_types.specs.SameTypes.{SameTypes}
 use Rattle.chw_terms.specs.declared.program.Program.{Program}
-use Rattle.chw_terms.specs.TermTree.{TermTree, var, global, made, lam, app, ty_lam, ty_app}
-use Rattle.chw_terms.specs.TermTree.{letrec, con, prim, lit, vec_lit, case_of, Terms, no_terms}
-use Rattle.chw_terms.specs.TermTree.{term_and, Group, no_bindings, bind, Alts, no_alts, alt}
+use Rattle.chw_terms.specs.TermTree.{TermTree, var}
 use Rattle.chw_terms.specs.Evaluated.{evaluated}
-use Rattle.chw_terms.specs.TermMoves.{rename, Substitution, shift}
+use Rattle.chw_terms.specs.TermMoves.{rename, Substitution}
 use Rattle.chw_typing.specs.Scopes.{Setting, HasKind, AreTermTypes}
 use Rattle.chw_typing.specs.Programs.{setting_of}
 use Rattle.chw_typing.specs.Typing.{HasType, HasTypeUpTo}
 use Rattle.chw_meaning.specs.Values.{History, Value, Thunk, Thunks, thunk_at, closed_type}
+use Rattle.scenes.specs.Origins.{with_origins}
 use Rattle.acts.specs.Levels.{Levels, RunsAct, term_runs, term_has, thunk_has, ThunksAct}
 use Rattle.acts.specs.Acts.{acts_from}
 
@@ -64,35 +63,6 @@ pub data Chain (p : Program) (t : TypeTree) : TermTree → TermTree → Type 0 w
 -- the environment with a type argument besides
 abbrev pub with_argument : TypeTree → TypeTrees → TypeTrees
 with_argument a δ = type_and (evaluated (closed_type a δ)) δ
-
-unfoldable mutual
-  -- a closed term for each made definition
-  pub with_origins : (ℕ → TermTree) → TermTree → TermTree
-  with_origins o (var x) = var x
-  with_origins o (global d) = global d
-  with_origins o (made m) = o m
-  with_origins o (lam t e) = lam t (with_origins o e)
-  with_origins o (app f a) = app (with_origins o f) (with_origins o a)
-  with_origins o (ty_lam k e) = ty_lam k (with_origins o e)
-  with_origins o (ty_app f t) = ty_app (with_origins o f) t
-  with_origins o (letrec g e) = letrec (with_origins_group o g) (with_origins o e)
-  with_origins o (con c) = con c
-  with_origins o (prim q) = prim q
-  with_origins o (lit s b) = lit s b
-  with_origins o (vec_lit t es) = vec_lit t (with_origins_all o es)
-  with_origins o (case_of e alts) = case_of (with_origins o e) (with_origins_alts o alts)
-
-  pub with_origins_all : (ℕ → TermTree) → Terms → Terms
-  with_origins_all o no_terms = no_terms
-  with_origins_all o (term_and e es) = term_and (with_origins o e) (with_origins_all o es)
-
-  pub with_origins_group : (ℕ → TermTree) → Group → Group
-  with_origins_group o no_bindings = no_bindings
-  with_origins_group o (bind t e g) = bind t (with_origins o e) (with_origins_group o g)
-
-  pub with_origins_alts : (ℕ → TermTree) → Alts → Alts
-  with_origins_alts o no_alts = no_alts
-  with_origins_alts o (alt q e more) = alt q (with_origins o e) (with_origins_alts o more)
 
 -- what the terms of a program are typed over where there are made definitions of these types
 abbrev pub setting_with : Program → List TypeTree → Setting
@@ -145,17 +115,3 @@ ArePut p types o kinds r vars σ ρ δ γ' γ =
     (x : ℕ) (t : TypeTree) → slice_get vars x ≡ Some t
     → ((y : ℕ) × (σ x ≡ var y) × LooksAlike p r (closed_type t δ) y (ρ x) γ' γ)
     ⊎ StandsFor p types o kinds r t (σ x) (ρ x) δ γ' γ
-
--- a term on so many variables, the last of which has this number
-abbrev pub on_variables : TermTree → ℕ → ℕ → TermTree
-on_variables e j zero = e
-on_variables e j (suc n) = app (on_variables e (suc j) n) (var j)
-
--- a term under a lambda for each of these types
-abbrev pub under_each : List TypeTree → TermTree → TermTree
-under_each [] e = e
-under_each (a ∷ args) e = lam a (under_each args e)
-
--- `\x1 .. \xn . e x1 .. xn`, with variables of these types
-abbrev pub eta_expanded : List TypeTree → TermTree → TermTree
-eta_expanded args e = under_each args (on_variables (shift e 0 (length args)) 0 (length args))

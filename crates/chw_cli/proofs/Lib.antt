@@ -1,8 +1,11 @@
 pub mod Asking
+pub mod Commands
 pub mod Descriptions
 pub mod Emitting
 pub mod Exactly
 pub mod Limits
+pub mod OneText
 pub mod Progress
 pub mod Reasons
+pub mod Runs
 pub mod Telling

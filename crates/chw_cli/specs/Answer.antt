@@ -1,19 +1,19 @@
--- What the program answers to words, by what was read of the file that they name: bytes for `out`, or a refusal.
-use Rattle.std.specs.Prelude.{◌≡◌, ℕ, ◌<◌, ◌≤◌, List, length, Option, Result, Ok, Err, ◌⊎◌}
-use Rattle.chw_base.specs.Files.{Files}
-use Rattle.chw_base.specs.Reading.{Fetches}
-use Rattle.chw_base.specs.declared.limits.TheConstants.{DESCRIPTION_BYTES, FLAT_WIRES}
+-- What the program answers to words, by what was read: bytes for `out`, or a refusal.
+use Rattle.std.specs.Prelude.{◌≡◌, ℕ, ◌<◌, ◌≤◌, List, [], ◌∷◌, length, Result, Ok, Err, ◌⊎◌}
+use Rattle.chw_base.specs.declared.limits.TheConstants.{FLAT_WIRES}
 use Rattle.chw_base.specs.declared.index.WireId.{WireId}
 use Rattle.chw_base.specs.declared.outcome.Or.{Or}
 use Rattle.chw_base.specs.declared.outcome.Or.TheVariants.{Fault}
 use Rattle.chw_base.specs.declared.shelf.Fetched.{Fetched}
-use Rattle.chw_base.specs.declared.shelf.Fetched.TheVariants.{Whole, TooLong, Absent}
+use Rattle.chw_base.specs.declared.shelf.Fetched.TheVariants.{TooLong, Absent}
 use Rattle.chw_base.specs.declared.shelf.ShelfFault.{ShelfFault}
 use Rattle.chw_clock.specs.Histories.{FitsPorts}
 use Rattle.chw_clock.specs.declared.event.Event.{Event}
 use Rattle.chw_cli.specs.Descriptions.{IsDescription, NoDescription}
+use Rattle.chw_cli.specs.Reads.{Read, Wanted, wants, whole}
+use Rattle.chw_cli.specs.Reads.Read.{fetched}
 use Rattle.chw_cli.specs.declared.refusal.Refusal.{Refusal}
-use Rattle.chw_cli.specs.declared.refusal.Refusal.TheVariants.{Words, Read, LongText, Names, Types, Form, TooLarge, Loop}
+use Rattle.chw_cli.specs.declared.refusal.Refusal.TheVariants.{Words, Read as Unread, Names, Types, Form, TooLarge, Loop, Stimulus, Verilog}
 use Rattle.chw_check.specs.Faults.{IsTypeFault}
 use Rattle.chw_check.specs.declared.fault.TypeFault.{TypeFault}
 use Rattle.chw_grammar.specs.declared.program.Tree.{Tree}
@@ -25,13 +25,19 @@ use Rattle.chw_terms.specs.declared.program.Program.{Program}
 use Rattle.chw_typing.specs.Programs.{IsTyped}
 use Rattle.chw_words.specs.Commands.{IsCommand, AreNoCommand}
 use Rattle.chw_words.specs.declared.command.Command.{Command}
-use Rattle.chw_words.specs.declared.command.Command.TheVariants.{Emit, Check}
+use Rattle.chw_words.specs.declared.command.Command.TheVariants.{Emit, Check, Run}
 use Rattle.flat_form.specs.FlatNet.{net_of}
 use Rattle.flat_form.specs.Grammar.{IsFlatText}
 use Rattle.flat_form.specs.declared.flat.FlatText.{FlatText}
 use Rattle.flat_form.specs.FlatNet.{flat_of}
 use Rattle.flat_law.specs.FlatOf.{SameBits}
 use Rattle.netlist.specs.Orders.{IsLoop}
+use Rattle.netlist.specs.declared.net.Flat.{Flat}
+use Rattle.run_answer.specs.Circuits.{CanRun, IsCircuitFault, IsRunBy}
+use Rattle.run_answer.specs.declared.fault.CircuitFault.{CircuitFault}
+use Rattle.run_answer.specs.declared.fault.CircuitFault.TheVariants as circuit
+use Rattle.stimulus.specs.Stimulus.{IsStimFault}
+use Rattle.stimulus.specs.declared.fault.StimFault.{StimFault}
 use Rattle.verilog_text.specs.Text.{net_text}
 use Rattle.chw_resolve.specs.Programs.{IsProgramOf}
 
@@ -66,48 +72,72 @@ pub record HasProgram (tree : Tree) (p : Program) : Type 0 where
   pub is : IsProgramOf tree p
   pub tidy : IsTidy p
 
--- the answer of a command to a description that is typed
-abbrev pub CommandAnswer : Command → List ℕ → Tree → Result (List ℕ) Refusal → Type 0
-CommandAnswer (Emit file budget) text tree answer = EmitAnswer text answer
-CommandAnswer (Check file) text tree answer = answer ≡ Ok (Text tree)
+-- the text is a description that is typed, and this is its tree
+pub record IsTypedText (text : List ℕ) (tree : Tree) : Type 0 where
+  pub description : IsDescription text tree
+  pub program : Program
+  pub is : HasProgram tree program
+  pub typed : IsTyped program
 
--- the answer of a command to a text within the limit
-pub data TextAnswer (command : Command) (text : List ℕ) : Result (List ℕ) Refusal → Type 0 where
-  no_description : (r : Refusal) → NoDescription text r → TextAnswer command text (Err r)
-  wrong_names : (tree : Tree) (fault : NameFault) → IsDescription text tree → IsNameFault tree fault → TextAnswer command text (Err (Names fault))
-  wrong_types : (tree : Tree) (p : Program) (fault : TypeFault) → IsDescription text tree → HasProgram tree p → IsTypeFault p fault
-      → TextAnswer command text (Err (Types fault))
-  description : (tree : Tree) (p : Program) (answer : Result (List ℕ) Refusal) → IsDescription text tree → HasProgram tree p → IsTyped p
-      → CommandAnswer command text tree answer → TextAnswer command text answer
+-- why a text is no description that is typed
+pub data IsWrongText (text : List ℕ) : Refusal → Type 0 where
+  no_description : (r : Refusal) → NoDescription text r → IsWrongText text r
+  wrong_names : (tree : Tree) (fault : NameFault) → IsDescription text tree → IsNameFault tree fault
+      → IsWrongText text (Names fault)
+  wrong_types : (tree : Tree) (p : Program) (fault : TypeFault) → IsDescription text tree → HasProgram tree p
+      → IsTypeFault p fault → IsWrongText text (Types fault)
 
--- the file that a command reads
-abbrev pub file_read : Command → List ℕ
-file_read (Emit file budget) = file
-file_read (Check file) = file
+-- the answer to the text of one file: why it is wrong, or, where it is a description that is typed,
+-- the answer to its tree
+pub data TextAnswer (TreeAnswer : List ℕ → Tree → Result (List ℕ) Refusal → Type 0)
+    : List Read → Result (List ℕ) Refusal → Type 0 where
+  wrong : (text : List ℕ) (r : Refusal) → IsWrongText text r
+      → TextAnswer TreeAnswer (whole text ∷ []) (Err r)
+  typed : (text : List ℕ) (tree : Tree) (answer : Result (List ℕ) Refusal)
+      → IsTypedText text tree
+      → TreeAnswer text tree answer → TextAnswer TreeAnswer (whole text ∷ []) answer
 
--- what was read: nothing, as the shelf was not called; or what one call of `fetch` answered, with the bytes
-pub data Source : Type 0 where
-  nothing : Source
-  fetched : Result Fetched (Or ShelfFault) → List ℕ → Source
+-- the refusal of a Verilog text that can't be run
+abbrev pub refusal_of : CircuitFault → Refusal
+refusal_of (circuit.Text fault) = Verilog fault
+refusal_of circuit.TooLarge = TooLarge
+refusal_of (circuit.Loop cycle) = Loop cycle
 
--- what the shelf was asked, where `gives` is what a call of `fetch` may do, `told` the files, and `faults` the count of faults
-pub data Asks {S : Type 0} (gives : S → List ℕ → ℕ → Result Fetched (Or ShelfFault) → List ℕ → S → Type 0) (told : S → Option Files) (faults : S → ℕ)
-    (words : List (List ℕ)) (s t : S) : Source → Type 0 where
-  uncalled : t ≡ s → Asks gives told faults words s t nothing
-  called : (command : Command) (answer : Result Fetched (Or ShelfFault)) (bytes : List ℕ) → IsCommand words command
-      → gives s (file_read command) DESCRIPTION_BYTES answer bytes t → told t ≡ told s
-      → Fetches (told s) (file_read command) DESCRIPTION_BYTES (faults s) (faults t) answer bytes
-      → Asks gives told faults words s t (fetched answer bytes)
+-- the answer of `run`: why the first text can't be run; or, where it can, why the second is no
+-- stimulus for the ports of its flat net; or, where it is one, the lines of the outputs
+pub data RunAnswer : List Read → Result (List ℕ) Refusal → Type 0 where
+  no_circuit : (text : List ℕ) (fault : CircuitFault) → IsCircuitFault text fault
+      → RunAnswer (whole text ∷ []) (Err (refusal_of fault))
+  no_stimulus : (text stimulus : List ℕ) (flat : Flat) (fault : StimFault) → CanRun text flat
+      → IsStimFault stimulus flat.ports fault
+      → RunAnswer (whole text ∷ whole stimulus ∷ []) (Err (Stimulus fault))
+  ran : (text stimulus lines : List ℕ) (flat : Flat) → CanRun text flat
+      → IsRunBy flat stimulus lines → RunAnswer (whole text ∷ whole stimulus ∷ []) (Ok lines)
+
+-- the answer of a command to what it read, where that was whole
+abbrev pub CommandAnswer : Command → List Read → Result (List ℕ) Refusal → Type 0
+CommandAnswer (Emit file budget) = TextAnswer (λ text tree answer. EmitAnswer text answer)
+CommandAnswer (Check file) = TextAnswer (λ text tree answer. answer ≡ Ok (Text tree))
+CommandAnswer (Run verilog stimulus) = RunAnswer
 
 -- the file isn't held, or couldn't be read
 abbrev pub IsUnread : Result Fetched (Or ShelfFault) → Type 0
 IsUnread answer = (answer ≡ Ok Absent) ⊎ ((f : ShelfFault) × (answer ≡ Err (Fault f)))
 
+-- the last of the reads of wanted files gave no text: the file isn't there, or is too long
+pub data LacksText : List Wanted → List Read → Refusal → Type 0 where
+  unread : (file : Wanted) (wanted : List Wanted) (answer : Result Fetched (Or ShelfFault))
+      (bytes : List ℕ) → IsUnread answer
+      → LacksText (file ∷ wanted) (fetched answer bytes ∷ []) (Unread file.name)
+  too_long : (file : Wanted) (wanted : List Wanted) (bytes : List ℕ)
+      → LacksText (file ∷ wanted) (fetched (Ok TooLong) bytes ∷ []) file.longer
+  later : (file : Wanted) (wanted : List Wanted) (text : List ℕ) (reads : List Read) (r : Refusal)
+      → LacksText wanted reads r → LacksText (file ∷ wanted) (whole text ∷ reads) r
+
 -- the answer to words, by what was read
-pub data Answer (words : List (List ℕ)) : Source → Result (List ℕ) Refusal → Type 0 where
-  no_command : AreNoCommand words → Answer words nothing (Err Words)
-  unread : (command : Command) (answer : Result Fetched (Or ShelfFault)) (bytes : List ℕ) → IsCommand words command → IsUnread answer
-      → Answer words (fetched answer bytes) (Err (Read (file_read command)))
-  long_text : (bytes : List ℕ) → Answer words (fetched (Ok TooLong) bytes) (Err LongText)
-  text : (command : Command) (bytes : List ℕ) (answer : Result (List ℕ) Refusal) → IsCommand words command → TextAnswer command bytes answer
-      → Answer words (fetched (Ok Whole) bytes) answer
+pub data Answer (words : List (List ℕ)) : List Read → Result (List ℕ) Refusal → Type 0 where
+  no_command : AreNoCommand words → Answer words [] (Err Words)
+  no_text : (command : Command) (reads : List Read) (r : Refusal) → IsCommand words command
+      → LacksText (wants command) reads r → Answer words reads (Err r)
+  texts : (command : Command) (reads : List Read) (answer : Result (List ℕ) Refusal)
+      → IsCommand words command → CommandAnswer command reads answer → Answer words reads answer

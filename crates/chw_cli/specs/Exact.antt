@@ -1,19 +1,20 @@
 -- What each status comes from, and when it comes.
-use Rattle.std.specs.Prelude.{◌≡◌, ◌≤◌, ℕ, List, length, Option, Some, None, ◌⊎◌, IsSomeAnd}
+use Rattle.std.specs.Prelude.{◌≡◌, ◌≤◌, ℕ, List, [], ◌∷◌, length, Option, Some, None, ◌⊎◌, IsSomeAnd}
 use Rattle.chw_base.specs.Files.{Files, file_of}
-use Rattle.chw_base.specs.declared.limits.TheConstants.{DESCRIPTION_BYTES}
-use Rattle.chw_cli.specs.Answer.{HasFewWires, HasNoLoop, HasProgram, file_read}
-use Rattle.chw_cli.specs.Descriptions.{IsDescription}
+use Rattle.chw_clock.specs.declared.event.Event.{Event}
+use Rattle.chw_cli.specs.Answer.{HasFewWires, HasNoLoop, IsTypedText}
+use Rattle.chw_cli.specs.Reads.{GoesOn, Wanted, wants}
 use Rattle.chw_cli.specs.declared.status.Status.{Status}
 use Rattle.chw_cli.specs.declared.status.Status.TheVariants as status
 use Rattle.chw_grammar.specs.declared.program.Tree.{Tree}
-use Rattle.chw_terms.specs.declared.program.Program.{Program}
-use Rattle.chw_typing.specs.Programs.{IsTyped}
 use Rattle.chw_words.specs.Commands.{IsCommand, AreNoCommand}
 use Rattle.chw_words.specs.declared.command.Command.{Command}
-use Rattle.chw_words.specs.declared.command.Command.TheVariants.{Emit, Check}
+use Rattle.chw_words.specs.declared.command.Command.TheVariants.{Emit, Check, Run}
 use Rattle.flat_form.specs.Grammar.{IsFlatText}
 use Rattle.flat_form.specs.declared.flat.FlatText.{FlatText}
+use Rattle.netlist.specs.declared.net.Flat.{Flat}
+use Rattle.run_answer.specs.Circuits.{CanRun}
+use Rattle.stimulus.specs.Stimulus.{Stim}
 
 -- the status is this one, or memory was wanting
 abbrev pub Ends : Status → Status → Type 0
@@ -22,37 +23,62 @@ Ends wanted s = (s ≡ wanted) ⊎ (s ≡ status.Memory)
 -- a status that some command has so far
 abbrev pub IsUsed : Status → Type 0
 IsUsed status.Spent = ⊥
-IsUsed status.Stimulus = ⊥
-IsUsed status.Verilog = ⊥
 IsUsed _ = Unit {0}
 
--- the description breaks no restriction of the command alone: for `emit` it is flat, and its net has no more wires than the limit and
--- no loop
-abbrev pub SuitsCommand : Command → List ℕ → Type 0
-SuitsCommand (Emit file budget) text = (f : FlatText) × IsFlatText text f × HasFewWires f × HasNoLoop f
-SuitsCommand (Check file) text = Unit {0}
+-- the text of one file breaks no restriction: it is a description that is typed, and this suits
+pub data BreaksNone (Suits : List ℕ → Type 0) : List (List ℕ) → Type 0 where
+  typed : (text : List ℕ) (tree : Tree) → IsTypedText text tree → Suits text
+      → BreaksNone Suits (text ∷ [])
 
--- the description breaks no restriction: it has a program, which is typed, and it breaks none of the command
-pub record BreaksNothing (command : Command) (text : List ℕ) (tree : Tree) : Type 0 where
-  pub program : Program
-  pub is : HasProgram tree program
-  pub typed : IsTyped program
-  pub suits : SuitsCommand command text
+-- the net of the text has no more wires than the limit, and no loop
+abbrev pub HasGoodNet : List ℕ → Type 0
+HasGoodNet text = (f : FlatText) × IsFlatText text f × HasFewWires f × HasNoLoop f
+
+-- the first text can be run, and the second is a stimulus for the ports of its flat net
+pub data RunsWith : List (List ℕ) → Type 0 where
+  runs : (text stimulus : List ℕ) (flat : Flat) (events : List Event) → CanRun text flat
+      → Stim stimulus flat.ports events → RunsWith (text ∷ stimulus ∷ [])
+
+-- the texts of the files of a command break no restriction
+abbrev pub BreakNothing : Command → List (List ℕ) → Type 0
+BreakNothing (Emit file budget) = BreaksNone HasGoodNet
+BreakNothing (Check file) = BreaksNone (λ text. Unit {0})
+BreakNothing (Run verilog stimulus) = RunsWith
+
+-- the file is held with this text, which is within its limit
+abbrev pub IsHeld : Files → Wanted → List ℕ → Type 0
+IsHeld files file text = (file_of files file.name ≡ Some text) × (length text ≤ file.limit)
+
+-- all wanted files are held, with these texts
+pub data AreHeld (files : Files) : List Wanted → List (List ℕ) → Type 0 where
+  none : AreHeld files [] []
+  more : (file : Wanted) (wanted : List Wanted) (text : List ℕ) (texts : List (List ℕ))
+      → IsHeld files file text → AreHeld files wanted texts
+      → AreHeld files (file ∷ wanted) (text ∷ texts)
+
+-- the command comes to a file that isn't held: those before it are, and with each of them it goes on
+pub data Misses (files : Files) (command : Command) : List Wanted → Type 0 where
+  here : (file : Wanted) (wanted : List Wanted) → file_of files file.name ≡ None
+      → Misses files command (file ∷ wanted)
+  later : (file : Wanted) (wanted : List Wanted) (text : List ℕ) → IsHeld files file text
+      → GoesOn command text → Misses files command wanted → Misses files command (file ∷ wanted)
 
 -- by the files where they are told, the words, and whether the faults of the shelf and of `out` rose
-pub record IsExact (told : Option Files) (words : List (List ℕ)) (ShelfRose OutRose : Type 0) (s : Status) : Type 0 where
+pub record IsExact (told : Option Files) (words : List (List ℕ)) (ShelfRose OutRose : Type 0)
+    (s : Status) : Type 0 where
   -- the words are refused exactly where they are no command
   pub words_wrong : s ≡ status.Words → AreNoCommand words
   pub wrong_words : AreNoCommand words → Ends status.Words s
-  -- the read is refused only where the file isn't held or the shelf's faults rose, and always where it isn't held
-  pub unread : s ≡ status.Read
-      → (command : Command) × IsCommand words command × (IsSomeAnd told (λ files. file_of files (file_read command) ≡ None) ⊎ ShelfRose)
-  pub absent : (files : Files) (command : Command) → told ≡ Some files → IsCommand words command → file_of files (file_read command) ≡ None
-      → Ends status.Read s
+  -- a read is refused only where the command comes to a file that isn't held or the shelf's faults
+  -- rose, and always where it comes to such a file
+  pub unread : s ≡ status.Read → (command : Command) × IsCommand words command
+      × (IsSomeAnd told (λ files. Misses files command (wants command)) ⊎ ShelfRose)
+  pub absent : (files : Files) (command : Command) → told ≡ Some files → IsCommand words command
+      → Misses files command (wants command) → Ends status.Read s
   -- the write is refused only where the faults of `out` rose
   pub unwritten : s ≡ status.Write → OutRose
   pub used : IsUsed s
-  -- a description that breaks no restriction is answered where no fault rose
-  pub complete : (files : Files) (command : Command) (text : List ℕ) (tree : Tree) → told ≡ Some files → IsCommand words command
-      → file_of files (file_read command) ≡ Some text → length text ≤ DESCRIPTION_BYTES → IsDescription text tree → BreaksNothing command text tree
+  -- files that break no restriction are answered where no fault rose
+  pub complete : (files : Files) (command : Command) (texts : List (List ℕ)) → told ≡ Some files
+      → IsCommand words command → AreHeld files (wants command) texts → BreakNothing command texts
       → (ShelfRose → ⊥) → (OutRose → ⊥) → Ends status.Ok s

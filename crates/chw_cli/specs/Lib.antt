@@ -2,8 +2,9 @@ pub mod Answer
 pub mod Delivery
 pub mod Descriptions
 pub mod Exact
+pub mod Fetching
 pub mod Lines
 pub mod Outcome
+pub mod Reads
 pub mod Refusals
 pub mod Telling
-pub mod Unread

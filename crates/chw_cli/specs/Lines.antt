@@ -4,7 +4,7 @@ use Rattle.std.specs.List.{flat_map}
 use Rattle.chw_base.specs.declared.limits.TheConstants.{DESCRIPTION_BYTES, FLAT_WIRES, NESTING}
 use Rattle.chw_base.specs.declared.index.WireId.{WireId}
 use Rattle.chw_cli.specs.declared.refusal.Refusal.{Refusal}
-use Rattle.chw_cli.specs.declared.refusal.Refusal.TheVariants.{Words, Read, LongText, Lex, Syntax, Depth, Names, Types, Form, TooLarge, Loop, Write, Memory}
+use Rattle.chw_cli.specs.declared.refusal.Refusal.TheVariants.{Words, Read, LongText, Lex, Syntax, Depth, Names, Types, Form, Verilog, Stimulus, TooLarge, Loop, Write, Memory}
 use Rattle.chw_cli.specs.declared.status.Status.{Status}
 use Rattle.chw_check.specs.declared.fault.TypeFault.{TypeFault}
 use Rattle.chw_check.specs.declared.fault.TypeFault.TheVariants.{Kind, Typing, Missing, NoDefault, NotPorts}
@@ -12,6 +12,10 @@ use Rattle.chw_limits.specs.Limits.{word_of}
 use Rattle.chw_resolve.specs.declared.fault.NameFault.{NameFault}
 use Rattle.chw_resolve.specs.declared.fault.NameFault.TheVariants.{Limit, Twice, Unknown, DataCycle, DefCycle}
 use Rattle.chw_cli.specs.declared.status.Status.TheVariants as status
+use Rattle.stimulus.specs.declared.fault.StimCode.{StimCode}
+use Rattle.stimulus.specs.declared.fault.StimCode.TheVariants.{S01, S02, S03, S05}
+use Rattle.verilog_rules.specs.declared.fault.VCode.{VCode}
+use Rattle.verilog_rules.specs.declared.fault.VCode.TheVariants.{V01, V02, V03, V04, V05, V06}
 
 abbrev pub code_of : Status → ℕ
 code_of status.Ok = 0
@@ -34,6 +38,8 @@ status_of Depth = status.Refused
 status_of (Names fault) = status.Refused
 status_of (Types fault) = status.Refused
 status_of Form = status.Refused
+status_of (Verilog fault) = status.Verilog
+status_of (Stimulus fault) = status.Stimulus
 status_of TooLarge = status.Refused
 status_of (Loop cycle) = status.Refused
 status_of Write = status.Write
@@ -75,6 +81,22 @@ type_line (Missing name con) = codes "chw: E09 missing " ++ con ++ codes " in " 
 type_line (NoDefault name) = words_line (codes "chw: E09 default in ") name
 type_line (NotPorts ty) = words_line (codes "chw: E11 top ") ty
 
+-- the words before the place at which a Verilog text breaks a rule
+abbrev pub rule_words : VCode → List ℕ
+rule_words V01 = codes "chw: V01 at "
+rule_words V02 = codes "chw: V02 at "
+rule_words V03 = codes "chw: V03 at "
+rule_words V04 = codes "chw: V04 at "
+rule_words V05 = codes "chw: V05 at "
+rule_words V06 = codes "chw: V06 at "
+
+-- the words before the number of a line that a stimulus may not have
+abbrev pub stim_words : StimCode → List ℕ
+stim_words S01 = codes "chw: S01 line "
+stim_words S02 = codes "chw: S02 line "
+stim_words S03 = codes "chw: S03 line "
+stim_words S05 = codes "chw: S05 line "
+
 -- the one line that a refusal is told by
 abbrev pub line_of : Refusal → List ℕ
 line_of Words = codes "chw: words\n"
@@ -86,6 +108,8 @@ line_of Depth = codes "chw: E03 limit depth " ++ decimal NESTING ++ codes "\n"
 line_of (Names fault) = fault_line fault
 line_of (Types fault) = type_line fault
 line_of Form = codes "chw: E20 form at 0\n"
+line_of (Verilog fault) = rule_words fault.code ++ decimal fault.at ++ codes "\n"
+line_of (Stimulus fault) = stim_words fault.code ++ decimal fault.line ++ codes "\n"
 line_of TooLarge = codes "chw: E17 size wires " ++ decimal FLAT_WIRES ++ codes "\n"
 line_of (Loop cycle) = codes "chw: E16 loop" ++ wire_texts cycle ++ codes "\n"
 line_of Write = codes "chw: write\n"
@@ -98,5 +122,7 @@ TakesMemory (Lex at) = Unit {0}
 TakesMemory (Syntax at) = Unit {0}
 TakesMemory (Names fault) = Unit {0}
 TakesMemory (Types fault) = Unit {0}
+TakesMemory (Verilog fault) = Unit {0}
+TakesMemory (Stimulus fault) = Unit {0}
 TakesMemory (Loop cycle) = Unit {0}
 TakesMemory _ = ⊥

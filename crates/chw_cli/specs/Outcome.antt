@@ -4,23 +4,24 @@ use Rattle.chw_base.specs.Outcome.{OfFault}
 use Rattle.chw_base.specs.declared.outcome.Or.{Or}
 use Rattle.chw_base.specs.declared.outcome.Or.TheVariants.{Memory, Fault}
 use Rattle.chw_base.specs.declared.sink.SinkFault.{SinkFault}
-use Rattle.chw_cli.specs.Answer.{Answer, Source}
+use Rattle.chw_cli.specs.Answer.{Answer}
 use Rattle.chw_cli.specs.Delivery.{TellsLine, TellsNothing}
 use Rattle.chw_cli.specs.Lines.{TakesMemory, line_of, status_of}
+use Rattle.chw_cli.specs.Reads.{Read}
 use Rattle.chw_cli.specs.declared.refusal.Refusal.{Refusal}
 use Rattle.chw_cli.specs.declared.refusal.Refusal.TheVariants as refusal
 use Rattle.chw_cli.specs.declared.status.Status.{Status}
 use Rattle.chw_cli.specs.declared.status.Status.TheVariants as status
 
 -- the answer to words, with what was read for it, where `Asked` says what the shelf was asked
-pub record AnswersBy (Asked : Source → Type 0) (words : List (List ℕ)) (answer : Result (List ℕ) Refusal) : Type 0 where
-  pub source : Source
-  pub asked : Asked source
-  pub answers : Answer words source answer
+pub record AnswersBy (Asked : List Read → Type 0) (words : List (List ℕ)) (answer : Result (List ℕ) Refusal) : Type 0 where
+  pub reads : List Read
+  pub asked : Asked reads
+  pub answers : Answer words reads answer
 
 -- why there is no answer: memory was wanting, or the answer is this refusal
-pub data Refuses (Asked : Source → Type 0) (words : List (List ℕ)) : Refusal → Type 0 where
-  for_memory : (source : Source) → Asked source → Refuses Asked words refusal.Memory
+pub data Refuses (Asked : List Read → Type 0) (words : List (List ℕ)) : Refusal → Type 0 where
+  for_memory : (reads : List Read) → Asked reads → Refuses Asked words refusal.Memory
   by_answer : (r : Refusal) → AnswersBy Asked words (Err r) → Refuses Asked words r
 
 -- the refusal of an answer that stopped at a call of `put`
@@ -38,7 +39,7 @@ pub data Told {S : Type 0} (gives : S → List ℕ → Result (Unit {0}) (Or Sin
 -- the end of a run, by what the shelf was asked, the words, whether the faults of `out` rose, and what became of `out` (the same as before;
 -- all of these bytes were written; a part of them, up to a call that gave this answer) and of `err` (the same as before; this refusal
 -- was told)
-pub data Outcome (Asked : Source → Type 0) (words : List (List ℕ)) (OutRose OutSame ErrSame : Type 0)
+pub data Outcome (Asked : List Read → Type 0) (words : List (List ℕ)) (OutRose OutSame ErrSame : Type 0)
     (All : List ℕ → Type 0) (Part : Or SinkFault → List ℕ → Type 0) (Tells : Refusal → Status → Type 0) : Status → Type 0 where
   answered : (bytes : List ℕ) → AnswersBy Asked words (Ok bytes) → All bytes → ErrSame
       → Outcome Asked words OutRose OutSame ErrSame All Part Tells status.Ok

@@ -4,23 +4,26 @@ use Rattle.chw_base.specs.declared.index.WireId.{WireId}
 use Rattle.chw_base.specs.declared.limits.TheConstants.{FLAT_WIRES}
 use Rattle.chw_base.specs.declared.outcome.Or.{Or}
 use Rattle.chw_base.specs.declared.outcome.Or.TheVariants.{Memory, Fault}
-use Rattle.chw_cli.specs.Answer.{EmitAnswer, HasFewWires, TextAnswer, CommandAnswer}
+use Rattle.chw_cli.specs.Answer.{EmitAnswer, HasFewWires, IsWrongText, refusal_of}
 use Rattle.chw_cli.specs.Descriptions.{NoDescription}
 use Rattle.chw_cli.specs.declared.refusal.Refusal.{Refusal}
 use Rattle.chw_cli.specs.declared.refusal.Refusal.TheVariants as refusal
 use Rattle.chw_check.specs.declared.fault.TypeFault.{TypeFault}
-use Rattle.chw_grammar.specs.declared.program.Tree.{Tree}
 use Rattle.chw_lexer.specs.declared.token.LexFault.{LexFault}
 use Rattle.chw_parser.specs.declared.parsing.ParseFault.{ParseFault}
 use Rattle.chw_parser.specs.declared.parsing.ParseFault.TheVariants.{Syntax, Depth}
 use Rattle.chw_resolve.specs.declared.fault.NameFault.{NameFault}
-use Rattle.chw_words.specs.declared.command.Command.{Command}
 use Rattle.chw_words.specs.declared.command.WordsFault.{WordsFault}
 use Rattle.flat_form.specs.declared.flat.FlatText.{FlatText}
 use Rattle.flat_form.specs.declared.flat.NotFlat.{NotFlat}
 use Rattle.flat_form.specs.FlatNet.{flat_of}
 use Rattle.netlist.specs.Orders.{IsLoop}
+use Rattle.netlist.specs.declared.net.Flat.{Flat}
 use Rattle.netlist.specs.declared.net.Loop.{Loop}
+use Rattle.run_answer.specs.Circuits.{IsCircuitFault}
+use Rattle.run_answer.specs.declared.fault.CircuitFault.{CircuitFault}
+use Rattle.stimulus.specs.Stimulus.{IsStimFault}
+use Rattle.stimulus.specs.declared.fault.StimFault.{StimFault}
 
 abbrev pub of_words_fault : Or WordsFault → Refusal
 of_words_fault Memory = refusal.Memory
@@ -51,6 +54,14 @@ abbrev pub of_loop : Or Loop → Refusal
 of_loop Memory = refusal.Memory
 of_loop (Fault l) = refusal.Loop l.cycle
 
+abbrev pub of_circuit_fault : Or CircuitFault → Refusal
+of_circuit_fault Memory = refusal.Memory
+of_circuit_fault (Fault f) = refusal_of f
+
+abbrev pub of_stim_fault : Or StimFault → Refusal
+of_stim_fault Memory = refusal.Memory
+of_stim_fault (Fault f) = refusal.Stimulus f
+
 -- why the net of a description isn't emitted: want of memory, too many wires, or a loop
 pub data RefusesNet (f : FlatText) : Refusal → Type 0 where
   memory : RefusesNet f refusal.Memory
@@ -65,9 +76,18 @@ RefusesEmit text r = (r ≡ refusal.Memory) ⊎ EmitAnswer text (Err r)
 abbrev pub RefusesReading : List ℕ → Refusal → Type 0
 RefusesReading text r = (r ≡ refusal.Memory) ⊎ NoDescription text r
 
--- the same of a command's answer to a description, and to a text
-abbrev pub RefusesCommand : Command → List ℕ → Tree → Refusal → Type 0
-RefusesCommand command text tree r = (r ≡ refusal.Memory) ⊎ CommandAnswer command text tree (Err r)
+-- why a text is no description that is typed: want of memory, or what is wrong
+abbrev pub RefusesText : List ℕ → Refusal → Type 0
+RefusesText text r = (r ≡ refusal.Memory) ⊎ IsWrongText text r
 
-abbrev pub RefusesText : Command → List ℕ → Refusal → Type 0
-RefusesText command text r = (r ≡ refusal.Memory) ⊎ TextAnswer command text (Err r)
+-- why a Verilog text isn't gone on with: want of memory, or why it can't be run
+pub data RefusesVerilog (text : List ℕ) : Refusal → Type 0 where
+  memory : RefusesVerilog text refusal.Memory
+  no_circuit : (fault : CircuitFault) → IsCircuitFault text fault
+      → RefusesVerilog text (refusal_of fault)
+
+-- why a stimulus isn't taken for the ports of a flat net: want of memory, or its fault
+pub data RefusesStimulus (flat : Flat) (text : List ℕ) : Refusal → Type 0 where
+  memory : RefusesStimulus flat text refusal.Memory
+  no_stimulus : (fault : StimFault) → IsStimFault text flat.ports fault
+      → RefusesStimulus flat text (refusal.Stimulus fault)

@@ -1,19 +1,15 @@
 //! The answer to the words, before any of it is written.
-ghost use Rattle.std.specs.Prelude.{◌≤◌, length, Ok, IfOk, IfErr};
-ghost use Rattle.chw_base.specs.declared.limits.TheConstants.{DESCRIPTION_BYTES};
-ghost use Rattle.chw_cli.specs.Answer.{Asks, CommandAnswer, TextAnswer};
-ghost use Rattle.chw_cli.specs.Descriptions.{IsDescription};
+ghost use Rattle.std.specs.Prelude.{◌≡◌, Ok, IfOk, IfErr};
 ghost use Rattle.chw_cli.specs.Outcome.{AnswersBy, Refuses};
-ghost use Rattle.chw_cli.specs.Refusals.{RefusesCommand, RefusesText};
+ghost use Rattle.chw_cli.specs.Reads.{Asks};
+ghost use Rattle.chw_words.specs.Commands.{IsCommand};
+ghost use Rattle.chw_words.specs.declared.command.Command.TheVariants.{Check, Emit, Run};
 
-use crate::describe::described;
+use crate::describe::read_description;
 use crate::emit::emitted;
-use crate::fetch::description;
 use crate::refusal::Refusal;
+use crate::run::{read_circuit, run_lines};
 use chw_base::{Name, Shelf};
-use chw_check::check;
-use chw_grammar::Tree;
-use chw_resolve::resolve;
 use chw_text::print;
 use chw_words::{Command, read_words};
 use std::alloc::Global;
@@ -27,36 +23,56 @@ pub(crate) fn answer<F: Shelf>(
     ensures answers { IfOk result (λ bytes. AnswersBy (Asks F.fetch_gives F.told F.faults words.now shelf.old shelf.new) words.now (Ok bytes.items)) }
     ensures refuses { IfErr result (Refuses (Asks F.fetch_gives F.told F.faults words.now shelf.old shelf.new) words.now) }
 {
-    let command = read_words(alloc, words)?;
-    let text = description(alloc, words, &command, shelf)?;
-    text_answer(alloc, &command, text.as_slice())
-}
-
-/// The answer of a command to a text.
-fn text_answer(alloc: Global, command: &Command, text: &[u8]) -> Result<Vec<u8>, Refusal>
-    requires { length text.now ≤ DESCRIPTION_BYTES }
-    ensures answers { IfOk result (λ bytes. TextAnswer command.now text.now (Ok bytes.items)) }
-    ensures refuses { IfErr result (RefusesText command.now text.now) }
-{
-    let tree = described(alloc, text)?;
-    let program = resolve(alloc, text, &tree)?;
-    check(alloc, program)?;
-    command_answer(alloc, command, text, &tree)
-}
-
-/// The answer of a command to a description.
-fn command_answer(
-    alloc: Global,
-    command: &Command,
-    text: &[u8],
-    tree: &Tree,
-) -> Result<Vec<u8>, Refusal>
-    requires within { length text.now ≤ DESCRIPTION_BYTES }
-    ensures answers { IfOk result (λ bytes. CommandAnswer command.now text.now tree.now (Ok bytes.items)) }
-    ensures refuses { IfErr result (RefusesCommand command.now text.now tree.now) }
-{
-    match command {
-        Command::Emit { .. } => emitted(alloc, text),
-        Command::Check { .. } => Ok(print(alloc, tree)?),
+    match read_words(alloc, words)? {
+        Command::Emit { file, budget } => emit(alloc, words, &file, budget, shelf),
+        Command::Check { file } => check(alloc, words, &file, shelf),
+        Command::Run { verilog, stimulus } => run(alloc, words, &verilog, &stimulus, shelf),
     }
+}
+
+/// The answer of `emit` to the description in a file.
+fn emit<F: Shelf>(
+    alloc: Global,
+    words: &[Name],
+    file: &Name,
+    budget: u32,
+    shelf: &mut F,
+) -> Result<Vec<u8>, Refusal>
+    requires { IsCommand words.now (Emit file.now budget) }
+    ensures answers { IfOk result (λ bytes. AnswersBy (Asks F.fetch_gives F.told F.faults words.now shelf.old shelf.new) words.now (Ok bytes.items)) }
+    ensures refuses { IfErr result (Refuses (Asks F.fetch_gives F.told F.faults words.now shelf.old shelf.new) words.now) }
+{
+    let description = read_description(alloc, file, shelf)?;
+    emitted(alloc, description.text.as_slice())
+}
+
+/// The answer of `check` to the description in a file.
+fn check<F: Shelf>(
+    alloc: Global,
+    words: &[Name],
+    file: &Name,
+    shelf: &mut F,
+) -> Result<Vec<u8>, Refusal>
+    requires { IsCommand words.now (Check file.now) }
+    ensures answers { IfOk result (λ bytes. AnswersBy (Asks F.fetch_gives F.told F.faults words.now shelf.old shelf.new) words.now (Ok bytes.items)) }
+    ensures refuses { IfErr result (Refuses (Asks F.fetch_gives F.told F.faults words.now shelf.old shelf.new) words.now) }
+{
+    let description = read_description(alloc, file, shelf)?;
+    Ok(print(alloc, &description.tree)?)
+}
+
+/// The answer of `run` to the Verilog text and the stimulus in two files.
+fn run<F: Shelf>(
+    alloc: Global,
+    words: &[Name],
+    verilog: &Name,
+    stimulus: &Name,
+    shelf: &mut F,
+) -> Result<Vec<u8>, Refusal>
+    requires { IsCommand words.now (Run verilog.now stimulus.now) }
+    ensures answers { IfOk result (λ bytes. AnswersBy (Asks F.fetch_gives F.told F.faults words.now shelf.old shelf.new) words.now (Ok bytes.items)) }
+    ensures refuses { IfErr result (Refuses (Asks F.fetch_gives F.told F.faults words.now shelf.old shelf.new) words.now) }
+{
+    let circuit = read_circuit(alloc, verilog, shelf)?;
+    run_lines(alloc, &circuit, stimulus, shelf)
 }

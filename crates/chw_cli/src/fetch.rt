@@ -1,52 +1,34 @@
-//! The text of the file that the words name.
-ghost use Rattle.std.specs.Prelude.{◌≡◌, ◌≤◌, length, Ok, IfOk, IfErr};
+//! The texts of the files that the words name.
+ghost use Rattle.std.specs.Prelude.{◌≡◌, ℕ, List, Ok, IfOk, IfErr, MatchOption};
 ghost use Rattle.std.specs.Str.{IsUtf8};
-ghost use Rattle.chw_base.specs.declared.limits.TheConstants.{DESCRIPTION_BYTES};
-ghost use Rattle.chw_base.specs.declared.shelf.Fetched.TheVariants.{Whole};
-ghost use Rattle.chw_cli.specs.Answer.{Asks, file_read};
-ghost use Rattle.chw_cli.specs.Answer.Source.{fetched};
-ghost use Rattle.chw_cli.specs.Outcome.{Refuses};
-ghost use Rattle.chw_cli.specs.Unread.{IsTold};
-ghost use Rattle.chw_words.specs.Commands.{IsCommand};
+ghost use Rattle.chw_base.specs.declared.shelf.Fetched.TheVariants.{TooLong, Whole};
+ghost use Rattle.chw_cli.specs.Fetching.{IsTold, ReadsNothing};
+ghost use Rattle.chw_cli.specs.Reads.{Gets};
 
 use crate::refusal::Refusal;
-use chw_base::limits::DESCRIPTION_BYTES;
 use chw_base::{Fetched, Name, Or, Shelf};
-use chw_words::Command;
 use std::alloc::Global;
 
-/// The text of the description in the file that the command names.
-pub(crate) fn description<F: Shelf>(
+/// The text of a file, and none where it has more bytes than the limit.
+pub(crate) fn text_of<F: Shelf>(
     alloc: Global,
-    words: &[Name],
-    command: &Command,
+    file: &Name,
+    limit: u32,
     shelf: &mut F,
-) -> Result<Vec<u8>, Refusal>
-    requires { IsCommand words.now command.now }
-    ensures asks { IfOk result (λ text. Asks F.fetch_gives F.told F.faults words.now shelf.old shelf.new (fetched (Ok Whole) text.items)) }
-    ensures within { IfOk result (λ text. length text.items ≤ DESCRIPTION_BYTES) }
-    ensures refuses { IfErr result (Refuses (Asks F.fetch_gives F.told F.faults words.now shelf.old shelf.new) words.now) }
+) -> Result<Option<Vec<u8>>, Refusal>
+    requires { IsUtf8 file.now }
+    ensures text { IfOk result (λ found. MatchOption found
+        ((bytes : List ℕ) × Gets F.fetch_gives F.told F.faults file.now limit (Ok TooLong) bytes shelf.old shelf.new)
+        (λ text. Gets F.fetch_gives F.told F.faults file.now limit (Ok Whole) text.items shelf.old shelf.new)) }
+    ensures nothing { IfErr result (ReadsNothing F.fetch_gives F.told F.faults file.now limit shelf.old shelf.new) }
 {
-    let file = file_of(words, command);
     let mut text = Vec::new(alloc);
-    match shelf.fetch(alloc, file, DESCRIPTION_BYTES, &mut text) {
-        Ok(Fetched::Whole) => Ok(text),
-        Ok(Fetched::TooLong) => Err(Refusal::LongText),
+    match shelf.fetch(alloc, as_text(file), limit, &mut text) {
+        Ok(Fetched::Whole) => Ok(Some(text)),
+        Ok(Fetched::TooLong) => Ok(None),
         Ok(Fetched::Absent) => Err(unread(alloc, file)),
         Err(Or::Fault(_)) => Err(unread(alloc, file)),
         Err(Or::Memory) => Err(Refusal::Memory),
-    }
-}
-
-/// The file that a command reads.
-#[tactic(auto, using(crate::proofs::Asking::file_is_text))]
-fn file_of<'a>(words: &[Name], command: &'a Command) -> &'a str
-    requires { IsCommand words.now command.now }
-    ensures { result.now ≡ file_read command.now }
-{
-    match command {
-        Command::Emit { file, .. } => as_text(file),
-        Command::Check { file } => as_text(file),
     }
 }
 
@@ -62,11 +44,11 @@ fn as_text(word: &Name) -> &str
 }
 
 /// The refusal of a file that couldn't be read.
-fn unread(alloc: Global, file: &str) -> Refusal
+fn unread(alloc: Global, file: &Name) -> Refusal
     ensures { IsTold file.now result }
 {
-    match Vec::from_slice(alloc, file.as_bytes()) {
-        Ok(name) => Refusal::Read(Name::from(name)),
+    match Name::copy_of(alloc, file.as_slice()) {
+        Ok(name) => Refusal::Read(name),
         Err(_) => Refusal::Memory,
     }
 }

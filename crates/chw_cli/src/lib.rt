@@ -8,6 +8,7 @@ mod emit;
 mod fetch;
 mod lines;
 pub mod refusal;
+mod run;
 pub mod status;
 mod tell;
 pub mod top;

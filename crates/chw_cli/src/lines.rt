@@ -1,6 +1,6 @@
-//! The lines of faults of names, of references and of types.
+//! The lines of faults of names, of references and of types, and the words before a place.
 ghost use Rattle.std.specs.Prelude.{◌≡◌, ◌++◌, IfOk};
-ghost use Rattle.chw_cli.specs.Lines.{circle_line, fault_line, name_line, type_line, words_line};
+ghost use Rattle.chw_cli.specs.Lines.{circle_line, fault_line, name_line, rule_words, stim_words, type_line, words_line};
 ghost use Rattle.chw_check.specs.declared.fault.TypeFault.TheVariants as of_types;
 ghost use Rattle.chw_resolve.specs.declared.fault.NameFault.TheVariants as fault;
 
@@ -10,6 +10,8 @@ use chw_limits::Limit;
 use chw_resolve::NameFault;
 use itoa::Buffer;
 use std::alloc::Global;
+use stimulus::StimCode;
+use verilog_rules::VCode;
 
 /// The line of a fault of names or references.
 pub(crate) fn fault_line(alloc: Global, fault: &NameFault) -> Result<Vec<u8>, NoMemory>
@@ -96,4 +98,30 @@ fn words_line(alloc: Global, text: &str, shown: &Name) -> Result<Vec<u8>, NoMemo
     line.extend_from_slice(shown.as_slice())?;
     line.push(b'\n')?;
     Ok(line)
+}
+
+/// The words before the place at which a Verilog text breaks a rule.
+pub(crate) fn rule_words(code: VCode) -> &'static str
+    ensures { result.now ≡ rule_words code }
+{
+    match code {
+        VCode::V01 => "chw: V01 at ",
+        VCode::V02 => "chw: V02 at ",
+        VCode::V03 => "chw: V03 at ",
+        VCode::V04 => "chw: V04 at ",
+        VCode::V05 => "chw: V05 at ",
+        VCode::V06 => "chw: V06 at ",
+    }
+}
+
+/// The words before the number of a line that a stimulus may not have.
+pub(crate) fn stim_words(code: StimCode) -> &'static str
+    ensures { result.now ≡ stim_words code }
+{
+    match code {
+        StimCode::S01 => "chw: S01 line ",
+        StimCode::S02 => "chw: S02 line ",
+        StimCode::S03 => "chw: S03 line ",
+        StimCode::S05 => "chw: S05 line ",
+    }
 }

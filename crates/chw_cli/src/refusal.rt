@@ -1,6 +1,6 @@
 //! Why the program gave no answer.
 ghost use Rattle.std.specs.Prelude.{◌≡◌};
-ghost use Rattle.chw_cli.specs.Refusals.{of_lex_fault, of_loop, of_name_fault, of_not_flat, of_parse_fault, of_type_fault, of_words_fault};
+ghost use Rattle.chw_cli.specs.Refusals.{of_circuit_fault, of_lex_fault, of_loop, of_name_fault, of_not_flat, of_parse_fault, of_stim_fault, of_type_fault, of_words_fault};
 ghost use Rattle.chw_cli.specs.declared.refusal.Refusal.TheVariants.{Memory};
 
 use chw_base::{Name, NoMemory, Or, Seq, WireId};
@@ -11,6 +11,9 @@ use chw_resolve::NameFault;
 use chw_words::WordsFault;
 use flat_form::NotFlat;
 use netlist::Loop;
+use run_answer::CircuitFault;
+use stimulus::StimFault;
+use verilog_rules::VFault;
 
 /// Why the program gave no answer, with what its line shows.
 #[derive(Debug, Drop)]
@@ -33,6 +36,10 @@ pub enum Refusal {
     Types(TypeFault),
     /// The text isn't of the flat form.
     Form,
+    /// The Verilog text denotes no net: the first rule that it breaks, and where.
+    Verilog(VFault),
+    /// The text is no stimulus for the ports of the net: the first line that isn't taken, and why.
+    Stimulus(StimFault),
     /// The net has more flat wires than the limit.
     TooLarge,
     /// These flat wires drive each other in a circle that passes no register and no RAM, the one with the least number first.
@@ -125,6 +132,30 @@ impl From<Or<Loop>> for Refusal {
         match error {
             Or::Memory => Refusal::Memory,
             Or::Fault(Loop { cycle }) => Refusal::Loop(cycle),
+        }
+    }
+}
+
+impl From<Or<CircuitFault>> for Refusal {
+    ghost from_gives = { λ e r. r ≡ of_circuit_fault e };
+
+    fn from(error: Or<CircuitFault>) -> Refusal {
+        match error {
+            Or::Memory => Refusal::Memory,
+            Or::Fault(CircuitFault::Text(fault)) => Refusal::Verilog(fault),
+            Or::Fault(CircuitFault::TooLarge) => Refusal::TooLarge,
+            Or::Fault(CircuitFault::Loop(cycle)) => Refusal::Loop(cycle),
+        }
+    }
+}
+
+impl From<Or<StimFault>> for Refusal {
+    ghost from_gives = { λ e r. r ≡ of_stim_fault e };
+
+    fn from(error: Or<StimFault>) -> Refusal {
+        match error {
+            Or::Memory => Refusal::Memory,
+            Or::Fault(fault) => Refusal::Stimulus(fault),
         }
     }
 }

@@ -3,9 +3,8 @@ ghost use Rattle.std.specs.Prelude.{◌≡◌, IfOk};
 ghost use Rattle.chw_cli.specs.Lines.{line_of};
 ghost use Rattle.chw_cli.specs.Outcome.{Told};
 ghost use Rattle.chw_cli.specs.Telling.{Puts, place_line};
-ghost use Rattle.chw_cli.specs.declared.status.Status.TheVariants.{Refused};
 
-use crate::lines::{fault_line, type_line};
+use crate::lines::{fault_line, rule_words, stim_words, type_line};
 use crate::refusal::Refusal;
 use crate::status::Status;
 use chw_base::{Name, NoMemory, Or, Seq, Sink, WireId};
@@ -24,11 +23,37 @@ pub(crate) fn tell<E: Sink>(alloc: Global, refusal: &Refusal, err: &mut E) -> St
         Refusal::Words => put_line(alloc, "chw: words\n", Status::Words, err),
         Refusal::Read(file) => tell_unread(alloc, file, err),
         Refusal::LongText => put_line(alloc, "chw: E03 limit text 4194304\n", Status::Refused, err),
-        Refusal::Lex(at) => tell_place(alloc, "chw: E01 lex at ", *at, err),
-        Refusal::Syntax(at) => tell_place(alloc, "chw: E02 syntax at ", *at, err),
+        Refusal::Lex(at) => tell_place(
+            alloc,
+            "chw: E01 lex at ",
+            *at as usize,
+            Status::Refused,
+            err,
+        ),
+        Refusal::Syntax(at) => tell_place(
+            alloc,
+            "chw: E02 syntax at ",
+            *at as usize,
+            Status::Refused,
+            err,
+        ),
         Refusal::Depth => put_line(alloc, "chw: E03 limit depth 200\n", Status::Refused, err),
         Refusal::Names(fault) => tell_names(alloc, fault, err),
         Refusal::Types(fault) => tell_types(alloc, fault, err),
+        Refusal::Verilog(fault) => tell_place(
+            alloc,
+            rule_words(fault.code),
+            fault.at,
+            Status::Verilog,
+            err,
+        ),
+        Refusal::Stimulus(fault) => tell_place(
+            alloc,
+            stim_words(fault.code),
+            fault.line as usize,
+            Status::Stimulus,
+            err,
+        ),
         Refusal::Form => put_line(alloc, "chw: E20 form at 0\n", Status::Refused, err),
         Refusal::TooLarge => put_line(alloc, "chw: E17 size wires 200000\n", Status::Refused, err),
         Refusal::Loop(cycle) => tell_loop(alloc, cycle, err),
@@ -67,18 +92,18 @@ fn tell_types<E: Sink>(alloc: Global, fault: &TypeFault, err: &mut E) -> Status
     }
 }
 
-/// Puts the line of a place in the text.
-fn tell_place<E: Sink>(alloc: Global, text: &str, at: u32, err: &mut E) -> Status
-    ensures { Puts E.put_gives E.written E.faults (place_line text.now at) (Unit {0}) Refused err.old err.new result }
+/// Puts the line of a place in the text. The status is the given one, if that found memory.
+fn tell_place<E: Sink>(alloc: Global, text: &str, at: usize, status: Status, err: &mut E) -> Status
+    ensures { Puts E.put_gives E.written E.faults (place_line text.now at) (Unit {0}) status err.old err.new result }
 {
     match place_line(alloc, text, at) {
-        Ok(line) => put_bytes(alloc, line.as_slice(), Status::Refused, err),
+        Ok(line) => put_bytes(alloc, line.as_slice(), status, err),
         Err(NoMemory) => Status::Memory,
     }
 }
 
 /// The line of a place in the text: these words, the place, and a line feed.
-fn place_line(alloc: Global, text: &str, at: u32) -> Result<Vec<u8>, NoMemory>
+fn place_line(alloc: Global, text: &str, at: usize) -> Result<Vec<u8>, NoMemory>
     ensures { IfOk result (λ line. line.items ≡ place_line text.now at) }
 {
     let mut buffer = Buffer::new();

@@ -1,10 +1,10 @@
 //! The one call that does all that the program does.
 ghost use Rattle.std.specs.Prelude.{◌≡◌};
 ghost use Rattle.chw_base.specs.Faults.{Rose};
-ghost use Rattle.chw_cli.specs.Answer.{Asks};
 ghost use Rattle.chw_cli.specs.Delivery.{WritesAll, StopsAt};
 ghost use Rattle.chw_cli.specs.Exact.{IsExact};
 ghost use Rattle.chw_cli.specs.Outcome.{Outcome, Told};
+ghost use Rattle.chw_cli.specs.Reads.{Asks};
 
 use crate::answer::answer;
 use crate::deliver::deliver;
@@ -19,9 +19,10 @@ use chw_resolve::laws::well_named_has_no_fault;
 use chw_words::laws::words_are_one_command;
 use data_kinds::kind_laws::one_program;
 use flat_form::one_description;
+use run_answer::laws::nothing_refuses_a_run;
 use std::alloc::Global;
 
-/// Does what the words ask for: reads the file from the shelf, and writes the answer to `out`, or one line to `err`.
+/// Does what the words ask for: reads the files from the shelf, and writes the answer to `out`, or one line to `err`.
 ///
 /// The answer is whole before its first byte is written. It is written in pieces of 1,024 bytes, of which the last may be shorter. A fault
 /// of `err` leaves the status as it is.
@@ -48,6 +49,7 @@ pub fn top<F: Shelf, K: Sink, E: Sink>(
     well_named_has_no_fault();
     one_program();
     typed_has_no_fault();
+    nothing_refuses_a_run();
     match answer(alloc, words, shelf) {
         Ok(bytes) => match deliver(alloc, bytes.as_slice(), out) {
             Ok(()) => Status::Ok,

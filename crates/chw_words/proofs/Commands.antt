@@ -10,7 +10,7 @@ use Rattle.clap.specs.Kinds.{Kinds, or_else}
 use Rattle.clap.proofs.FaultLemmas.{stopped_fault}
 use Rattle.chw_words.specs.Parsing.{chw_app}
 use Rattle.chw_words.proofs.Walks.{Fails, fails_first, fails_not, or_else_none, plain_turn, rest_fault, stopped_walk}
-use Rattle.chw_words.proofs.Shapes.{Form, IsBudgetWord, IsPlain, check_shape, emit_shape, start}
+use Rattle.chw_words.proofs.Shapes.{Form, IsBudgetWord, IsPlain, check_shape, emit_shape, run_shape, start}
 
 abbrev top : Shape
 top = (built chw_app).top
@@ -61,6 +61,21 @@ check_fault_is words =
 pub check_matched : (words : List Text) → subcommand_of chw_app (codes "check" ∷ words) ≡ Some (codes "check", rows_after check_shape.rules [] words)
 check_matched words = ap (λ (end : Walk). entered (built chw_app) end.stopped) (check_walk words)
 
+-- and after `run`
+run_walk : (words : List Text) → walk top.rules names nothing_held (codes "run" ∷ words) ≡ met (codes "run") words
+unfolding walked
+run_walk words = stopped_walk top.rules names (walk_from nothing_held) (codes "run") [] words
+
+pub run_fault : (words : List Text) → fault_of chw_app (codes "run" ∷ words) ≡ rest_fault run_shape start words
+unfolding walk_fault defaults_fault walked
+run_fault words =
+    ap (λ end. faults (walk_fault top names (walk_from nothing_held) (codes "run" ∷ words)) end) (run_walk words)
+    ∙ ap (λ ks. faults ks (met (codes "run") words)) (stopped_fault top names (walk_from nothing_held) (codes "run", []) words)
+    ∙ or_else_none (rest_fault run_shape start words)
+
+pub run_matched : (words : List Text) → subcommand_of chw_app (codes "run" ∷ words) ≡ Some (codes "run", rows_after run_shape.rules [] words)
+run_matched words = ap (λ (end : Walk). entered (built chw_app) end.stopped) (run_walk words)
+
 -- ---- any other first word is refused
 
 -- the words fail where the first does
@@ -75,23 +90,29 @@ is_or_not false = inr refl
 
 -- the first word is a command
 abbrev pub IsName : Text → Type 0
-IsName word = (word ≡ codes "emit") ⊎ (word ≡ codes "check")
+IsName word = (word ≡ codes "emit") ⊎ (word ≡ codes "check") ⊎ (word ≡ codes "run")
 
-abbrev named : Bool → Bool → Option Text
-named emit check =
+abbrev named : Bool → Bool → Bool → Option Text
+named emit check run =
     option_map (λ (s : Text × List Text). s.0)
-    (if emit || false then Some (codes "emit", []) else (if check || false then Some (codes "check", []) else None))
+    (if emit || false then Some (codes "emit", [])
+    else (if check || false then Some (codes "check", []) else (if run || false then Some (codes "run", []) else None)))
 
-no_name : (word : Text) → bytes_eq (codes "emit") word ≡ false → bytes_eq (codes "check") word ≡ false → subcommand_met names idle word ≡ None
-no_name word e f = ap (λ b. named b (bytes_eq (codes "check") word)) e ∙ ap (λ b. named false b) f
+no_name : (word : Text) → bytes_eq (codes "emit") word ≡ false → bytes_eq (codes "check") word ≡ false → bytes_eq (codes "run") word ≡ false
+    → subcommand_met names idle word ≡ None
+no_name word e f g =
+    ap (λ b. named b (bytes_eq (codes "check") word) (bytes_eq (codes "run") word)) e ∙ ap (λ b. named false b (bytes_eq (codes "run") word)) f
+    ∙ ap (λ b. named false false b) g
 
 plain_first : (word : Text) (words : List Text) → IsPlain word → fault_of chw_app (word ∷ words) ≡ [] → IsName word
 plain_first word words p e =
     ⊎_elim (λ is. inl (sym ((bytes_eq-Decides (codes "emit") word).0 is)))
-    (λ no_emit. ⊎_elim (λ is. inr (sym ((bytes_eq-Decides (codes "check") word).0 is)))
-    (λ no_check.
-    let t = plain_turn top names nothing_held 1 word p (no_name word no_emit no_check) in
+    (λ no_emit. ⊎_elim (λ is. inr (inl (sym ((bytes_eq-Decides (codes "check") word).0 is))))
+    (λ no_check. ⊎_elim (λ is. inr (inr (sym ((bytes_eq-Decides (codes "run") word).0 is))))
+    (λ no_run.
+    let t = plain_turn top names nothing_held 1 word p (no_name word no_emit no_check no_run) in
     absurd (first_fails word words (rw t tt) e))
+    (is_or_not (bytes_eq (codes "run") word)))
     (is_or_not (bytes_eq (codes "check") word)))
     (is_or_not (bytes_eq (codes "emit") word))
 

@@ -11,14 +11,15 @@ use Rattle.std.proofs.lemmas.Str.{IsUtf8-append, IsUtf8-from_ascii}
 use Rattle.clap.specs.Walk.{Row, Text, first_of, rows_after}
 use Rattle.clap.specs.Simple.{subcommand_of}
 use Rattle.clap.specs.Faults.{fault_of}
-use Rattle.chw_words.specs.Commands.{AreWithBudget, IsBudget, IsCommand, IsFile, SayBudget, apart, check, emit, is_option, joined, unsaid}
-use Rattle.chw_words.specs.Parsing.{BudgetIs, IsMatched, chw_app, emit as emit_matched, check as check_matched}
+use Rattle.chw_words.specs.Commands.{AreWithBudget, IsBudget, IsCommand, IsFile, SayBudget, apart, check, emit, is_option, joined, run, unsaid}
+use Rattle.chw_words.specs.Parsing.{BudgetIs, IsMatched, chw_app, emit as emit_matched, check as check_matched, run as run_matched}
 use Rattle.chw_words.specs.declared.command.Command.{Command}
-use Rattle.chw_words.specs.declared.command.Command.TheVariants.{Emit, Check}
-use Rattle.chw_words.proofs.Shapes.{Form, IsBudgetWord, IsPlain, check_shape, emit_shape}
+use Rattle.chw_words.specs.declared.command.Command.TheVariants.{Emit, Check, Run}
+use Rattle.chw_words.proofs.Shapes.{Form, IsBudgetWord, IsPlain, check_shape, emit_shape, run_shape}
 use Rattle.chw_words.proofs.EmitWords.{EmitWords, alone, apart_after, apart_before, emit_read, emit_words, joined_after, joined_before}
 use Rattle.chw_words.proofs.CheckWords.{check_read, check_words}
-use Rattle.chw_words.proofs.Commands.{begins, check_fault_is, check_matched as check_subcommand, emit_fault, emit_matched as emit_subcommand, none_fails}
+use Rattle.chw_words.proofs.RunWords.{run_read, run_words}
+use Rattle.chw_words.proofs.Commands.{begins, check_fault_is, check_matched as check_subcommand, emit_fault, emit_matched as emit_subcommand, none_fails, run_fault, run_matched as run_subcommand}
 use Rattle.chw_words.proofs.Forms.{is_or_not}
 
 -- ---- a budget's word is no option, and text
@@ -125,6 +126,14 @@ passes _ _ (check file f) =
       matched = subst (λ m. IsMatched m (Check file)) (sym (check_subcommand (file ∷ [])))
           (check_matched (rows_after check_shape.rules [] (file ∷ [])) file (read.1));
     }
+passes _ _ (run f g p q) =
+    let read = run_read f g p.no_option q.no_option in
+    record {
+      form = inl (refl, inl (p.no_option, inl (q.no_option, tt)));
+      faultless = run_fault (f ∷ g ∷ []) ∙ read.0;
+      matched = subst (λ m. IsMatched m (Run f g)) (sym (run_subcommand (f ∷ g ∷ [])))
+          (run_matched (rows_after run_shape.rules [] (f ∷ g ∷ [])) f g (read.1) (read.2));
+    }
 
 -- ---- one command at most
 
@@ -135,8 +144,11 @@ same_budget (Some word) m n a b = sym a.value ∙ b.value
 is_emit : Option (Text × List Row) → Bool
 is_emit o = option_map_or (λ p. bytes_eq (p.0) (codes "emit")) o false
 
+is_check : Option (Text × List Row) → Bool
+is_check o = option_map_or (λ p. bytes_eq (p.0) (codes "check")) o false
+
 one_matched : (m n : Option (Text × List Row)) (a b : Command) → m ≡ n → IsMatched m a → IsMatched n b → a ≡ b
-unfolding is_emit
+unfolding is_emit is_check
 one_matched _ _ _ _ e (emit_matched rows file budget f w) (emit_matched rows' file' budget' f' w') =
     let same : rows ≡ rows' = ap (λ (p : Text × List Row). p.1) (same_Some _ _ e) in
     let files : file ≡ file' = same_Some _ _ (sym f ∙ ap (first_of (codes "file")) same ∙ f') in
@@ -148,6 +160,14 @@ one_matched _ _ _ _ e (check_matched rows file f) (check_matched rows' file' f')
     ap (λ f. Check f) (same_Some _ _ (sym f ∙ ap (first_of (codes "file")) same ∙ f'))
 one_matched _ _ _ _ e (emit_matched rows file budget f w) (check_matched rows' file' f') = absurd (true≢false (ap is_emit e))
 one_matched _ _ _ _ e (check_matched rows file f) (emit_matched rows' file' budget' f' w') = absurd (true≢false (sym (ap is_emit e)))
+one_matched _ _ _ _ e (run_matched rows f g p q) (run_matched rows' f' g' p' q') =
+    let same : rows ≡ rows' = ap (λ (p : Text × List Row). p.1) (same_Some _ _ e) in
+    ap₂ (λ f g. Run f g) (same_Some _ _ (sym p ∙ ap (first_of (codes "verilog")) same ∙ p'))
+    (same_Some _ _ (sym q ∙ ap (first_of (codes "stimulus")) same ∙ q'))
+one_matched _ _ _ _ e (emit_matched rows file budget f w) (run_matched rows' f' g' p' q') = absurd (true≢false (ap is_emit e))
+one_matched _ _ _ _ e (run_matched rows f g p q) (emit_matched rows' file' budget' f' w') = absurd (true≢false (sym (ap is_emit e)))
+one_matched _ _ _ _ e (check_matched rows file f) (run_matched rows' f' g' p' q') = absurd (true≢false (ap is_check e))
+one_matched _ _ _ _ e (run_matched rows f g p q) (check_matched rows' file' f') = absurd (true≢false (sym (ap is_check e)))
 
 pub one_command : (words : List Text) (a b : Command) → IsCommand words a → IsCommand words b → a ≡ b
 one_command words a b x y =
@@ -167,14 +187,25 @@ emit_only _ rows _ e (emit_matched rows' file budget f w) =
       refl,
     )
 emit_only _ rows _ e (check_matched rows' file f) = absurd (true≢false (sym (ap is_emit e)))
+emit_only _ rows _ e (run_matched rows' f g p q) = absurd (true≢false (sym (ap is_emit e)))
 
-check_only : (m : Option (Text × List Row)) (rows : List Row) (c : Command) → m ≡ Some (codes "check", rows) → IsMatched m c
+pub check_only : (m : Option (Text × List Row)) (rows : List Row) (c : Command) → m ≡ Some (codes "check", rows) → IsMatched m c
     → (file : Text) × (first_of (codes "file") rows ≡ Some file) × (c ≡ Check file)
-unfolding is_emit
+unfolding is_emit is_check
 check_only _ rows _ e (check_matched rows' file f) =
     let same : rows' ≡ rows = ap (λ (p : Text × List Row). p.1) (same_Some _ _ e) in
     (file, subst (λ rs. first_of (codes "file") rs ≡ Some file) same f, refl)
 check_only _ rows _ e (emit_matched rows' file budget f w) = absurd (true≢false (ap is_emit e))
+check_only _ rows _ e (run_matched rows' f g p q) = absurd (true≢false (sym (ap is_check e)))
+
+pub run_only : (m : Option (Text × List Row)) (rows : List Row) (c : Command) → m ≡ Some (codes "run", rows) → IsMatched m c
+    → (f : Text) × (g : Text) × (first_of (codes "verilog") rows ≡ Some f) × (first_of (codes "stimulus") rows ≡ Some g) × (c ≡ Run f g)
+unfolding is_emit is_check
+run_only _ rows _ e (run_matched rows' f g p q) =
+    let same : rows' ≡ rows = ap (λ (p : Text × List Row). p.1) (same_Some _ _ e) in
+    (f, g, subst (λ rs. first_of (codes "verilog") rs ≡ Some f) same p, subst (λ rs. first_of (codes "stimulus") rs ≡ Some g) same q, refl)
+run_only _ rows _ e (emit_matched rows' file budget f w) = absurd (true≢false (ap is_emit e))
+run_only _ rows _ e (check_matched rows' file f) = absurd (true≢false (ap is_check e))
 
 emit_file : (word : Text) (words : List Text) (f : Text) (said : Option Text) → All IsUtf8 (word ∷ words) → EmitWords words f said → IsFile f
 emit_file word _ _ _ h (alone f p) = record { text = h 1 [] (omega arith); no_option = p }
@@ -207,6 +238,23 @@ check_command words c form texts faultless matched =
     subst (λ ws. IsCommand (codes "check" ∷ ws) c) (sym one)
     (subst (λ x. IsCommand (codes "check" ∷ file ∷ []) x) (sym (found.2 ∙ ap (λ f. Check f) same)) (check file (record { text = text; no_option = shape.1 })))
 
+run_command : (words : List Text) (c : Command) → Form words → All IsUtf8 (codes "run" ∷ words) → fault_of chw_app (codes "run" ∷ words) ≡ []
+    → IsMatched (subcommand_of chw_app (codes "run" ∷ words)) c → IsCommand (codes "run" ∷ words) c
+run_command words c form texts faultless matched =
+    let shape = run_words words form (sym (run_fault words) ∙ faultless) in
+    let f = shape.0 in
+    let g = shape.1 in
+    let two : words ≡ f ∷ g ∷ [] = shape.4 in
+    let there : IsMatched (subcommand_of chw_app (codes "run" ∷ f ∷ g ∷ [])) c = subst (λ ws. IsMatched (subcommand_of chw_app (codes "run" ∷ ws)) c) two matched in
+    let all : All IsUtf8 (codes "run" ∷ f ∷ g ∷ []) = subst (λ ws. All IsUtf8 (codes "run" ∷ ws)) two texts in
+    let found = run_only _ (rows_after run_shape.rules [] (f ∷ g ∷ [])) c (run_subcommand (f ∷ g ∷ [])) there in
+    let read = run_read f g (shape.2) (shape.3) in
+    let first : found.0 ≡ f = same_Some _ _ (sym (found.2) ∙ read.1) in
+    let second : found.1 ≡ g = same_Some _ _ (sym (found.3) ∙ read.2) in
+    subst (λ ws. IsCommand (codes "run" ∷ ws) c) (sym two)
+    (subst (λ x. IsCommand (codes "run" ∷ f ∷ g ∷ []) x) (sym (found.4 ∙ ap₂ (λ f g. Run f g) first second))
+    (run f g (record { text = all 1 [] (omega arith); no_option = shape.2 }) (record { text = all 2 [] (omega arith); no_option = shape.3 })))
+
 -- words of the form in which `clap` finds no fault are the command that it reads
 pub is_command : (words : List Text) (c : Command) → Form words → All IsUtf8 words → fault_of chw_app words ≡ [] → IsMatched (subcommand_of chw_app words) c
     → IsCommand words c
@@ -218,10 +266,16 @@ is_command (word ∷ words) c form texts faultless matched =
     subst (λ w. IsCommand (w ∷ words) c) (sym is)
     (emit_command words c (b.1) (subst (λ w. All IsUtf8 (w ∷ words)) is texts) (subst (λ w. fault_of chw_app (w ∷ words) ≡ []) is faultless)
     (subst (λ w. IsMatched (subcommand_of chw_app (w ∷ words)) c) is matched)))
+    (λ later. ⊎_elim
     (λ is.
     subst (λ w. IsCommand (w ∷ words) c) (sym is)
     (check_command words c (b.1) (subst (λ w. All IsUtf8 (w ∷ words)) is texts) (subst (λ w. fault_of chw_app (w ∷ words) ≡ []) is faultless)
     (subst (λ w. IsMatched (subcommand_of chw_app (w ∷ words)) c) is matched)))
+    (λ is.
+    subst (λ w. IsCommand (w ∷ words) c) (sym is)
+    (run_command words c (b.1) (subst (λ w. All IsUtf8 (w ∷ words)) is texts) (subst (λ w. fault_of chw_app (w ∷ words) ≡ []) is faultless)
+    (subst (λ w. IsMatched (subcommand_of chw_app (w ∷ words)) c) is matched)))
+    later)
     (b.0)
 
 -- ---- a command's words are texts
@@ -240,6 +294,10 @@ emit_text = (codes "emit", (refl, refl))
 check_text : IsUtf8 (codes "check")
 unfolding encode_utf8
 check_text = (codes "check", (refl, refl))
+
+run_text : IsUtf8 (codes "run")
+unfolding encode_utf8
+run_text = (codes "run", (refl, refl))
 
 option_text : IsUtf8 (codes "--budget")
 unfolding encode_utf8
@@ -266,3 +324,5 @@ are_texts _ _ (emit words file budget f w) =
     let r = with_budget words file budget f.no_option w in
     one_more (codes "emit") words emit_text (emit_texts words file (r.0) budget (r.1) (r.2) f.text)
 are_texts _ _ (check file f) = one_more (codes "check") (file ∷ []) check_text (one_more file [] f.text none_left)
+are_texts _ _ (run f g p q) =
+    one_more (codes "run") (f ∷ g ∷ []) run_text (one_more f (g ∷ []) p.text (one_more g [] q.text none_left))

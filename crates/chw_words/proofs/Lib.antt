@@ -5,5 +5,6 @@ pub mod Exactly
 pub mod Forms
 pub mod Matched
 pub mod Outcomes
+pub mod RunWords
 pub mod Shapes
 pub mod Walks

@@ -27,6 +27,9 @@ emit_shape = slice_index_or (built chw_app).subs 0 (new_shape [])
 abbrev pub check_shape : Shape
 check_shape = slice_index_or (built chw_app).subs 1 (new_shape [])
 
+abbrev pub run_shape : Shape
+run_shape = slice_index_or (built chw_app).subs 2 (new_shape [])
+
 -- an argument with one value
 abbrev pub row : Text → Text → Row
 row id v = record { id = id; values = v ∷ []; count = None; source = Some CommandLine; reading = reading_by (slice_index_or emit_shape.rules 0 (new_rule [])) }

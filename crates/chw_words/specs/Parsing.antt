@@ -7,26 +7,31 @@ use Rattle.clap.specs.declared.parser.matches.ArgMatches.{ArgMatches}
 use Rattle.clap.specs.declared.builder.action.ArgAction.TheVariants.{Set}
 use Rattle.chw_words.specs.Commands.{IsBudget}
 use Rattle.chw_words.specs.declared.command.Command.{Command}
-use Rattle.chw_words.specs.declared.command.Command.TheVariants.{Emit, Check}
+use Rattle.chw_words.specs.declared.command.Command.TheVariants.{Emit, Check, Run}
 use Rattle.chw_words.specs.declared.budget.TheConstants.{DEFAULT_BUDGET}
 
--- the one argument FILE
-abbrev pub file_rule : Rule
-file_rule = record (new_rule (codes "file")) { required = true; action = Some Set }
+-- a file's name, at its place among the words
+abbrev pub file_rule : Text → Rule
+file_rule name = record (new_rule name) { required = true; action = Some Set }
 
 -- the option `--budget N`
 abbrev pub budget_rule : Rule
 budget_rule = record (new_rule (codes "budget")) { long = Some (codes "budget"); action = Some Set }
 
 abbrev pub emit_app : App
-emit_app = with_rule (with_rule (new_app (codes "emit")) file_rule) budget_rule
+emit_app = with_rule (with_rule (new_app (codes "emit")) (file_rule (codes "file"))) budget_rule
 
 abbrev pub check_app : App
-check_app = with_rule (new_app (codes "check")) file_rule
+check_app = with_rule (new_app (codes "check")) (file_rule (codes "file"))
 
--- the program's commands, one of which has to stand first
-abbrev pub chw_app : App
-chw_app =
+abbrev pub run_app : App
+run_app =
+    with_rule (with_rule (new_app (codes "run")) (file_rule (codes "verilog")))
+    (file_rule (codes "stimulus"))
+
+-- the commands on descriptions, one of which has to stand first
+abbrev pub descriptions_app : App
+descriptions_app =
     with_subcommand
     (with_subcommand
     (on_top
@@ -34,6 +39,10 @@ chw_app =
     (new_app (codes "chw")))
     emit_app.top)
     check_app.top
+
+-- these and the command on nets
+abbrev pub chw_app : App
+chw_app = with_subcommand descriptions_app run_app.top
 
 -- the budget that was matched, or the default
 abbrev pub BudgetIs : Option Text → ℕ → Type 0
@@ -45,6 +54,9 @@ pub data IsMatched : Option (Text × List Row) → Command → Type 0 where
   emit : (rows : List Row) (file : Text) (budget : ℕ) → first_of (codes "file") rows ≡ Some file → BudgetIs (first_of (codes "budget") rows) budget
       → IsMatched (Some (codes "emit", rows)) (Emit file budget)
   check : (rows : List Row) (file : Text) → first_of (codes "file") rows ≡ Some file → IsMatched (Some (codes "check", rows)) (Check file)
+  run : (rows : List Row) (verilog stimulus : Text) → first_of (codes "verilog") rows ≡ Some verilog
+      → first_of (codes "stimulus") rows ≡ Some stimulus
+      → IsMatched (Some (codes "run", rows)) (Run verilog stimulus)
 
 -- no command was matched
 abbrev pub IsNoneMatched : Option (Text × List Row) → Type 0

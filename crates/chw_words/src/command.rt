@@ -10,6 +10,8 @@ pub enum Command {
     Emit { file: Name, budget: u32 },
     /// To write the canonical text of the description in a file.
     Check { file: Name },
+    /// To step the net of a Verilog text by a stimulus, and to write its outputs at each event.
+    Run { verilog: Name, stimulus: Name },
 }
 
 /// The words are no command.

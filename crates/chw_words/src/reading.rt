@@ -5,7 +5,7 @@ ghost use Rattle.clap.specs.Words.{app_of, kind_of, rule_of, subcommand_rows_of}
 ghost use Rattle.clap.specs.declared.builder.command.Command.TheViews.{out-Command as fields_of};
 ghost use Rattle.clap.specs.declared.error.kind.ErrorKind.TheVariants.{OutOfMemory};
 ghost use Rattle.chw_words.specs.Commands.{AreNoCommand, IsCommand};
-ghost use Rattle.chw_words.specs.Parsing.{BudgetIs, IsMatched, IsNoneMatched, budget_rule, check_app, chw_app, emit_app, file_rule, matched_under};
+ghost use Rattle.chw_words.specs.Parsing.{BudgetIs, IsMatched, IsNoneMatched, budget_rule, check_app, chw_app, descriptions_app, emit_app, file_rule, matched_under, run_app};
 
 use crate::budget::{DEFAULT_BUDGET, read_budget};
 use crate::command::{Command, WordsFault};
@@ -15,14 +15,12 @@ use clap::error::ErrorKind;
 use clap::{Arg, ArgAction, ArgMatches, Error};
 use std::alloc::{AllocError, Global};
 
-// The one argument FILE.
-fn file_arg<'a>(alloc: Global) -> Arg<'a>
-    ensures rule { rule_of result ≡ file_rule }
+// A file's name, at its place among the words.
+fn file_arg<'a>(alloc: Global, name: &'a str) -> Arg<'a>
+    ensures rule { rule_of result ≡ file_rule name.now }
     ensures local { result.global ≡ false }
 {
-    Arg::new(alloc, "file")
-        .required(true)
-        .action(ArgAction::Set)
+    Arg::new(alloc, name).required(true).action(ArgAction::Set)
 }
 
 // The option `--budget N`.
@@ -41,7 +39,7 @@ fn emit_parser<'a>(alloc: Global) -> Result<clap::Command<'a>, AllocError>
     ensures local { IfOk result (λ c. (fields_of c).has_globals ≡ false) }
 {
     clap::Command::new(alloc, "emit")
-        .arg(file_arg(alloc))?
+        .arg(file_arg(alloc, "file"))?
         .arg(budget_arg(alloc))
 }
 
@@ -50,12 +48,22 @@ fn check_parser<'a>(alloc: Global) -> Result<clap::Command<'a>, AllocError>
     ensures app { IfOk result (λ c. app_of c ≡ check_app) }
     ensures local { IfOk result (λ c. (fields_of c).has_globals ≡ false) }
 {
-    clap::Command::new(alloc, "check").arg(file_arg(alloc))
+    clap::Command::new(alloc, "check").arg(file_arg(alloc, "file"))
 }
 
-// The commands as clap reads them, each with its arguments.
-fn parser<'a>(alloc: Global) -> Result<clap::Command<'a>, AllocError>
-    ensures { IfOk result (λ c. app_of c ≡ chw_app) }
+// `run VERILOG STIM`.
+fn run_parser<'a>(alloc: Global) -> Result<clap::Command<'a>, AllocError>
+    ensures app { IfOk result (λ c. app_of c ≡ run_app) }
+    ensures local { IfOk result (λ c. (fields_of c).has_globals ≡ false) }
+{
+    clap::Command::new(alloc, "run")
+        .arg(file_arg(alloc, "verilog"))?
+        .arg(file_arg(alloc, "stimulus"))
+}
+
+// The commands on descriptions as clap reads them, each with its arguments.
+fn descriptions_parser<'a>(alloc: Global) -> Result<clap::Command<'a>, AllocError>
+    ensures { IfOk result (λ c. app_of c ≡ descriptions_app) }
 {
     let chw = clap::Command::new(alloc, "chw")
         .no_binary_name(true)
@@ -64,6 +72,13 @@ fn parser<'a>(alloc: Global) -> Result<clap::Command<'a>, AllocError>
         .subcommand_required(true);
     chw.subcommand(emit_parser(alloc)?)?
         .subcommand(check_parser(alloc)?)
+}
+
+// All commands as clap reads them.
+fn parser<'a>(alloc: Global) -> Result<clap::Command<'a>, AllocError>
+    ensures { IfOk result (λ c. app_of c ≡ chw_app) }
+{
+    descriptions_parser(alloc)?.subcommand(run_parser(alloc)?)
 }
 
 // A name of its own.
@@ -123,6 +138,23 @@ fn check(alloc: Global, matches: &ArgMatches) -> Result<Command, Or<WordsFault>>
     })
 }
 
+// What was matched under `run`.
+fn run(alloc: Global, matches: &ArgMatches) -> Result<Command, Or<WordsFault>>
+    ensures command { IfOk result (IsMatched (matched_under (codes "run") matches.now)) }
+    ensures fault { IfFault result (λ _. IsNoneMatched (matched_under (codes "run") matches.now)) }
+{
+    let Some(verilog) = matches.get_str("verilog") else {
+        return Err(Or::Fault(WordsFault));
+    };
+    let Some(stimulus) = matches.get_str("stimulus") else {
+        return Err(Or::Fault(WordsFault));
+    };
+    Ok(Command::Run {
+        verilog: name(alloc, verilog)?,
+        stimulus: name(alloc, stimulus)?,
+    })
+}
+
 // The command that was matched.
 fn reading(alloc: Global, matches: &ArgMatches) -> Result<Command, Or<WordsFault>>
     ensures command { IfOk result (IsMatched (subcommand_rows_of matches.now)) }
@@ -134,6 +166,7 @@ fn reading(alloc: Global, matches: &ArgMatches) -> Result<Command, Or<WordsFault
     match command {
         "emit" => emit(alloc, matches),
         "check" => check(alloc, matches),
+        "run" => run(alloc, matches),
         _ => Err(Or::Fault(WordsFault)),
     }
 }

@@ -1,4 +1,3 @@
-pub mod FieldsPut
 pub mod LeavesAgree
 pub mod Numbering
 pub mod SameLayout

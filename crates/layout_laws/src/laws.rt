@@ -1,6 +1,6 @@
 //! Laws of layouts, each as the contract of a call that does nothing.
 ghost use Rattle.layout_laws.specs.Numbering.{ConstructorsByPlace, OneNumbering};
-ghost use Rattle.layout_laws.specs.SameLayout.{SameNumber, SameKeepsMeasure, SameKeepsValues, SameKeepsEncodings, SameKeepsZeros, SameKeepsRepresentable, SameKeepsLeaves};
+ghost use Rattle.layout_laws.specs.SameLayout.{SameNumber, SameKeepsMeasure, SameKeepsValues, SameKeepsEncodings, SameKeepsZeros};
 ghost use Rattle.layout_laws.specs.ZeroThere.{ZeroExists, ZeroWithoutWidth};
 ghost use Rattle.layout_laws.specs.LeavesAgree.{LeavesAgree, LeavesAreThere, PortTakesStreams, StreamsGivePort};
 
@@ -22,15 +22,12 @@ pub fn same_naturals_mean_one_number()
     same_values();
 }
 
-/// What is the same up to naturals as a closed type has its measure, its values, each with the same bits, and its zero; it is representable if
-/// that one is; and it is a port if that one is, with the same leaves.
+/// What is the same up to naturals as a closed type has its measure, its values, each with the same bits, and its zero.
 pub fn same_types_keep_layout()
     ensures measure { SameKeepsMeasure }
     ensures values { SameKeepsValues }
     ensures encodings { SameKeepsEncodings }
     ensures zeros { SameKeepsZeros }
-    ensures representable { SameKeepsRepresentable }
-    ensures leaves { SameKeepsLeaves }
 {
     same_values();
     fields_keep_same();

@@ -16,7 +16,7 @@ use Rattle.chw_typing.specs.Scopes.{Setting, HasKind}
 use Rattle.chw_typing.specs.Programs.{IsSound}
 use Rattle.named_types.proofs.FieldKinds.{field_kind}
 use Rattle.chw_typing.proofs.Patterns.{are_of_terms, arguments_kinds}
-use Rattle.layout_laws.specs.SameLayout.{AreLike}
+use Rattle.like_types.specs.Alike.{AreLike}
 
 pub same_count : {ts us : TypeTrees} → SameAll ts us → length (list_of us) ≡ length (list_of ts)
 same_count same_none = refl

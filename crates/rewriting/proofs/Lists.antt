@@ -12,23 +12,21 @@ use Rattle.scenes.specs.Origins.{Origins}
 use Rattle.rewriting.specs.Numbers.{HasOrigin, IsNumberOf}
 use Rattle.rewriting.specs.Primitives.{literal}
 
+-- lists are the same where what a function with no two arguments for one value makes of them is
+pub mapped_same : {X Y : Type 0} (f : X → Y) → ((x y : X) → f x ≡ f y → x ≡ y) → (xs ys : List X) → map f xs ≡ map f ys → xs ≡ ys
+mapped_same f one [] [] q = refl
+mapped_same f one [] (y ∷ ys) q = absurd cc
+mapped_same f one (x ∷ xs) [] q = absurd cc
+mapped_same f one (x ∷ xs) (y ∷ ys) q =
+    let first : f x ≡ f y = cc in
+    let rest : map f xs ≡ map f ys = cc in
+    λ i. one x y first i ∷ mapped_same f one xs ys rest i
+
 pub numerals_same : (ms ns : List ℕ) → map (λ n. nat_lit n) ms ≡ map (λ n. nat_lit n) ns → ms ≡ ns
-numerals_same [] [] q = refl
-numerals_same [] (n ∷ ns) q = absurd cc
-numerals_same (m ∷ ms) [] q = absurd cc
-numerals_same (m ∷ ms) (n ∷ ns) q =
-    let first : m ≡ n = cc in
-    let rest : map (λ n. nat_lit n) ms ≡ map (λ n. nat_lit n) ns = cc in
-    λ i. first i ∷ numerals_same ms ns rest i
+numerals_same = mapped_same (λ n. nat_lit n) (λ m n q. cc)
 
 pub somes_same : (ts us : List TypeTree) → map (λ t. Some t) ts ≡ map (λ t. Some t) us → ts ≡ us
-somes_same [] [] q = refl
-somes_same [] (u ∷ us) q = absurd cc
-somes_same (t ∷ ts) [] q = absurd cc
-somes_same (t ∷ ts) (u ∷ us) q =
-    let first : t ≡ u = cc in
-    let rest : map (λ (t : TypeTree). Some t) ts ≡ map (λ t. Some t) us = cc in
-    λ i. first i ∷ somes_same ts us rest i
+somes_same = mapped_same (λ t. Some t) (λ t u q. cc)
 
 word_same : (v w : Scalar × List Bool) → literal v ≡ literal w → v ≡ w
 word_same v w q =
@@ -37,13 +35,7 @@ word_same v w q =
     λ i. (sort i, bits i)
 
 pub words_same : (vs ws : List (Scalar × List Bool)) → map literal vs ≡ map literal ws → vs ≡ ws
-words_same [] [] q = refl
-words_same [] (w ∷ ws) q = absurd cc
-words_same (v ∷ vs) [] q = absurd cc
-words_same (v ∷ vs) (w ∷ ws) q =
-    let first : literal v ≡ literal w = cc in
-    let rest : map literal vs ≡ map literal ws = cc in
-    λ i. word_same v w first i ∷ words_same vs ws rest i
+words_same = mapped_same literal word_same
 
 -- no function is representable
 no_function : (datas : List Data) (a b : TypeTree) → Representable datas (fun a b) → ⊥
@@ -65,7 +57,7 @@ function_same datas (t ∷ ts) (u ∷ us) r q h g e =
     record { params = λ i. first i ∷ same.params i; result = same.result }
 
 -- a made definition of a number is one of them
-origin_within : (o : Origins) (e : TermTree) (m : ℕ) → HasOrigin o e m → m < length o.made
+pub origin_within : (o : Origins) (e : TermTree) (m : ℕ) → HasOrigin o e m → m < length o.made
 origin_within o e m h = slice_get_within o.made m h.0 h.1
 
 least : (o : Origins) (e : TermTree) (m n : ℕ) → IsNumberOf o e m → IsNumberOf o e n → m < n → ⊥

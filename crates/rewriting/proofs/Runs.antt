@@ -1,10 +1,11 @@
 -- A run is one.
-use Rattle.std.proofs.Common.{◌≡◌, ◌∙◌, sym, ap, refl, subst, ℕ, List, [], ◌∷◌, ◌++◌, map, set, Some}
+use Rattle.std.proofs.Common.{inl, inr, ◌<◌, ◌≡◌, ◌∙◌, sym, ap, refl, subst, ℕ, List, [], ◌∷◌, ◌++◌, map, set, Some}
 use Rattle.std.specs.List.{slice_get}
 use Rattle.chw_types.specs.TypeTree.{TypeTree}
 use Rattle.chw_prims.specs.declared.prim.Primitive.TheVariants.{Fmap}
 use Rattle.chw_terms.specs.declared.program.Program.{Program}
 use Rattle.chw_terms.specs.declared.rule.Rule.{Rule}
+use Rattle.chw_terms.specs.declared.rule.Rule.TheVariants.{TyBeta, Beta, AppLet, AppCase, CaseCon, CaseLet, CaseCase, Proj, PrimLet, PrimCase, Flat, Dead, Inline, Unfold, Unroll, Elem, Delta, ApPure, Eta, Spec, Anf}
 use Rattle.chw_terms.specs.declared.scene.Made.{Made}
 use Rattle.chw_terms.specs.declared.scene.Sort.TheVariants.{Value}
 use Rattle.chw_terms.specs.declared.term.Arg.{Arg}
@@ -18,12 +19,18 @@ use Rattle.scenes.specs.Origins.{MadeOf, Origins, origin_of}
 use Rattle.active_places.specs.Laws.{OnePlace}
 use Rattle.active_places.specs.Spots.{Spot}
 use Rattle.rewriting.specs.Calls.{call_origin}
-use Rattle.rewriting.specs.Numbers.{HasOrigin}
+use Rattle.rewriting.specs.Numbers.{HasOrigin, IsNumberOf}
 use Rattle.rewriting.specs.Runs.{BecomesMade, of_call, of_lifted, After, no_call, known, one_more, opened, top_of, sort_at, IsOpening, Step, StepsTo, RunsTo, no_more, none_left, step_and, Run}
 use Rattle.rewriting.specs.Shapes.{fmap_of}
 use Rattle.rewriting.specs.Steps.{origins_in, HasNoStep}
+use Rattle.rewriting.specs.Calls.{OfWhole, spec_call}
+use Rattle.rewriting.specs.Instances.{HasInstance, on_core, on_whole}
+use Rattle.rewriting.specs.Signals.{OfSignals, spec_function}
+use Rattle.rewriting.specs.Steps.{Where, IsFirst}
+use Rattle.scenes.specs.Origins.{made_of}
+use Rattle.std.proofs.Common.{arith, zero, suc, length}
 use Rattle.rewriting.proofs.CaseMakes.{one_type_found}
-use Rattle.rewriting.proofs.Lists.{somes_same}
+use Rattle.rewriting.proofs.Lists.{somes_same, origin_within}
 use Rattle.rewriting.proofs.Signals.{one_lifted}
 use Rattle.rewriting.proofs.Spines.{head_of, head_applied, args_are}
 use Rattle.rewriting.proofs.Steps.{one_step, one_first_place}
@@ -39,12 +46,12 @@ lifted_same d a b d' a' b' g s g' s' rest rest' q =
     cc
 
 one_becomes : {o : Origins} {at : Spot} {e f : TermTree} {it other : MadeOf} → BecomesMade o at e it → BecomesMade o at f other → e ≡ f → it ≡ other
-one_becomes {o} {at} (of_call {e = e} {ts = ts} {t = t} c d) (of_call {e = f} {ts = ts'} {t = t'} c' d') q =
-    let type = one_type_found d d' q in
+one_becomes {o} {at} (of_call {e = e} {ts = ts} {t = t} c) (of_call {e = f} {ts = ts'} {t = t'} c') q =
+    let type = one_type_found c.has c'.has q in
     let types = somes_same ts ts' (sym c.free ∙ ap (λ e. map (slice_get at.vars) (free_in e)) q ∙ c'.free) in
     λ i. record { origin = call_origin o (types i) (q i); ty = from_each (types i) (type i); sort = sort_at at.mode }
-one_becomes (of_call c d) (of_lifted d' a' b' g' s' rest' l' n') q = absurd (no_lifted_call c.of c.args rest' d' a' b' g' s' (sym c.is ∙ q))
-one_becomes (of_lifted d' a' b' g' s' rest' l' n') (of_call c d) q = absurd (no_lifted_call c.of c.args rest' d' a' b' g' s' (sym c.is ∙ sym q))
+one_becomes (of_call c) (of_lifted d' a' b' g' s' rest' l' n') q = absurd (no_lifted_call c.of c.args rest' d' a' b' g' s' (sym c.is ∙ q))
+one_becomes (of_lifted d' a' b' g' s' rest' l' n') (of_call c) q = absurd (no_lifted_call c.of c.args rest' d' a' b' g' s' (sym c.is ∙ sym q))
 one_becomes {o} (of_lifted d a b {r = r} g s rest l n) (of_lifted d' a' b' {r = r'} g' s' rest' l' n') q =
     let function = lifted_same d a b d' a' b' g s g' s' rest rest' q in
     let same = one_lifted l l' function in
@@ -113,3 +120,73 @@ opening_same p h g =
 
 pub one_run : {rules : List Rule} {p : Program} {n : ℕ} {xs ys : List Made} {ss ss' : List Step} → OnePlace → Run rules p n ss xs → Run rules p n ss' ys → SameRun ss ss' xs ys
 one_run {p = p} law h g = one_run_from law h.runs g.runs refl (opening_same p h.opens g.opens)
+
+-- a step leads on: by the number that is written, the definition is there, or it comes next
+by_number : (p : Program) (made : List Made) (at : Spot) (e : TermTree) (it : MadeOf) (m : ℕ) → BecomesMade (origins_in p made) at e it → IsNumberOf (origins_in p made) it.origin m → (xs : List Made) × After p made at e Spec xs
+by_number p made at e it m b (inl h, f) = (made, known m b h)
+by_number p made at e it m b (inr q, f) =
+    (made ++ opened p it ∷ [], one_more b (λ j h. f j (subst (λ k. j < k) (sym q) (origin_within (origins_in p made) it.origin j h)) h))
+
+after_function : (p : Program) (made : List Made) (at : Spot) {core core' : TermTree} (rest : List Arg) → OfSignals (origins_in p made) at Spec core core' → (xs : List Made) × After p made at (applied core rest) Spec xs
+after_function p made at rest (spec_function {d = d} {a = a} {b = b} {t = t} {r = r} {ts = ts} {g = g} {s = s} {m = m} c l n i) =
+    by_number p made at (applied (fmap_of d a b g s) rest) (record { origin = origin_of (origins_in p made) g; ty = from_each (t ∷ ts) r; sort = Value }) m (of_lifted d a b g s rest l n) i
+
+after_call : (p : Program) (made : List Made) (at : Spot) {e e' : TermTree} → OfWhole (origins_in p made) at Spec e e' → (xs : List Made) × After p made at e Spec xs
+after_call p made at (spec_call {e = e} {ts = ts} {t = t} {m = m} l c i) =
+    by_number p made at e (record { origin = call_origin (origins_in p made) ts e; ty = from_each ts t; sort = sort_at at.mode }) m (of_call c) i
+
+after_spec : (p : Program) (made : List Made) (at : Spot) {e e' : TermTree} → HasInstance (origins_in p made) at Spec e e' → (xs : List Made) × After p made at e Spec xs
+after_spec p made at (on_core c c' rest m h) = after_function p made at rest m
+after_spec p made at (on_whole w h) = after_call p made at w
+
+after_any : (p : Program) (made : List Made) (at : Spot) (r : Rule) (e e' : TermTree) → HasInstance (origins_in p made) at r e e' → (xs : List Made) × After p made at e r xs
+after_any p made at TyBeta e e' h = (made, no_call (λ q. absurd cc))
+after_any p made at Beta e e' h = (made, no_call (λ q. absurd cc))
+after_any p made at AppLet e e' h = (made, no_call (λ q. absurd cc))
+after_any p made at AppCase e e' h = (made, no_call (λ q. absurd cc))
+after_any p made at CaseCon e e' h = (made, no_call (λ q. absurd cc))
+after_any p made at CaseLet e e' h = (made, no_call (λ q. absurd cc))
+after_any p made at CaseCase e e' h = (made, no_call (λ q. absurd cc))
+after_any p made at Proj e e' h = (made, no_call (λ q. absurd cc))
+after_any p made at PrimLet e e' h = (made, no_call (λ q. absurd cc))
+after_any p made at PrimCase e e' h = (made, no_call (λ q. absurd cc))
+after_any p made at Flat e e' h = (made, no_call (λ q. absurd cc))
+after_any p made at Dead e e' h = (made, no_call (λ q. absurd cc))
+after_any p made at Inline e e' h = (made, no_call (λ q. absurd cc))
+after_any p made at Unfold e e' h = (made, no_call (λ q. absurd cc))
+after_any p made at Unroll e e' h = (made, no_call (λ q. absurd cc))
+after_any p made at Elem e e' h = (made, no_call (λ q. absurd cc))
+after_any p made at Delta e e' h = (made, no_call (λ q. absurd cc))
+after_any p made at ApPure e e' h = (made, no_call (λ q. absurd cc))
+after_any p made at Eta e e' h = (made, no_call (λ q. absurd cc))
+after_any p made at Spec e e' h = after_spec p made at h
+after_any p made at Anf e e' h = (made, no_call (λ q. absurd cc))
+
+pub first_leads : (rules : List Rule) (p : Program) (made : List Made) (w : Where) (new : TermTree) → IsFirst rules p made w new → (xs : List Made) × StepsTo rules p made (record { place = w; new = new }) xs
+first_leads rules p made w new h =
+    let step = h.step.1 in
+    let after = after_any p made step.at w.rule step.term new step.made_new in
+    (set after.0 w.number (record step.it { body = with_part step.it.body w.path new }), record { is_first = h; with_new = after.0; after = after.1; is = refl })
+
+-- the last of them
+last_there : (xs : List Made) (x : Made) (m : ℕ) → m ≡ length (map made_of xs) → slice_get (map made_of (xs ++ x ∷ [])) m ≡ Some (made_of x)
+last_there [] x m q = ap (slice_get (made_of x ∷ [])) q
+last_there (y ∷ xs) x zero q = absurd (omega (arith, q))
+last_there (y ∷ xs) x (suc m) q = last_there xs x m (omega (arith, q))
+
+by_origin : (p : Program) (made : List Made) (it : MadeOf) (m : ℕ) → ((j : ℕ) → HasOrigin (origins_in p made) it.origin j → ⊥) → IsNumberOf (origins_in p made) it.origin m → HasOrigin (origins_in p (made ++ opened p it ∷ [])) it.origin m
+by_origin p made it m n (inl h, f) = absurd (n m h)
+by_origin p made it m n (inr q, f) = (it, last_there made (opened p it) m q, refl)
+
+by_known : (p : Program) (made : List Made) (e : TermTree) (m j : ℕ) → HasOrigin (origins_in p made) e j → IsNumberOf (origins_in p made) e m → HasOrigin (origins_in p made) e m
+by_known p made e m j h (inl g, f) = g
+by_known p made e m j h (inr q, f) = absurd (f j (subst (λ k. j < k) (sym q) (origin_within (origins_in p made) e j h)) h)
+
+pub number_is_there : {p : Program} {made xs : List Made} {at : Spot} {e : TermTree} {it : MadeOf} {m : ℕ} → BecomesMade (origins_in p made) at e it → IsNumberOf (origins_in p made) it.origin m → After p made at e Spec xs → HasOrigin (origins_in p xs) it.origin m
+number_is_there b i (no_call n) = absurd (n refl)
+number_is_there {p} {made} {it = it} {m = m} b i (known {it = other} j c h) =
+    by_known p made it.origin m j (subst (λ (it : MadeOf). HasOrigin (origins_in p made) it.origin j) (one_becomes c b refl) h) i
+number_is_there {p} {made} {it = it} {m = m} b i (one_more {it = other} c n) =
+    let same = one_becomes c b refl in
+    subst (λ (of : MadeOf). HasOrigin (origins_in p (made ++ opened p of ∷ [])) it.origin m) (sym same)
+    (by_origin p made it m (subst (λ (of : MadeOf). (j : ℕ) → HasOrigin (origins_in p made) of.origin j → ⊥) same n) i)

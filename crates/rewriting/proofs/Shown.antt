@@ -3,7 +3,7 @@ use Rattle.std.proofs.Common.{◌≡◌, ℕ, zero, suc, ◌-◌, ◌<◌, true,
 use Rattle.chw_types.specs.declared.kind.Kind.TheVariants.{Val}
 use Rattle.chw_types.specs.KindFound.{kind_found}
 use Rattle.chw_types.specs.Ports.{IsPort, one_leaf, leaves_of_fields, no_leaves, leaves_and}
-use Rattle.chw_types.specs.Representable.{Representable, representable_data, none_to_represent}
+use Rattle.chw_types.specs.Representable.{Representable, representable_data, none_to_represent, representable_vector}
 use Rattle.chw_types.specs.TypeMoves.{sub}
 use Rattle.chw_types.specs.TypeTree.{TypeTree, fun}
 use Rattle.chw_types.proofs.KindsFound.{found_is_kind}
@@ -14,16 +14,30 @@ use Rattle.chw_terms.specs.TermMoves.{rename, sub as sub_term, up_by, up}
 use Rattle.chw_terms.specs.TermTree.{TermTree, var, app, no_bindings}
 use Rattle.chw_typing.specs.Scopes.{HasKind, IsTermType}
 use Rattle.chw_typing.specs.HeadTypes.{of_con}
-use Rattle.chw_typing.specs.Typing.{HasType, h_var, h_app, h_case, none_give, give_and}
+use Rattle.chw_typing.specs.Typing.{HasType, h_var, h_app, h_letrec, h_case, none_bound, bound_and, none_give, give_and}
 use Rattle.found_types.specs.Finding.{f_var, f_app}
 use Rattle.group_laws.specs.Groups.{Reached, from_body, from_side}
 use Rattle.term_paths.specs.Paths.{IsEarlier}
 use Rattle.scenes.specs.Origins.{setting_at}
 use Rattle.active_places.specs.Spots.{Spot}
+use Rattle.chw_prims.specs.declared.prim.Primitive.TheVariants.{AddU, LtU}
+use Rattle.chw_terms.specs.TermTree.{letrec}
+use Rattle.rewriting.specs.Examples.{at_place}
+use Rattle.chw_terms.specs.Evaluated.{evaluated}
+use Rattle.rewriting.specs.Demanded.{prim_let, DemandsLet}
+use Rattle.rewriting.specs.Functions.{app_case}
+use Rattle.rewriting.specs.Primitives.{delta}
+use Rattle.spine_types.specs.Given.{types_then}
+use Rattle.chw_terms.specs.FreeVariables.{occurrences}
+use Rattle.scenes.specs.Origins.{with_origins}
+use Rattle.chw_types.specs.declared.kind.Scalar.TheVariants.{U}
+use Rattle.chw_types.specs.TypeTree.{nat_lit}
+use Rattle.chw_prims.specs.declared.prim.Primitive.TheVariants.{VAt}
+use Rattle.chw_terms.specs.declared.scene.Mode.TheVariants.{V}
 use Rattle.rewriting.specs.Cases.{case_con, case_case, proj}
-use Rattle.rewriting.specs.Examples.{here, bits_of_a, two, of_maybe, maybe_bool, to_bool, of_bool, inner_group, before_dead, LetJoins, BindingGoes, FunctionIsPut, ConstructorTaken, CaseMovesOut, PartsProjected, FunctionsComposed, OperandNamed}
+use Rattle.rewriting.specs.Examples.{here, bits_of_a, two, of_maybe, maybe_bool, to_bool, of_bool, inner_group, before_dead, LetJoins, BindingGoes, FunctionIsPut, ConstructorTaken, CaseMovesOut, PartsProjected, FunctionsComposed, OperandNamed, word, functions, ArgumentMoves, LetLeavesVector, SumComputed, TruthComputed, FunctionsBehind, CallClosed}
 use Rattle.rewriting.specs.Lets.{flat_side, dead, inline}
-use Rattle.rewriting.specs.Lifted.{fmap_fmap}
+use Rattle.rewriting.specs.Lifted.{fmap_fmap, ap_fmap}
 use Rattle.rewriting.specs.Operands.{anf, of_case, StandsAt, of_prim, of_con, of_vector}
 use Rattle.rewriting.specs.Shapes.{by_first}
 use Rattle.rewriting.specs.Signals.{join}
@@ -147,3 +161,43 @@ operand_named =
       is = (of_case, record { no_variable = λ h. h; type = bool; has = operand_typed; named = bool_values });
       first = λ q y h l. never_whole h.0 (only_whole q l);
     }) (f_app (f_var refl) (f_var refl) (same_self bool))
+
+pub functions_behind : FunctionsBehind
+unfolding rename
+functions_behind = join tt (ap_fmap (λ d a f e. absurd cc) (no_function bool bool) (f_var refl) (f_var refl))
+
+pub call_closed : CallClosed
+unfolding rename occurrences with_origins
+call_closed = refl
+
+pub argument_moves : ArgumentMoves
+unfolding rename
+argument_moves = app_case (f_var refl)
+
+functions_kind : HasKind (setting_at here) [] functions Val
+unfolding kind_found
+functions_kind = found_is_kind here.program.datas 1 [] functions Val refl
+
+let_typed : HasType (setting_at here) [] (word 3 ∷ bool ∷ functions ∷ []) (letrec (of_bool (var 2) no_bindings) (var 3)) functions
+let_typed = h_letrec {k = Val} (h_var refl) functions_kind (bound_and {j = Val} bool_kind tt (h_var refl) (same_self bool) none_bound)
+
+no_vector : Representable here.program.datas functions → ⊥
+no_vector (representable_vector h) = no_function bool bool h
+
+pub let_leaves_vector : LetLeavesVector
+unfolding rename
+let_leaves_vector =
+    prim_let refl (record { no_constant = λ e. absurd cc; looks = refl; is = refl; type = functions; has = let_typed; unnamed = no_vector }) before
+  where
+    before : (j : ℕ) → j < 3 → DemandsLet here (at_place V (word 3 ∷ bool ∷ functions ∷ [])) VAt (types_then (nat_lit 1 ∷ nat_lit 3 ∷ to_bool ∷ []) (letrec (of_bool (var 2) no_bindings) (var 3) ∷ var 0 ∷ [])) j → ⊥
+    before j l h = let at : j ≡ 3 = h.2.looks in omega (arith, at, l)
+
+pub sum_computed : SumComputed
+unfolding sub evaluated
+sum_computed = delta {p = AddU} {types = nat_lit 3 ∷ []} {words = (U, true ∷ false ∷ true ∷ []) ∷ (U, true ∷ true ∷ false ∷ []) ∷ []} refl
+    (record { whole = refl; narrow = ((3, refl, omega arith), ((3, refl, omega arith), ((3, refl, omega arith), tt))); nats = 3 ∷ []; closed = refl; gives = refl })
+
+pub truth_computed : TruthComputed
+unfolding sub evaluated
+truth_computed = delta {p = LtU} {types = nat_lit 3 ∷ []} {words = (U, true ∷ false ∷ true ∷ []) ∷ (U, true ∷ true ∷ false ∷ []) ∷ []} {b = true ∷ []} refl
+    (record { whole = refl; narrow = ((3, refl, omega arith), ((3, refl, omega arith), tt)); nats = 3 ∷ []; closed = refl; gives = refl })

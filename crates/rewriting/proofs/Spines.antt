@@ -8,6 +8,7 @@ use Rattle.chw_terms.specs.TermTree.{TermTree, app, ty_app}
 use Rattle.chw_terms.specs.TermView.{applied}
 use Rattle.chw_types.specs.TypeTree.{TypeTree}
 use Rattle.spine_types.specs.Given.{types_then}
+use Rattle.rewriting.proofs.Lists.{mapped_same}
 
 abbrev pub head_of : TermTree → TermTree
 head_of (app f a) = head_of f
@@ -57,17 +58,8 @@ pub record SameGiven (types types' : List TypeTree) (es es' : List TermTree) : T
   pub on_types : types ≡ types'
   pub on_terms : es ≡ es'
 
-terms_same : (es es' : List TermTree) → types_then [] es ≡ types_then [] es' → es ≡ es'
-terms_same [] [] q = refl
-terms_same [] (e ∷ es) q = absurd cc
-terms_same (e ∷ es) [] q = absurd cc
-terms_same (e ∷ es) (f ∷ fs) q =
-    let first : e ≡ f = cc in
-    let rest : types_then [] es ≡ types_then [] fs = cc in
-    λ i. first i ∷ terms_same es fs rest i
-
 pub given_same : (types types' : List TypeTree) (es es' : List TermTree) → types_then types es ≡ types_then types' es' → SameGiven types types' es es'
-given_same [] [] es es' q = record { on_types = refl; on_terms = terms_same es es' q }
+given_same [] [] es es' q = record { on_types = refl; on_terms = mapped_same (λ e. OfTerm e) (λ e f q. cc) es es' q }
 given_same [] (t ∷ ts) [] es' q = absurd cc
 given_same [] (t ∷ ts) (e ∷ es) es' q = absurd cc
 given_same (t ∷ ts) [] es [] q = absurd cc

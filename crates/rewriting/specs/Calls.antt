@@ -31,24 +31,25 @@ to_lambdas (y ∷ ys) x = if x == y then length ys else to_lambdas ys x
 abbrev pub call_origin : Origins → List TypeTree → TermTree → TermTree
 call_origin o ts e = origin_of o (under_each ts (rename e (to_lambdas (free_in e))))
 
--- the call of a definition, whose type and whose free variables' types `ts` are named; each
--- argument of a named type is a variable
-pub record IsCall (o : Origins) (at : Spot) (e : TermTree) (ts : List TypeTree) : Type 0 where
-  pub of : ℕ
-  pub args : List Arg
-  pub is : e ≡ applied (global of) args
-  pub type : TypeTree
-  pub has : HasType (setting_at o) [] at.vars e type
-  pub named : IsNamed o.program.datas at.mode type
-  pub on_variables : (a : TermTree) (t : TypeTree) → Contains args (OfTerm a)
-      → HasType (setting_at o) [] at.vars a t → IsNamed o.program.datas at.mode t → IsVariable a
-  pub free : map (slice_get at.vars) (free_in e) ≡ map (λ t. Some t) ts
-  pub free_named : AllByRecursion (IsNamed o.program.datas at.mode) ts
+-- the call of a definition, for which the type t is found; this and the types `ts` of its free
+-- variables are named, and each argument of a named type is a variable
+pub record IsCall
+    (o : Origins) (at : Spot) (e : TermTree) (ts : List TypeTree) (t : TypeTree) : Type 0
+  where
+    pub of : ℕ
+    pub args : List Arg
+    pub is : e ≡ applied (global of) args
+    pub has : Finds (setting_at o) [] at.vars e t
+    pub named : IsNamed o.program.datas at.mode t
+    pub on_variables : (a : TermTree) (u : TypeTree) → Contains args (OfTerm a)
+        → HasType (setting_at o) [] at.vars a u → IsNamed o.program.datas at.mode u → IsVariable a
+    pub free : map (slice_get at.vars) (free_in e) ≡ map (λ u. Some u) ts
+    pub free_named : AllByRecursion (IsNamed o.program.datas at.mode) ts
 
 pub data OfWhole (o : Origins) (at : Spot) : Rule → TermTree → TermTree → Type 0 where
   -- a call becomes a made definition on its free variables
-  spec_call : {e : TermTree} {ts : List TypeTree} {m : ℕ}
-      → HasLets at.mode → IsCall o at e ts → IsNumberOf o (call_origin o ts e) m
+  spec_call : {e : TermTree} {ts : List TypeTree} {t : TypeTree} {m : ℕ}
+      → HasLets at.mode → IsCall o at e ts t → IsNumberOf o (call_origin o ts e) m
       → OfWhole o at Spec e (applied (made m) (map (λ x. OfTerm (var x)) (free_in e)))
   -- the first argument of a call that needs a name gets it
   anf_call : {e x : TermTree} {path : List ℕ} {t : TypeTree}

@@ -1,22 +1,31 @@
 -- Worked examples: a step of a rule on a term, each by hand from the scopes of names.
-use Rattle.std.specs.Prelude.{ℕ, true, List, [], ◌∷◌, ◌++◌, codes}
+use Rattle.std.specs.Prelude.{◌≡◌, ℕ, true, false, List, [], ◌∷◌, ◌++◌, codes}
 use Rattle.chw_types.specs.declared.kind.Kind.TheVariants.{Cir}
 use Rattle.chw_types.specs.declared.declarations.Data.{Data}
 use Rattle.chw_types.specs.BuiltIn.{built_in, constructor_of}
-use Rattle.chw_types.specs.TypeTree.{TypeTree, domain, data_of, fun, signal, no_types, type_and}
+use Rattle.chw_types.specs.declared.kind.Scalar.TheVariants.{U}
+use Rattle.chw_types.specs.TypeTree.{TypeTree, nat_lit, domain, scalar, vector, data_of, fun}
+use Rattle.chw_types.specs.TypeTree.{signal, no_types, type_and}
+use Rattle.chw_prims.specs.declared.prim.Primitive.{Primitive as Prim}
+use Rattle.chw_prims.specs.declared.prim.Primitive.TheVariants.{AddU, LtU, VAt}
 use Rattle.chw_prims.specs.Schemas.{bool}
 use Rattle.chw_terms.specs.declared.rule.Rule.TheVariants.{CaseCon, CaseCase, Proj, Flat, Dead}
 use Rattle.chw_terms.specs.declared.rule.Rule.TheVariants.{Inline, ApPure, Anf}
+use Rattle.chw_terms.specs.declared.rule.Rule.TheVariants.{AppCase, PrimLet, Delta}
 use Rattle.chw_terms.specs.declared.scene.Mode.{Mode}
 use Rattle.chw_terms.specs.declared.scene.Mode.TheVariants.{V, C, K}
 use Rattle.chw_terms.specs.declared.term.Pattern.{Pattern}
 use Rattle.chw_terms.specs.declared.term.Pattern.TheVariants.{OfCon}
-use Rattle.chw_terms.specs.TermTree.{TermTree, var, lam, app, ty_app, letrec, con, case_of}
+use Rattle.chw_terms.specs.TermTree.{TermTree, var, global, lam, app, ty_app, letrec, con, prim}
+use Rattle.chw_terms.specs.TermTree.{lit, case_of}
+use Rattle.chw_terms.specs.TermView.{applied}
+use Rattle.spine_types.specs.Given.{types_then}
 use Rattle.chw_terms.specs.TermTree.{Group, no_bindings, bind, Alts, no_alts, alt}
 use Rattle.scenes.specs.Origins.{Origins}
 use Rattle.active_places.specs.Spots.{Spot, spot}
 use Rattle.rewriting.specs.Instances.{Makes}
-use Rattle.rewriting.specs.Shapes.{fmap_of}
+use Rattle.rewriting.specs.Calls.{call_origin}
+use Rattle.rewriting.specs.Shapes.{fmap_of, ap_of}
 
 -- besides the built-in data types `data Two = Two (Signal A Bool) (Signal A Bool);`
 abbrev pub bits_of_a : TypeTree
@@ -162,3 +171,72 @@ OperandNamed =
     Makes here (at_place V (bool ∷ bool ∷ to_bool ∷ [])) Anf
     (case_of (app (var 2) (var 0)) (on_truth 0 1))
     (letrec (of_bool (app (var 3) (var 1)) no_bindings) (case_of (var 0) (on_truth 1 2)))
+
+-- `(case x of { True -> f; False -> g; }) y`
+-- becomes `letrec { v : Bool = y; } in case x of { True -> f v; False -> g v; }`
+abbrev pub applied_on_truth : TermTree
+applied_on_truth =
+    case_of (var 1)
+    (alt (con_pattern 1 0) (app (var 3) (var 0))
+    (alt (con_pattern 0 0) (app (var 4) (var 0)) no_alts))
+
+abbrev pub ArgumentMoves : Type 0
+ArgumentMoves =
+    Makes here (at_place V (bool ∷ bool ∷ to_bool ∷ to_bool ∷ [])) AppCase
+    (app (case_of (var 0) (on_truth 2 3)) (var 1))
+    (letrec (of_bool (var 2) no_bindings) applied_on_truth)
+
+-- `vat @1 @3 @(Bool -> Bool) (letrec { x : Bool = y; } in v) i`
+-- becomes `letrec { x : Bool = y; } in vat @1 @3 @(Bool -> Bool) v i`
+abbrev pub word : ℕ → TypeTree
+word n = scalar U (nat_lit n)
+
+abbrev pub functions : TypeTree
+functions = vector (nat_lit 2) to_bool
+
+abbrev pub element_of : TermTree → TermTree → TermTree
+element_of v i =
+    applied (prim VAt) (types_then (nat_lit 1 ∷ nat_lit 3 ∷ to_bool ∷ []) (v ∷ i ∷ []))
+
+abbrev pub LetLeavesVector : Type 0
+LetLeavesVector =
+    Makes here (at_place V (word 3 ∷ bool ∷ functions ∷ [])) PrimLet
+    (element_of (letrec (of_bool (var 2) no_bindings) (var 3)) (var 0))
+    (letrec (of_bool (var 2) no_bindings) (element_of (var 3) (var 1)))
+
+-- `addU @3 5u3 6u3`, in constants, becomes `3u3`, and `ltU @3 5u3 6u3` becomes `True`
+abbrev pub on_words : Prim → TermTree
+on_words p =
+    applied (prim p)
+    (types_then (nat_lit 3 ∷ [])
+    (lit U (true ∷ false ∷ true ∷ []) ∷ lit U (true ∷ true ∷ false ∷ []) ∷ []))
+
+abbrev pub SumComputed : Type 0
+SumComputed = Makes here (at_place K []) Delta (on_words AddU) (lit U (false ∷ true ∷ true ∷ []))
+
+abbrev pub TruthComputed : Type 0
+TruthComputed = Makes here (at_place K []) Delta (on_words LtU) (con 1)
+
+-- `ap @A @(Bool -> Bool) @Bool u (fmap @A @Bool @(Bool -> Bool) g w)` becomes
+-- `ap @A @Bool @Bool (fmap @A @((Bool -> Bool) -> Bool) @(Bool -> Bool) (\h . \x . h (g x)) u) w`
+abbrev pub from_function : TypeTree
+from_function = fun to_bool bool
+
+abbrev pub composing : TermTree
+composing = lam from_function (lam bool (app (var 1) (app (var 3) (var 0))))
+
+abbrev pub FunctionsBehind : Type 0
+FunctionsBehind =
+    Makes here
+    (at_place C (bits_of_a ∷ fun bool to_bool ∷ signal (domain 0) from_function ∷ [])) ApPure
+    (ap_of (domain 0) to_bool bool (var 2) (fmap_of (domain 0) bool to_bool (var 1) (var 0)))
+    (ap_of (domain 0) bool bool
+    (fmap_of (domain 0) from_function to_bool composing (var 2)) (var 0))
+
+-- the call `f y x y`, with x the variable 0 and y the variable 1, is closed as
+-- `\(y : Unsigned 3) . \(x : Bool) . f y x y`
+abbrev pub CallClosed : Type 0
+CallClosed =
+    call_origin here (word 3 ∷ bool ∷ [])
+    (app (app (app (global 0) (var 1)) (var 0)) (var 1))
+    ≡ lam (word 3) (lam bool (app (app (app (global 0) (var 1)) (var 0)) (var 1)))

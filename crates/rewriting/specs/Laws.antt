@@ -3,14 +3,16 @@
 use Rattle.std.specs.Prelude.{◌≡◌, ℕ, List}
 use Rattle.chw_terms.specs.declared.program.Program.{Program}
 use Rattle.chw_terms.specs.declared.rule.Rule.{Rule}
+use Rattle.chw_terms.specs.declared.rule.Rule.TheVariants.{Spec}
 use Rattle.chw_terms.specs.declared.scene.Made.{Made}
 use Rattle.chw_terms.specs.TermTree.{TermTree}
-use Rattle.scenes.specs.Origins.{Origins}
+use Rattle.scenes.specs.Origins.{MadeOf, Origins}
 use Rattle.active_places.specs.Spots.{Spot}
 use Rattle.rewriting.specs.Calls.{OfWhole}
 use Rattle.rewriting.specs.Instances.{Makes, HasInstance}
-use Rattle.rewriting.specs.Runs.{Step, StepsTo, Run}
-use Rattle.rewriting.specs.Steps.{Where, IsFirst}
+use Rattle.rewriting.specs.Numbers.{HasOrigin, IsNumberOf}
+use Rattle.rewriting.specs.Runs.{BecomesMade, After, Step, StepsTo, Run}
+use Rattle.rewriting.specs.Steps.{origins_in, Where, IsFirst}
 
 -- a rule makes at most one term of its own shape
 abbrev pub OneMade : Type 0
@@ -36,7 +38,22 @@ OneFirst =
     (rules : List Rule) (p : Program) (made : List Made) (w v : Where) (e f : TermTree)
     → IsFirst rules p made w e → IsFirst rules p made v f → (w ≡ v) × (e ≡ f)
 
--- it leads to one state at most
+-- it leads to a state
+abbrev pub FirstLeads : Type 0
+FirstLeads =
+    (rules : List Rule) (p : Program) (made : List Made) (w : Where) (e : TermTree)
+    → IsFirst rules p made w e
+    → (xs : List Made) × StepsTo rules p made (record { place = w; new = e }) xs
+
+-- where a call or a lifted function became a made definition, the number that is written for it is
+-- then the number of one with its origin
+abbrev pub NumberIsThere : Type 0
+NumberIsThere =
+    (p : Program) (made xs : List Made) (at : Spot) (e : TermTree) (it : MadeOf) (m : ℕ)
+    → BecomesMade (origins_in p made) at e it → IsNumberOf (origins_in p made) it.origin m
+    → After p made at e Spec xs → HasOrigin (origins_in p xs) it.origin m
+
+-- a first step leads to one state at most
 abbrev pub OneState : Type 0
 OneState =
     (rules : List Rule) (p : Program) (made xs ys : List Made) (s t : Step)

@@ -17,9 +17,8 @@ use Rattle.chw_terms.specs.TermTree.{TermTree, global, lam, app, ty_app}
 use Rattle.chw_terms.specs.TermView.{applied}
 use Rattle.chw_terms.specs.Unrolled.{parameters}
 use Rattle.chw_typing.specs.HeadTypes.{from_each}
-use Rattle.found_types.specs.Finding.{Finds}
 use Rattle.term_paths.specs.Paths.{with_part}
-use Rattle.scenes.specs.Origins.{MadeOf, Origins, setting_at, origin_of, eta_expanded}
+use Rattle.scenes.specs.Origins.{MadeOf, Origins, origin_of, eta_expanded}
 use Rattle.active_places.specs.Spots.{Spot}
 use Rattle.rewriting.specs.Calls.{IsCall, call_origin}
 use Rattle.rewriting.specs.Numbers.{HasOrigin}
@@ -63,7 +62,7 @@ sort_at _ = Value
 -- what a call, or a lifted function, becomes a made definition of
 pub data BecomesMade (o : Origins) (at : Spot) : TermTree → MadeOf → Type 0 where
   of_call : {e : TermTree} {ts : List TypeTree} {t : TypeTree}
-      → IsCall o at e ts → Finds (setting_at o) [] at.vars e t
+      → IsCall o at e ts t
       → BecomesMade o at e
       (record { origin = call_origin o ts e; ty = from_each ts t; sort = sort_at at.mode })
   of_lifted : (d a b : TypeTree) {t r : TypeTree} {ts : List TypeTree} (g s : TermTree)

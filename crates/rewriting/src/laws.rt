@@ -1,5 +1,5 @@
 //! The laws, each as the contract of a call that does nothing.
-ghost use Rattle.rewriting.specs.Laws.{OneMade, OneOfWhole, OneInstance, OneFirst, OneState, OneRun};
+ghost use Rattle.rewriting.specs.Laws.{OneMade, OneOfWhole, OneInstance, OneFirst, FirstLeads, NumberIsThere, OneState, OneRun};
 
 use active_places::laws::one_place;
 
@@ -17,10 +17,16 @@ pub fn one_instance()
 /// Of the steps by some rules one at most is the first, and it leads to one state.
 pub fn one_first()
     ensures step { OneFirst }
+    ensures leads { FirstLeads }
     ensures state { OneState }
 {
     one_place();
 }
+
+/// The number that is written for a call is that of a made definition with its origin.
+pub fn number_is_there()
+    ensures { NumberIsThere }
+{}
 
 /// A program has one run at most by some rules, of each number of steps.
 pub fn one_run()

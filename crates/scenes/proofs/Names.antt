@@ -3,6 +3,7 @@ use Rattle.std.proofs.Common.{◌⊎◌, inl, inr, List, []}
 use Rattle.chw_types.specs.declared.kind.Kind.{Kind}
 use Rattle.chw_types.specs.declared.declarations.Data.{Data}
 use Rattle.chw_types.specs.TypeTree.{TypeTree}
+use Rattle.chw_types.specs.SameTypes.{SameTypes}
 use Rattle.chw_types.specs.Ports.{IsPort, IsNoPort}
 use Rattle.chw_terms.specs.declared.scene.Mode.{Mode}
 use Rattle.chw_terms.specs.declared.scene.Mode.TheVariants.{V, C, HV, HC, K}
@@ -10,6 +11,7 @@ use Rattle.chw_terms.specs.References.{DataRefers}
 use Rattle.graph_order.specs.References.{HasNoCycle}
 use Rattle.chw_typing.specs.Scopes.{Setting, HasKind}
 use Rattle.chw_typing.specs.Programs.{IsSound}
+use Rattle.like_types.specs.Alike.{AreLike, SameKeepsRepresentable, SameKeepsLeaves}
 use Rattle.named_types.specs.Laws.{RepresentableIsVal, PortIsCir, RepresentableIsDecided, PortIsDecided}
 use Rattle.scenes.specs.Laws.{IsKindOf}
 use Rattle.scenes.specs.Named.{IsNamed}
@@ -31,3 +33,13 @@ named_decided values circuits datas HV t h = values datas t h
 named_decided values circuits datas C t h = port_decided (circuits datas t h)
 named_decided values circuits datas HC t h = port_decided (circuits datas t h)
 named_decided values circuits datas K t h = inr (λ n. n)
+
+port_kept : SameKeepsLeaves → (s : Setting) (t u : TypeTree) → IsSound s → AreLike s t u → IsPort s.datas t → IsPort s.datas u
+port_kept law s t u h l n = let more = law s t u n.0 h l n.1 in (more.0, more.1)
+
+pub named_kept : SameKeepsRepresentable → SameKeepsLeaves → (s : Setting) (mode : Mode) (t u : TypeTree) (k : Kind) → IsSound s → HasKind s [] t k → SameTypes t u → IsNamed s.datas mode t → IsNamed s.datas mode u
+named_kept values circuits s V t u k h d x n = values s t u h (record { kind = k; has = d; same = x }) n
+named_kept values circuits s HV t u k h d x n = values s t u h (record { kind = k; has = d; same = x }) n
+named_kept values circuits s C t u k h d x n = port_kept circuits s t u h (record { kind = k; has = d; same = x }) n
+named_kept values circuits s HC t u k h d x n = port_kept circuits s t u h (record { kind = k; has = d; same = x }) n
+named_kept values circuits s K t u k h d x n = n

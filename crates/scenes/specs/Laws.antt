@@ -12,10 +12,10 @@ use Rattle.chw_terms.specs.References.{DataRefers}
 use Rattle.chw_terms.specs.TermTree.{TermTree}
 use Rattle.graph_order.specs.References.{HasNoCycle}
 use Rattle.chw_typing.specs.Scopes.{Setting, setting_in, HasKind, AreTermTypes}
-use Rattle.chw_typing.specs.Programs.{IsSound}
+use Rattle.chw_typing.specs.Programs.{IsSound, setting_of}
 use Rattle.chw_typing.specs.Typing.{HasType, HasTypeUpTo}
 use Rattle.scenes.specs.Named.{IsNamed, UnderLambdas}
-use Rattle.scenes.specs.Origins.{origins_of, setting_at, with_origins, origin_of}
+use Rattle.scenes.specs.Origins.{origins_of, setting_at, with_origins, origin_of, HoldsNoMade}
 use Rattle.scenes.specs.Typed.{IsTypedScene}
 
 -- terms are typed over the program and the types of made definitions, whatever their bodies
@@ -52,19 +52,43 @@ NamedIsDecided =
     (datas : List Data) (mode : Mode) (t : TypeTree) → HasNoCycle (DataRefers datas)
     → IsNamed datas mode t ⊎ (IsNamed datas mode t → ⊥)
 
--- the closed terms have the types of the setting's made definitions, up to naturals
-abbrev pub AreOfMade : Setting → (ℕ → TermTree) → Type 0
-AreOfMade s o = (m : ℕ) (u : TypeTree) → slice_get s.made m ≡ Some u → HasTypeUpTo s [] [] (o m) u
+-- the setting with made definitions of these types in place of its own
+abbrev pub with_only_made : Setting → List TypeTree → Setting
+with_only_made s types = record s { made = types }
 
--- a term keeps its type, up to naturals, where such a term is put for each made definition
+-- the closed terms have the types of the first setting's made definitions, up to naturals, over the
+-- second
+abbrev pub AreOfMade : Setting → Setting → (ℕ → TermTree) → Type 0
+AreOfMade s s' o =
+    (m : ℕ) (u : TypeTree) → slice_get s.made m ≡ Some u → HasTypeUpTo s' [] [] (o m) u
+
+-- a term keeps its type, up to naturals, where such a term is put for each made definition; these
+-- terms may be typed over other made definitions, or over none
 abbrev pub PutMadeKeepsType : Type 0
 PutMadeKeepsType =
-    (s : Setting) (o : ℕ → TermTree) (kinds : List Kind) (vars : List TypeTree) (e : TermTree)
-    (t : TypeTree)
-    → IsSound s → AreOfMade s o → AreTermTypes s kinds vars → HasType s kinds vars e t
-    → HasTypeUpTo s kinds vars (with_origins o e) t
+    (s : Setting) (types : List TypeTree) (o : ℕ → TermTree) (kinds : List Kind)
+    (vars : List TypeTree) (e : TermTree) (t : TypeTree)
+    → IsSound s → IsSound (with_only_made s types) → AreOfMade s (with_only_made s types) o
+    → AreTermTypes s kinds vars → HasType s kinds vars e t
+    → HasTypeUpTo (with_only_made s types) kinds vars (with_origins o e) t
 
--- so in a typed scene where made definitions are replaced by their origins
+-- a term in which no made definition occurs keeps its type, up to naturals, where there are none
+abbrev pub NoMadeKeepsType : Type 0
+NoMadeKeepsType =
+    (s : Setting) (kinds : List Kind) (vars : List TypeTree) (e : TermTree) (t : TypeTree)
+    → IsSound s → AreTermTypes s kinds vars → HoldsNoMade e → HasType s kinds vars e t
+    → HasTypeUpTo (with_only_made s []) kinds vars e t
+
+-- so a term of a typed scene with its made definitions replaced by their origins: it has its type
+-- over the program alone
+abbrev pub OriginNeedsProgram : Type 0
+OriginNeedsProgram =
+    (scene : Scene) (kinds : List Kind) (vars : List TypeTree) (e : TermTree) (t : TypeTree)
+    → IsTypedScene scene → AreTermTypes (setting_in scene) kinds vars
+    → HasType (setting_in scene) kinds vars e t
+    → HasTypeUpTo (setting_of scene.program.now) kinds vars (origin_of (origins_of scene) e) t
+
+-- and in the scene too
 abbrev pub OriginKeepsType : Type 0
 OriginKeepsType =
     (scene : Scene) (kinds : List Kind) (vars : List TypeTree) (e : TermTree) (t : TypeTree)

@@ -1,3 +1,4 @@
+pub mod Examples
 pub mod Laws
 pub mod Named
 pub mod Origins

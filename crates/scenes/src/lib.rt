@@ -4,4 +4,5 @@
 //! The definitions stand in `specs/`; each law is the contract of a call that does nothing.
 #![tactic(auto)]
 
+pub mod examples;
 pub mod laws;

@@ -1,6 +1,6 @@
 -- Numbers and literals as longest tokens.
 use Rattle.std.proofs.Common.{◌≡◌, ℕ, ◌+◌, ◌≤◌, ◌⊎◌, inl, inr, List, [], ◌∷◌, ◌++◌, length, take, drop, sym, refl, ap, ◌∙◌, subst, append_assoc, arith}
-use Rattle.std.proofs.lemmas.List.{take-append-drop, take_at, append-nil, drop-drop, length-append, length-drop, length-take-le}
+use Rattle.std.proofs.lemmas.List.{take-append-drop, take_at, length-append, length-take-le}
 use Rattle.chw_base.specs.Names.{is_digit}
 use Rattle.verilog_text.specs.Grammar.{literal, number}
 use Rattle.verilog_text.specs.VForms.{HasForm, HasParts, IsLiteral, IsNumber, Sort, is_hex_digit}
@@ -8,7 +8,6 @@ use Rattle.verilog_text.specs.VForms.Sort.{keyword as a_keyword, literal as a_li
 use Rattle.verilog_text.proofs.Firsts.{First, digit_range, form_empty, form_first, number_digits}
 use Rattle.verilog_text.proofs.Runs.{same_run}
 use Rattle.verilog_lex.specs.Scanning.{BeginsWith, HasNoTail, IsRun, IsTail, IsTokenAt}
-use Rattle.verilog_lex.specs.Shown.{HasNoOtherParts}
 use Rattle.verilog_lex.proofs.Longest.{AreWithin, longest_token}
 use Rattle.verilog_lex.proofs.Runs.{all_begun, begins_run, begins_then, stops_before, within_run_of}
 
@@ -35,28 +34,6 @@ module _ (bytes : List ℕ) (n : ℕ) (run : IsRun is_digit bytes n) where
       let regroup : size ++ (39 ∷ 104 ∷ (digits ++ more)) ≡ take n bytes ++ drop n bytes =
       sym (append_assoc size (39 ∷ 104 ∷ digits) more) ∙ ap (λ w. w ++ more) (sym parts.bytes_are) ∙ same ∙ sym (take-append-drop n bytes) in
       same_run is_digit (take n bytes) (drop n bytes) size (39 ∷ 104 ∷ (digits ++ more)) run.passes (stops_before is_digit (drop n bytes) run.stops) (number_digits size parts.size_is) refl regroup
-
-  -- a literal is its run of digits, `'h`, and what stands behind that
-  split_alone : (size digits : List ℕ) → HasParts bytes size digits → (size ≡ take n bytes) × (39 ∷ 104 ∷ digits ≡ drop n bytes)
-  split_alone size digits parts =
-      let split = literal_split bytes [] (append-nil bytes) size digits parts in
-      (split.0, ap (λ d. 39 ∷ 104 ∷ d) (sym (append-nil digits)) ∙ split.1)
-
-  pub no_other_parts : HasNoOtherParts bytes (take n bytes) (drop (n + 2) bytes)
-  no_other_parts size digits parts =
-      let split = split_alone size digits parts in
-      (split.0, ap (drop 2) split.1 ∙ drop-drop 2 n bytes)
-
-  pub size_within : IsLiteral bytes → n + 2 ≤ length bytes
-  size_within text =
-      let behind = (split_alone text.0 text.1 text.2).1 in
-      omega (arith, ap length behind, length-drop n bytes)
-
-  pub literal_parts : IsLiteral bytes → HasParts bytes (take n bytes) (drop (n + 2) bytes)
-  literal_parts text =
-      let same = no_other_parts text.0 text.1 text.2 in
-      subst (λ (size : List ℕ). HasParts bytes size (drop (n + 2) bytes)) same.0
-      (subst (λ (digits : List ℕ). HasParts bytes text.0 digits) same.1 text.2)
 
 module _ (bytes : List ℕ) (n : ℕ) (begins : BeginsWith is_digit bytes) (run : IsRun is_digit bytes n) where
   number_within : (word more : List ℕ) → word ++ more ≡ bytes → IsNumber word → length word ≤ n

@@ -1,7 +1,7 @@
--- What the tokens of the lexer say, and the parts of literals.
+-- What the tokens of the lexer say.
 use Rattle.std.specs.Prelude.{◌≡◌, ℕ, List, codes, map}
 use Rattle.verilog_text.specs.Grammar.{keyword, literal, name, number, sign, signed}
-use Rattle.verilog_text.specs.VForms.{HasParts, Token as TextToken}
+use Rattle.verilog_text.specs.VForms.{Token as TextToken}
 use Rattle.verilog_text.specs.VTokens.{Placed as PlacedToken}
 use Rattle.verilog_lex.specs.declared.token.Keyword.{Keyword}
 use Rattle.verilog_lex.specs.declared.token.Keyword.TheVariants.{Always, Assign, Begin, End}
@@ -82,9 +82,3 @@ placed_of p = record { at = p.at; token = token_of p.token }
 
 abbrev pub placed : List Placed → List PlacedToken
 placed tokens = map placed_of tokens
-
--- a literal has these parts alone
-abbrev pub HasNoOtherParts : (bytes size digits : List ℕ) → Type 0
-HasNoOtherParts bytes size digits =
-    (other_size other_digits : List ℕ) → HasParts bytes other_size other_digits
-    → (other_size ≡ size) × (other_digits ≡ digits)

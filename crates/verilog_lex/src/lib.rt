@@ -1,7 +1,6 @@
 //! The lexer of Verilog texts: cuts a text into tokens, by the longest token at each place.
 #![tactic(auto)]
 
-mod digits;
 mod front;
 pub mod laws;
 mod piece;
@@ -10,6 +9,5 @@ mod splitting;
 pub mod token;
 mod words;
 
-pub use digits::{number, parts};
 pub use splitting::lex;
 pub use token::{Keyword, NoToken, Placed, Sign, Token};

@@ -1,5 +1,6 @@
 -- The rows of the grammar, and which of them may follow where.
 use Rattle.std.specs.Prelude.{List, [], ◌∷◌}
+use Rattle.verilog_parse.specs.declared.row_slots.TheConstants as slot
 use Rattle.verilog_parse.specs.declared.rows.Row.{Row}
 use Rattle.verilog_parse.specs.declared.rows.Row.TheVariants as row
 use Rattle.verilog_parse.specs.declared.rows.State.{State}
@@ -9,35 +10,35 @@ use Rattle.verilog_parse.specs.declared.slot.Slot.{Slot}
 
 -- the slots of a row
 abbrev pub slots_of : Row → List Slot
-slots_of row.Module = the.MODULE
-slots_of row.Signal = the.SIGNAL
-slots_of row.Input = the.INPUT
-slots_of row.Output = the.OUTPUT
-slots_of row.NextPort = the.NEXT_PORT
-slots_of row.LastPort = the.LAST_PORT
-slots_of row.Endmodule = the.ENDMODULE
-slots_of row.Wire = the.WIRE
-slots_of row.Register = the.REGISTER
-slots_of row.Memory = the.MEMORY
-slots_of row.Constant = the.CONSTANT
-slots_of row.Copy = the.COPY
-slots_of row.Cut = the.CUT
-slots_of row.Unary = the.UNARY
-slots_of row.Binary = the.BINARY
-slots_of row.LessSigned = the.LESS_SIGNED
-slots_of row.ShiftSigned = the.SHIFT_SIGNED
-slots_of row.Choice = the.CHOICE
-slots_of row.Join = the.JOIN
-slots_of row.NextPart = the.NEXT_PART
-slots_of row.LastPart = the.LAST_PART
-slots_of row.Edge = the.EDGE
-slots_of row.ResetEdge = the.RESET_EDGE
-slots_of row.Ram = the.RAM
-slots_of row.NextWord = the.NEXT_WORD
-slots_of row.RamEdge = the.RAM_EDGE
-slots_of row.Use = the.USE
-slots_of row.NextConnection = the.NEXT_CONNECTION
-slots_of row.LastConnection = the.LAST_CONNECTION
+slots_of row.Module = slot.MODULE
+slots_of row.Signal = slot.SIGNAL
+slots_of row.Input = slot.INPUT
+slots_of row.Output = slot.OUTPUT
+slots_of row.NextPort = slot.NEXT_PORT
+slots_of row.LastPort = slot.LAST_PORT
+slots_of row.Endmodule = slot.ENDMODULE
+slots_of row.Wire = slot.WIRE
+slots_of row.Register = slot.REGISTER
+slots_of row.Memory = slot.MEMORY
+slots_of row.Constant = slot.CONSTANT
+slots_of row.Copy = slot.COPY
+slots_of row.Cut = slot.CUT
+slots_of row.Unary = slot.UNARY
+slots_of row.Binary = slot.BINARY
+slots_of row.LessSigned = slot.LESS_SIGNED
+slots_of row.ShiftSigned = slot.SHIFT_SIGNED
+slots_of row.Choice = slot.CHOICE
+slots_of row.Join = slot.JOIN
+slots_of row.NextPart = slot.NEXT_PART
+slots_of row.LastPart = slot.LAST_PART
+slots_of row.Edge = slot.EDGE
+slots_of row.ResetEdge = slot.RESET_EDGE
+slots_of row.Ram = slot.RAM
+slots_of row.NextWord = slot.NEXT_WORD
+slots_of row.RamEdge = slot.RAM_EDGE
+slots_of row.Use = slot.USE
+slots_of row.NextConnection = slot.NEXT_CONNECTION
+slots_of row.LastConnection = slot.LAST_CONNECTION
 
 -- the rows of which one follows
 abbrev pub rows_of : State → List Row

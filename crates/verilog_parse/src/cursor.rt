@@ -5,7 +5,8 @@ ghost use Rattle.verilog_lex.specs.Shown.{placed};
 ghost use Rattle.verilog_parse.specs.Reading.{BeginsNoRow, IsChosen, IsRowRead, IsStep, IsWrong, NoneFits, place_of};
 ghost use Rattle.verilog_parse.specs.Slots.{tokens_in};
 
-use crate::rows::{Row, State, rows, slots};
+use crate::row_slots::slots;
+use crate::rows::{Row, State, rows};
 use crate::slot::fitting;
 use chw_base::Or;
 use verilog_lex::Placed;

@@ -4,6 +4,7 @@
 mod cursor;
 mod items;
 mod parsing;
+mod row_slots;
 mod rows;
 mod slot;
 mod whole_rows;

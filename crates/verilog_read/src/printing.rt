@@ -12,22 +12,19 @@ use std::alloc::Global;
 use verilog_print::print;
 
 // Whether a machine counts the wires, cells and outputs of a module, as it does of each module in memory.
-fn is_counted(module: &Module) -> bool
-    ensures { Decides result (IsCounted module.now) }
+fn is_counted(body: &Module) -> bool
+    ensures { Decides result (IsCounted body.now) }
 {
-    module.widths.len() <= usize::MAX
-        && module.cells.len() <= usize::MAX
-        && module.outputs.len() <= usize::MAX
+    body.widths.len() <= usize::MAX
+        && body.cells.len() <= usize::MAX
+        && body.outputs.len() <= usize::MAX
 }
 
 // Whether it does of each module of a net.
 fn are_counted(net: &Net) -> bool
     ensures { Decides result (AreCounted net.now) }
 {
-    net.modules
-        .as_slice()
-        .iter()
-        .all(|module| is_counted(module))
+    net.modules.as_slice().iter().all(|body| is_counted(body))
 }
 
 /// The net that is read from the printed text of a well formed net, which is this net. Only memory may be wanting.

@@ -1,4 +1,5 @@
-use Rattle.std.proofs.Common.{refl, sym}
+use Rattle.std.proofs.Common.{refl, ap, sym}
+use Rattle.chw_cli.specs.Telling.{place_line}
 use Rattle.chw_cli.proofs.Limits.{depth_line, long_text_line, too_large_line}
 use Rattle.chw_cli.proofs.Telling.{told_by}
 use Rattle.chw_cli.proofs.tell.tell.Goals as goal
@@ -38,3 +39,13 @@ returns-in-Syntax g c =
 pub returns-in-Depth : goal.returns-in-Depth
 returns-in-Depth g c =
     told_by g.E.Sink.put_gives g.E.Sink.written g.E.Sink.faults c.args.refusal.now _ c.in-Depth.is _ ⊥ _ _ _ _ (sym depth_line) refl (λ no. absurd no) c.put_line-in-Depth.ensures
+
+pub returns-in-Verilog : goal.returns-in-Verilog
+returns-in-Verilog g c =
+    told_by g.E.Sink.put_gives g.E.Sink.written g.E.Sink.faults c.args.refusal.now _ c.in-Verilog.is _ (Unit {0}) _ _ _ _
+    (ap (λ words. place_line words c.in-Verilog.fault.at) c.rule_words.ensures) refl (λ _. tt) c.tell_place-in-Verilog.ensures
+
+pub returns-in-Stimulus : goal.returns-in-Stimulus
+returns-in-Stimulus g c =
+    told_by g.E.Sink.put_gives g.E.Sink.written g.E.Sink.faults c.args.refusal.now _ c.in-Stimulus.is _ (Unit {0}) _ _ _ _
+    (ap (λ words. place_line words c.in-Stimulus.fault.line) c.stim_words.ensures) refl (λ _. tt) c.tell_place-in-Stimulus.ensures

@@ -2,9 +2,9 @@ use Rattle.std.proofs.Common.{refl, subst, sym, ap}
 use Rattle.chw_cli.specs.Delivery.{StopsAt, WritesAll}
 use Rattle.chw_cli.specs.Outcome.{Told, stopped}
 use Rattle.chw_cli.specs.Outcome.Outcome.{answered, refused, unwritten}
-use Rattle.chw_cli.proofs.Asking.{ask_says}
+use Rattle.chw_cli.proofs.Commands.{no_answer, not_refused}
 use Rattle.chw_cli.proofs.Descriptions.{has_no_fault, same_description}
-use Rattle.chw_cli.proofs.Exactly.{exact_by, reason, told_ends}
+use Rattle.chw_cli.proofs.Exactly.{cause, exact_by, reason, told_ends}
 use Rattle.chw_cli.proofs.top.top.Goals as goal
 
 pub returns-in-Ok-deliver-clause-outcome : goal.returns-in-Ok-deliver-clause-outcome
@@ -33,28 +33,36 @@ returns-clause-outcome g c = refused c.in-Err.refusal c.tell-in-Err.result c.in-
 
 pub returns-in-Ok-deliver-clause-exact : goal.returns-in-Ok-deliver-clause-exact
 returns-in-Ok-deliver-clause-exact g c =
-    exact_by _ _ _ _ c.words_are_one_command.ensures c.one_description.ensures (has_no_fault c.one_splitting.ensures c.no_fault.ensures c.one_tree.ensures)
-    (same_description c.one_splitting.ensures c.one_tree.ensures) c.well_named_has_no_fault.ensures c.one_program.ensures c.typed_has_no_fault.ensures _
-    (reason _ _ _ _ _ _ _ _ _ _ c.words_are_one_command.ensures
-    (ask_says g.F.Shelf.fetch_gives g.F.Shelf.told g.F.Shelf.faults c.args.words.now c.args.shelf.now c.answer.new.shelf) (told_ends g.E.Sink.put_gives g.E.Sink.written g.E.Sink.faults c.args.err.now c.args.err.now) _ (returns-in-Ok-deliver-clause-outcome g c))
+    exact_by _ _ _ _ c.words_are_one_command.ensures (not_refused c.one_description.ensures (has_no_fault c.one_splitting.ensures c.no_fault.ensures c.one_tree.ensures)
+    (same_description c.one_splitting.ensures c.one_tree.ensures) c.well_named_has_no_fault.ensures c.one_program.ensures c.typed_has_no_fault.ensures c.nothing_refuses_a_run.ensures.text
+    c.nothing_refuses_a_run.ensures.stimulus) (no_answer c.nothing_refuses_a_run.ensures.text) _
+    (reason _ _ _ _ _ _ _ _ _ _
+    (cause g.F.Shelf.fetch_gives g.F.Shelf.told g.F.Shelf.faults c.args.words.now c.args.shelf.now c.answer.new.shelf c.words_are_one_command.ensures)
+    (told_ends g.E.Sink.put_gives g.E.Sink.written g.E.Sink.faults c.args.err.now c.args.err.now) _ (returns-in-Ok-deliver-clause-outcome g c))
 
 pub returns-in-Err-Fault-clause-exact : goal.returns-in-Err-Fault-clause-exact
 returns-in-Err-Fault-clause-exact g c =
-    exact_by _ _ _ _ c.words_are_one_command.ensures c.one_description.ensures (has_no_fault c.one_splitting.ensures c.no_fault.ensures c.one_tree.ensures)
-    (same_description c.one_splitting.ensures c.one_tree.ensures) c.well_named_has_no_fault.ensures c.one_program.ensures c.typed_has_no_fault.ensures _
-    (reason _ _ _ _ _ _ _ _ _ _ c.words_are_one_command.ensures
-    (ask_says g.F.Shelf.fetch_gives g.F.Shelf.told g.F.Shelf.faults c.args.words.now c.args.shelf.now c.answer.new.shelf) (told_ends g.E.Sink.put_gives g.E.Sink.written g.E.Sink.faults c.args.err.now c.tell.new.err) _ (returns-in-Err-Fault-clause-outcome g c))
+    exact_by _ _ _ _ c.words_are_one_command.ensures (not_refused c.one_description.ensures (has_no_fault c.one_splitting.ensures c.no_fault.ensures c.one_tree.ensures)
+    (same_description c.one_splitting.ensures c.one_tree.ensures) c.well_named_has_no_fault.ensures c.one_program.ensures c.typed_has_no_fault.ensures c.nothing_refuses_a_run.ensures.text
+    c.nothing_refuses_a_run.ensures.stimulus) (no_answer c.nothing_refuses_a_run.ensures.text) _
+    (reason _ _ _ _ _ _ _ _ _ _
+    (cause g.F.Shelf.fetch_gives g.F.Shelf.told g.F.Shelf.faults c.args.words.now c.args.shelf.now c.answer.new.shelf c.words_are_one_command.ensures)
+    (told_ends g.E.Sink.put_gives g.E.Sink.written g.E.Sink.faults c.args.err.now c.tell.new.err) _ (returns-in-Err-Fault-clause-outcome g c))
 
 pub returns-in-Ok-clause-exact : goal.returns-in-Ok-clause-exact
 returns-in-Ok-clause-exact g c =
-    exact_by _ _ _ _ c.words_are_one_command.ensures c.one_description.ensures (has_no_fault c.one_splitting.ensures c.no_fault.ensures c.one_tree.ensures)
-    (same_description c.one_splitting.ensures c.one_tree.ensures) c.well_named_has_no_fault.ensures c.one_program.ensures c.typed_has_no_fault.ensures _
-    (reason _ _ _ _ _ _ _ _ _ _ c.words_are_one_command.ensures
-    (ask_says g.F.Shelf.fetch_gives g.F.Shelf.told g.F.Shelf.faults c.args.words.now c.args.shelf.now c.answer.new.shelf) (told_ends g.E.Sink.put_gives g.E.Sink.written g.E.Sink.faults c.args.err.now c.tell-in-Err-Memory.new.err) _ (returns-in-Ok-clause-outcome g c))
+    exact_by _ _ _ _ c.words_are_one_command.ensures (not_refused c.one_description.ensures (has_no_fault c.one_splitting.ensures c.no_fault.ensures c.one_tree.ensures)
+    (same_description c.one_splitting.ensures c.one_tree.ensures) c.well_named_has_no_fault.ensures c.one_program.ensures c.typed_has_no_fault.ensures c.nothing_refuses_a_run.ensures.text
+    c.nothing_refuses_a_run.ensures.stimulus) (no_answer c.nothing_refuses_a_run.ensures.text) _
+    (reason _ _ _ _ _ _ _ _ _ _
+    (cause g.F.Shelf.fetch_gives g.F.Shelf.told g.F.Shelf.faults c.args.words.now c.args.shelf.now c.answer.new.shelf c.words_are_one_command.ensures)
+    (told_ends g.E.Sink.put_gives g.E.Sink.written g.E.Sink.faults c.args.err.now c.tell-in-Err-Memory.new.err) _ (returns-in-Ok-clause-outcome g c))
 
 pub returns-clause-exact : goal.returns-clause-exact
 returns-clause-exact g c =
-    exact_by _ _ _ _ c.words_are_one_command.ensures c.one_description.ensures (has_no_fault c.one_splitting.ensures c.no_fault.ensures c.one_tree.ensures)
-    (same_description c.one_splitting.ensures c.one_tree.ensures) c.well_named_has_no_fault.ensures c.one_program.ensures c.typed_has_no_fault.ensures _
-    (reason _ _ _ _ _ _ _ _ _ _ c.words_are_one_command.ensures
-    (ask_says g.F.Shelf.fetch_gives g.F.Shelf.told g.F.Shelf.faults c.args.words.now c.args.shelf.now c.answer.new.shelf) (told_ends g.E.Sink.put_gives g.E.Sink.written g.E.Sink.faults c.args.err.now c.tell-in-Err.new.err) _ (returns-clause-outcome g c))
+    exact_by _ _ _ _ c.words_are_one_command.ensures (not_refused c.one_description.ensures (has_no_fault c.one_splitting.ensures c.no_fault.ensures c.one_tree.ensures)
+    (same_description c.one_splitting.ensures c.one_tree.ensures) c.well_named_has_no_fault.ensures c.one_program.ensures c.typed_has_no_fault.ensures c.nothing_refuses_a_run.ensures.text
+    c.nothing_refuses_a_run.ensures.stimulus) (no_answer c.nothing_refuses_a_run.ensures.text) _
+    (reason _ _ _ _ _ _ _ _ _ _
+    (cause g.F.Shelf.fetch_gives g.F.Shelf.told g.F.Shelf.faults c.args.words.now c.args.shelf.now c.answer.new.shelf c.words_are_one_command.ensures)
+    (told_ends g.E.Sink.put_gives g.E.Sink.written g.E.Sink.faults c.args.err.now c.tell-in-Err.new.err) _ (returns-clause-outcome g c))

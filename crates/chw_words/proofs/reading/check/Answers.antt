@@ -3,7 +3,7 @@ use Rattle.clap.specs.Matches.{found_of}
 use Rattle.clap.specs.Walk.{first_of, rows_of}
 use Rattle.clap.proofs.WalkLemmas.{first_value-rows}
 use Rattle.chw_words.specs.Parsing.{check, matched_under}
-use Rattle.chw_words.proofs.Matched.{matched_file}
+use Rattle.chw_words.proofs.Exactly.{check_only}
 use Rattle.chw_words.proofs.reading.check.Goals as goal
 
 pub returns-in_default-clause-fault : goal.returns-in_default-clause-fault
@@ -12,8 +12,8 @@ returns-in_default-clause-fault c =
     let none : first_of (codes "file") (rows_of found) ≡ None =
     sym (first_value-rows found (codes "file")) ∙ sym c.get_str.ensures ∙ ap (option_map (λ s. s.now)) c.in_default.is in
     λ command is.
-    let file = matched_file (matched_under (codes "check") c.args.matches.now) (codes "check") (rows_of found) command refl is in
-    let bad : None ≡ Some (file.0) = sym none ∙ file.1 in
+    let only = check_only (matched_under (codes "check") c.args.matches.now) (rows_of found) command refl is in
+    let bad : None ≡ Some (only.0) = sym none ∙ only.1 in
     cc
 
 pub returns-clause-command : goal.returns-clause-command

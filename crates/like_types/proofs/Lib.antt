@@ -1,0 +1,2 @@
+pub mod FieldsPut
+pub mod SameNames

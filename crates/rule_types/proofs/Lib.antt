@@ -1,0 +1,12 @@
+pub mod Bodies
+pub mod Cases
+pub mod CasesComplete
+pub mod Complete
+pub mod Demanded
+pub mod Fields
+pub mod Functions
+pub mod Groups
+pub mod Lets
+pub mod LetsComplete
+pub mod Projected
+pub mod Scrutinees

@@ -1,0 +1,91 @@
+-- What is promised of the types of what rules make.
+use Rattle.std.specs.Prelude.{List, []}
+use Rattle.chw_types.specs.declared.declarations.Data.{Data}
+use Rattle.chw_types.specs.TypeTree.{TypeTree}
+use Rattle.chw_terms.specs.declared.rule.Rule.{Rule}
+use Rattle.chw_terms.specs.declared.term.Arg.{Arg}
+use Rattle.chw_terms.specs.TermTree.{TermTree}
+use Rattle.chw_terms.specs.TermView.{applied}
+use Rattle.chw_typing.specs.Programs.{IsComplete, IsSound}
+use Rattle.chw_typing.specs.Scopes.{AreTermTypes}
+use Rattle.chw_typing.specs.Typing.{HasType, HasTypeUpTo}
+use Rattle.scenes.specs.Origins.{Origins, setting_at}
+use Rattle.active_places.specs.Spots.{Spot}
+use Rattle.rewriting.specs.Functions.{OfFunctions}
+use Rattle.rewriting.specs.Cases.{OfCases}
+use Rattle.rewriting.specs.Lets.{OfLets}
+use Rattle.rewriting.specs.Demanded.{OfDemanded}
+
+-- a place where rules keep types: what terms are typed over is sound, and the variables in scope
+-- have types that terms have
+pub record IsTypedPlace (o : Origins) (at : Spot) : Type 0 where
+  pub sound : IsSound (setting_at o)
+  pub vars : AreTermTypes (setting_at o) [] at.vars
+
+-- at this place the second term has, up to naturals, each type of the first
+abbrev pub KeepsType : Origins → Spot → TermTree → TermTree → Type 0
+KeepsType o at e e' =
+    (t : TypeTree)
+    → HasType (setting_at o) [] at.vars e t → HasTypeUpTo (setting_at o) [] at.vars e' t
+
+-- what keeps the type of a core keeps that of the core with further arguments
+abbrev pub CoresKeepType : Type 0
+CoresKeepType =
+    (o : Origins) (at : Spot) (core core' : TermTree) (rest : List Arg)
+    → IsTypedPlace o at → KeepsType o at core core'
+    → KeepsType o at (applied core rest) (applied core' rest)
+
+-- and what keeps a core complete keeps it complete with these
+abbrev pub CoresKeepComplete : Type 0
+CoresKeepComplete =
+    (datas : List Data) (core core' : TermTree) (rest : List Arg)
+    → (IsComplete datas core → IsComplete datas core')
+    → IsComplete datas (applied core rest) → IsComplete datas (applied core' rest)
+
+-- what is made of functions keeps types
+abbrev pub FunctionsKeepType : Type 0
+FunctionsKeepType =
+    (o : Origins) (at : Spot) (r : Rule) (e e' : TermTree)
+    → IsTypedPlace o at → OfFunctions o at r e e' → KeepsType o at e e'
+
+-- and it keeps complete terms complete
+abbrev pub FunctionsKeepComplete : Type 0
+FunctionsKeepComplete =
+    (o : Origins) (at : Spot) (r : Rule) (e e' : TermTree)
+    → OfFunctions o at r e e' → IsComplete o.program.datas e → IsComplete o.program.datas e'
+
+-- what is made of a case keeps types
+abbrev pub CasesKeepType : Type 0
+CasesKeepType =
+    (o : Origins) (at : Spot) (r : Rule) (e e' : TermTree)
+    → IsTypedPlace o at → OfCases o at r e e' → KeepsType o at e e'
+
+-- and it keeps complete terms complete
+abbrev pub CasesKeepComplete : Type 0
+CasesKeepComplete =
+    (o : Origins) (at : Spot) (r : Rule) (e e' : TermTree)
+    → OfCases o at r e e' → IsComplete o.program.datas e → IsComplete o.program.datas e'
+
+-- what is made of a letrec keeps types
+abbrev pub LetsKeepType : Type 0
+LetsKeepType =
+    (o : Origins) (at : Spot) (r : Rule) (e e' : TermTree)
+    → IsTypedPlace o at → OfLets o at r e e' → KeepsType o at e e'
+
+-- and it keeps complete terms complete
+abbrev pub LetsKeepComplete : Type 0
+LetsKeepComplete =
+    (o : Origins) (at : Spot) (r : Rule) (e e' : TermTree)
+    → OfLets o at r e e' → IsComplete o.program.datas e → IsComplete o.program.datas e'
+
+-- what is made of a primitive with a demanded letrec or case keeps types
+abbrev pub DemandedKeepType : Type 0
+DemandedKeepType =
+    (o : Origins) (at : Spot) (r : Rule) (e e' : TermTree)
+    → IsTypedPlace o at → OfDemanded o at r e e' → KeepsType o at e e'
+
+-- and it keeps complete terms complete
+abbrev pub DemandedKeepComplete : Type 0
+DemandedKeepComplete =
+    (o : Origins) (at : Spot) (r : Rule) (e e' : TermTree)
+    → OfDemanded o at r e e' → IsComplete o.program.datas e → IsComplete o.program.datas e'

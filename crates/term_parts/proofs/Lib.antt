@@ -1,0 +1,4 @@
+pub mod Children
+pub mod FrontZeros
+pub mod Places
+pub mod Puts
