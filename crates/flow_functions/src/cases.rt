@@ -32,7 +32,7 @@ fn alt_at_type(alloc: Global, alt: &Alt, ty: &Ty) -> Result<Alt, NoMemory>
 }
 
 // A case each of whose alternatives gets the type.
-fn at_type(alloc: Global, on: &Term, alts: &[Alt], ty: &Ty) -> Result<Term, NoMemory>
+fn case_at_type(alloc: Global, on: &Term, alts: &[Alt], ty: &Ty) -> Result<Term, NoMemory>
     ensures { IfOk result (λ e. e ≡ case_of on.now (each_body (λ n f. ty_app f ty.now) (alts_of alts.now))) }
 {
     let mut done = Vec::new(alloc);
@@ -56,7 +56,7 @@ fn alt_at_name(alloc: Global, alt: &Alt) -> Result<Alt, NoMemory>
 }
 
 // A case under one more binder, each of whose alternatives gets its variable.
-fn at_name(alloc: Global, on: &Term, alts: &[Alt]) -> Result<Term, NoMemory>
+fn case_at_name(alloc: Global, on: &Term, alts: &[Alt]) -> Result<Term, NoMemory>
     ensures { IfOk result (λ e. e ≡ case_of (shift on.now 0 1) (each_body (λ n f. app f (var n)) (shift_alts (alts_of alts.now) 0 1))) }
 {
     let mut done = Vec::new(alloc);
@@ -82,7 +82,7 @@ pub(crate) fn app_case(
         return Ok(None);
     };
     let of = match first {
-        Arg::OfType(ty) => return Ok(Some(at_type(alloc, on, alts, ty)?)),
+        Arg::OfType(ty) => return Ok(Some(case_at_type(alloc, on, alts, ty)?)),
         Arg::OfTerm(of) => of,
     };
     settings_of_scenes();
@@ -90,6 +90,6 @@ pub(crate) fn app_case(
     let Some(ty) = type_of(alloc, scene, place.vars.as_slice(), of)? else {
         return Ok(None);
     };
-    let body = at_name(alloc, on, alts)?;
+    let body = case_at_name(alloc, on, alts)?;
     Ok(Some(let_one(alloc, ty, of, body)?))
 }

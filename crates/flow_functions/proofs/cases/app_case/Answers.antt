@@ -18,7 +18,7 @@ use Rattle.flow_functions.proofs.cases.app_case.Goals as goal
 pub returns-in-OfType : goal.returns-in-OfType
 returns-in-OfType c =
     at_first_same {k = Case c.in-Case.on c.in-Case.alts} {b = OfType c.in-OfType.ty} app_case_type c.in-Case.is c.in-OfType.is
-    (c.in_ok-at_type-in-OfType.ensures ∙ (λ i. case_of (c.deref.ensures i) (each_body (λ n f. ty_app f c.in-OfType.ty) (alts_of (c.deref-in-OfType.ensures.value i)))))
+    (c.in_ok-case_at_type-in-OfType.ensures ∙ (λ i. case_of (c.deref.ensures i) (each_body (λ n f. ty_app f c.in-OfType.ty) (alts_of (c.deref-in-OfType.ensures.value i)))))
 
 pub returns : goal.returns
 returns c =

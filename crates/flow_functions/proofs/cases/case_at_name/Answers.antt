@@ -5,7 +5,7 @@ use Rattle.chw_terms.specs.TermView.{alts_of}
 use Rattle.chw_terms.proofs.TermMoved.{all_done}
 use Rattle.flow_functions.specs.Moves.{at_name}
 use Rattle.flow_functions.proofs.Moved.{all_at_name}
-use Rattle.flow_functions.proofs.cases.at_name.Goals as goal
+use Rattle.flow_functions.proofs.cases.case_at_name.Goals as goal
 
 pub returns : goal.returns
 returns c =

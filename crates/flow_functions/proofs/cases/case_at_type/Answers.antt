@@ -4,7 +4,7 @@ use Rattle.chw_terms.specs.TermView.{alts_of}
 use Rattle.chw_terms.proofs.TermMoved.{all_done}
 use Rattle.flow_functions.specs.Moves.{at_type}
 use Rattle.flow_functions.proofs.Moved.{all_at_type}
-use Rattle.flow_functions.proofs.cases.at_type.Goals as goal
+use Rattle.flow_functions.proofs.cases.case_at_type.Goals as goal
 
 pub returns : goal.returns
 returns c =
