@@ -1,0 +1,6 @@
+use Rattle.std.proofs.Common.{◌≡◌, map, take}
+use Rattle.flow_functions.specs.Moves.{at_name}
+use Rattle.flow_functions.proofs.cases.case_at_name.Given as goal
+
+abbrev pub invariant-loop-alt : goal.invariant-loop-alt
+invariant-loop-alt l = l.done.items ≡ map at_name (take l.alt-index l.alts)

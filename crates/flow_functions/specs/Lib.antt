@@ -1,0 +1,4 @@
+pub mod AtFirst
+pub mod Cores
+pub mod Laws
+pub mod Moves
