@@ -1,4 +1,6 @@
+pub mod AppCase
 pub mod Arguments
+pub mod CaseCase
 pub mod Choices
 pub mod Constructed
 pub mod Frames
@@ -6,8 +8,9 @@ pub mod Known
 pub mod Literals
 pub mod Moves
 pub mod Named
-pub mod Outside
 pub mod Places
+pub mod PrimCase
+pub mod PrimLet
 pub mod Projected
 pub mod Spines
 pub mod Taken

@@ -1,4 +1,5 @@
--- What is promised of rules on cases: what they make of a typed term acts as the term.
+-- What is promised of rules on cases: what they make of a typed term acts as the term. The types
+-- that they write in a letrec don't matter.
 use Rattle.std.specs.Prelude.{◌≡◌, ℕ, Bool, List, length, Some, slice_get, set}
 use Rattle.chw_base.specs.declared.index.ConId.{ConId}
 use Rattle.chw_types.specs.declared.kind.Kind.{Kind}
@@ -61,7 +62,7 @@ CaseCaseActs =
     (case_of e (each_body (λ n f. case_of f (shift_alts alts 0 n)) inner))
     (case_of (case_of e inner) alts)
 
--- `case c @.. e .. of { .. c x .. -> f; .. }` becomes `letrec { x = e; .. } in f`, by the first
+-- `case c @.. e .. of { .. c x .. -> f; .. }` becomes `letrec { x : u = e; .. } in f`, by the first
 -- alternative that takes c; where it binds nothing, f
 abbrev pub CaseConActs : Type 0
 CaseConActs =

@@ -18,10 +18,16 @@ pub fn case_case_acts()
     typed_is_sound();
 }
 
-/// A primitive on a letrec or on a case acts so inside.
-pub fn prim_argument_acts()
-    ensures lets { PrimLetActs }
-    ensures cases { PrimCaseActs }
+/// A primitive on a letrec acts so inside of the letrec.
+pub fn prim_let_acts()
+    ensures { PrimLetActs }
+{
+    typed_is_sound();
+}
+
+/// A primitive on a case acts so inside of the case.
+pub fn prim_case_acts()
+    ensures { PrimCaseActs }
 {
     typed_is_sound();
 }

@@ -1,4 +1,4 @@
-use Rattle.act_cases.proofs.Outside.{app_case, app_case_type}
+use Rattle.act_cases.proofs.AppCase.{app_case, app_case_type}
 use Rattle.act_cases.proofs.laws.app_case_acts.Goals as goal
 
 pub returns : goal.returns

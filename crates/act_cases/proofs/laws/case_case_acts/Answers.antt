@@ -1,4 +1,4 @@
-use Rattle.act_cases.proofs.Outside.{case_case}
+use Rattle.act_cases.proofs.CaseCase.{case_case}
 use Rattle.act_cases.proofs.laws.case_case_acts.Goals as goal
 
 pub returns : goal.returns
