@@ -1,3 +1,4 @@
+pub mod Applied
 pub mod Arguments
 pub mod Bodies
 pub mod Cases
@@ -15,4 +16,6 @@ pub mod Primitives
 pub mod PrimitivesComplete
 pub mod Projected
 pub mod Scrutinees
+pub mod Signals
+pub mod SignalsComplete
 pub mod Words

@@ -5,7 +5,7 @@ use Rattle.chw_types.specs.declared.declarations.Data.{Data}
 use Rattle.chw_types.specs.TypeTree.{TypeTree}
 use Rattle.chw_terms.specs.declared.program.Def.{Def}
 use Rattle.chw_terms.specs.declared.rule.Rule.{Rule}
-use Rattle.chw_terms.specs.declared.rule.Rule.TheVariants.{Anf}
+use Rattle.chw_terms.specs.declared.rule.Rule.TheVariants.{Anf, Spec}
 use Rattle.chw_terms.specs.declared.scene.Scene.{Scene}
 use Rattle.chw_terms.specs.declared.term.Arg.{Arg}
 use Rattle.chw_terms.specs.TermTree.{TermTree}
@@ -24,6 +24,7 @@ use Rattle.rewriting.specs.Demanded.{OfDemanded}
 use Rattle.rewriting.specs.Names.{OfNames}
 use Rattle.rewriting.specs.Operands.{OfOperands}
 use Rattle.rewriting.specs.Primitives.{OfPrimitives}
+use Rattle.rewriting.specs.Signals.{OfSignals}
 
 -- a place where rules keep types: what terms are typed over is sound, and the variables in scope
 -- have types that terms have
@@ -162,3 +163,15 @@ PrimitivesKeepComplete =
     (o : Origins) (at : Spot) (r : Rule) (e e' : TermTree)
     → IsTypedPlace o at → OfPrimitives o at r e e'
     → IsComplete o.program.datas e → IsComplete o.program.datas e'
+
+-- what is made of functions on signals keeps types, but for the names of made definitions
+abbrev pub SignalsKeepType : Type 0
+SignalsKeepType =
+    (o : Origins) (at : Spot) (r : Rule) (e e' : TermTree)
+    → IsTypedPlace o at → OfSignals o at r e e' → (r ≡ Spec → ⊥) → KeepsType o at e e'
+
+-- and it keeps complete terms complete
+abbrev pub SignalsKeepComplete : Type 0
+SignalsKeepComplete =
+    (o : Origins) (at : Spot) (r : Rule) (e e' : TermTree)
+    → OfSignals o at r e e' → IsComplete o.program.datas e → IsComplete o.program.datas e'

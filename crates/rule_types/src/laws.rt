@@ -8,6 +8,7 @@ ghost use Rattle.rule_types.specs.Laws.{OperandsKeepType, OperandsKeepComplete};
 ghost use Rattle.rule_types.specs.Laws.{NamesInWholesKeepType, NamesInWholesKeepComplete};
 ghost use Rattle.rule_types.specs.Laws.{ScenesHaveTypedOrigins, NamesKeepType, NamesKeepComplete};
 ghost use Rattle.rule_types.specs.Laws.{PrimitivesKeepType, PrimitivesKeepComplete};
+ghost use Rattle.rule_types.specs.Laws.{SignalsKeepType, SignalsKeepComplete};
 
 use scenes::laws::settings_of_scenes;
 
@@ -66,4 +67,10 @@ pub fn names_keep()
 pub fn primitives_keep()
     ensures types { PrimitivesKeepType }
     ensures complete { PrimitivesKeepComplete }
+{}
+
+/// What rules make of functions on signals keeps types, but for the names of made definitions, and complete terms.
+pub fn signals_keep()
+    ensures types { SignalsKeepType }
+    ensures complete { SignalsKeepComplete }
 {}
