@@ -8,6 +8,7 @@ pub mod Demanded
 pub mod Fields
 pub mod Functions
 pub mod Groups
+pub mod Instances
 pub mod Lets
 pub mod LetsComplete
 pub mod Names

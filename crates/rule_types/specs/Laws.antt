@@ -21,6 +21,7 @@ use Rattle.rewriting.specs.Functions.{OfFunctions}
 use Rattle.rewriting.specs.Cases.{OfCases}
 use Rattle.rewriting.specs.Lets.{OfLets}
 use Rattle.rewriting.specs.Demanded.{OfDemanded}
+use Rattle.rewriting.specs.Instances.{HasInstance}
 use Rattle.rewriting.specs.Names.{OfNames}
 use Rattle.rewriting.specs.Operands.{OfOperands}
 use Rattle.rewriting.specs.Primitives.{OfPrimitives}
@@ -175,3 +176,17 @@ abbrev pub SignalsKeepComplete : Type 0
 SignalsKeepComplete =
     (o : Origins) (at : Spot) (r : Rule) (e e' : TermTree)
     → OfSignals o at r e e' → IsComplete o.program.datas e → IsComplete o.program.datas e'
+
+-- an instance of a rule keeps types, but for the rule of made definitions
+abbrev pub InstancesKeepType : Type 0
+InstancesKeepType =
+    (o : Origins) (at : Spot) (r : Rule) (e e' : TermTree)
+    → AreTypedOrigins o → IsTypedPlace o at → HasInstance o at r e e' → (r ≡ Spec → ⊥)
+    → KeepsType o at e e'
+
+-- and that of any rule keeps complete terms complete
+abbrev pub InstancesKeepComplete : Type 0
+InstancesKeepComplete =
+    (o : Origins) (at : Spot) (r : Rule) (e e' : TermTree)
+    → AreTypedOrigins o → IsTypedPlace o at → HasInstance o at r e e'
+    → IsComplete o.program.datas e → IsComplete o.program.datas e'

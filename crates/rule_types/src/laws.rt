@@ -9,6 +9,7 @@ ghost use Rattle.rule_types.specs.Laws.{NamesInWholesKeepType, NamesInWholesKeep
 ghost use Rattle.rule_types.specs.Laws.{ScenesHaveTypedOrigins, NamesKeepType, NamesKeepComplete};
 ghost use Rattle.rule_types.specs.Laws.{PrimitivesKeepType, PrimitivesKeepComplete};
 ghost use Rattle.rule_types.specs.Laws.{SignalsKeepType, SignalsKeepComplete};
+ghost use Rattle.rule_types.specs.Laws.{InstancesKeepType, InstancesKeepComplete};
 
 use scenes::laws::settings_of_scenes;
 
@@ -73,4 +74,10 @@ pub fn primitives_keep()
 pub fn signals_keep()
     ensures types { SignalsKeepType }
     ensures complete { SignalsKeepComplete }
+{}
+
+/// An instance of a rule keeps types, but for the rule of made definitions, and complete terms.
+pub fn instances_keep()
+    ensures types { InstancesKeepType }
+    ensures complete { InstancesKeepComplete }
 {}
