@@ -19,4 +19,5 @@ pub mod Projected
 pub mod Scrutinees
 pub mod Signals
 pub mod SignalsComplete
+pub mod States
 pub mod Words

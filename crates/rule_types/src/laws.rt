@@ -10,7 +10,9 @@ ghost use Rattle.rule_types.specs.Laws.{ScenesHaveTypedOrigins, NamesKeepType, N
 ghost use Rattle.rule_types.specs.Laws.{PrimitivesKeepType, PrimitivesKeepComplete};
 ghost use Rattle.rule_types.specs.Laws.{SignalsKeepType, SignalsKeepComplete};
 ghost use Rattle.rule_types.specs.Laws.{InstancesKeepType, InstancesKeepComplete};
+ghost use Rattle.rule_types.specs.States.{StatesHaveTypedOrigins, StepsKeepState};
 
+use chw_typing::laws::typed_is_sound;
 use scenes::laws::settings_of_scenes;
 
 /// A spine keeps its type, and stays complete, where its core does.
@@ -81,3 +83,11 @@ pub fn instances_keep()
     ensures types { InstancesKeepType }
     ensures complete { InstancesKeepComplete }
 {}
+
+/// A step by a rule that makes no definition leads from a typed state to a typed one.
+pub fn steps_keep()
+    ensures origins { StatesHaveTypedOrigins }
+    ensures steps { StepsKeepState }
+{
+    typed_is_sound();
+}
