@@ -1,3 +1,4 @@
+pub mod Applied
 pub mod Arguments
 pub mod Bodies
 pub mod Cases
@@ -7,6 +8,7 @@ pub mod Demanded
 pub mod Fields
 pub mod Functions
 pub mod Groups
+pub mod Instances
 pub mod Lets
 pub mod LetsComplete
 pub mod Names
@@ -15,4 +17,7 @@ pub mod Primitives
 pub mod PrimitivesComplete
 pub mod Projected
 pub mod Scrutinees
+pub mod Signals
+pub mod SignalsComplete
+pub mod States
 pub mod Words

@@ -2,7 +2,7 @@
 use Rattle.std.proofs.Common.{◌+◌, ◌∷◌, ◌∙◌, ◌≡◌, Bool, List, Some, [], ap, arith, inl, inr, length, map, min, refl, subst, sym, ℕ}
 use Rattle.std.proofs.lemmas.List.{length-map}
 use Rattle.chw_bits.specs.Bits.{number_of}
-use Rattle.chw_types.proofs.SameLaws.{same_through, same_turned}
+use Rattle.chw_types.proofs.SameLaws.{same_through}
 use Rattle.chw_types.specs.SameTypes.{SameTypes}
 use Rattle.chw_types.specs.TypeMoves.{sub}
 use Rattle.chw_types.specs.TypeTree.{TypeTree, nat_lit, nat_sum, scalar, ty_var, vector}
@@ -31,6 +31,7 @@ use Rattle.unroll_laws.proofs.Unrolls.{unrolling_keeps}
 use Rattle.scenes.specs.Origins.{Origins, setting_at}
 use Rattle.active_places.specs.Spots.{Spot}
 use Rattle.rewriting.specs.Primitives.{HasValue, OfPrimitives, delta, elem, elem_at, literal, unroll, word_given}
+use Rattle.rule_types.proofs.Applied.{up_to_as}
 use Rattle.rule_types.proofs.Operands.{element_kind}
 use Rattle.rule_types.proofs.Words.{are_numbers, word_kept}
 use Rattle.rule_types.specs.Laws.{IsTypedPlace, KeepsType}
@@ -43,20 +44,17 @@ vector_element {w = w} j e at (h_vec l all) x =
     let is : parts.1 ≡ w = cc in
     record { type = it.0; has = it.1; same = same_through (subst (SameTypes _) is parts.4) it.2 }
 
-through_element : {s : Setting} {vars : List TypeTree} {e : TermTree} {a t : TypeTree} → HasTypeUpTo s [] vars e a → SameTypes a t → HasTypeUpTo s [] vars e t
-through_element d x = record { type = d.type; has = d.has; same = same_through (same_turned x) d.same }
-
 elem_typed : {s : Setting} {vars : List TypeTree} (p : Prim) (kind : Kind) (i n a w : TypeTree) (es : Terms) (j : ℕ) (e : TermTree) (t : TypeTree) → IsSound s → AreTermTypes s [] vars → row_of p ≡ Element kind → element_at es j ≡ Some e → HasType s [] vars (applied (prim p) (types_then (i ∷ n ∷ a ∷ []) (vec_lit w es ∷ []))) t → HasTypeUpTo s [] vars e t
 unfolding sub
 elem_typed {s} {vars} p kind i n a w es j e t h g is at d =
     let of = prim_at_arguments s [] vars p (Nat ∷ Nat ∷ kind ∷ []) (vector (nat_sum (nat_sum (ty_var 2) (nat_lit 1)) (ty_var 1)) (ty_var 0) ∷ []) (ty_var 0) (i ∷ n ∷ a ∷ []) (vec_lit w es ∷ []) t h g (ap row_type is) refl refl d in
-    through_element (vector_element j e at of.args_given.0.has of.args_given.0.same) of.gives
+    up_to_as (vector_element j e at of.args_given.0.has of.args_given.0.same) of.gives
 
 elem_at_typed : {s : Setting} {vars : List TypeTree} (n k a w : TypeTree) (es : Terms) (j : ℕ) (bits : List Bool) (e : TermTree) (t : TypeTree) → IsSound s → AreTermTypes s [] vars → element_at es j ≡ Some e → HasType s [] vars (applied (prim VAt) (types_then (n ∷ k ∷ a ∷ []) (vec_lit w es ∷ lit U bits ∷ []))) t → HasTypeUpTo s [] vars e t
 unfolding sub
 elem_at_typed {s} {vars} n k a w es j bits e t h g at d =
     let of = prim_at_arguments s [] vars VAt (Nat ∷ Nat ∷ Val ∷ []) (vector (nat_sum (ty_var 2) (nat_lit 1)) (ty_var 0) ∷ scalar U (ty_var 1) ∷ []) (ty_var 0) (n ∷ k ∷ a ∷ []) (vec_lit w es ∷ lit U bits ∷ []) t h g refl refl refl d in
-    through_element (vector_element j e at of.args_given.0.has of.args_given.0.same) of.gives
+    up_to_as (vector_element j e at of.args_given.0.has of.args_given.0.same) of.gives
 
 arguments_many : (types : List TypeTree) (es : List TermTree) → length (types_then types es) ≡ length types + length es
 arguments_many [] es = let same = length-map es (λ e. OfTerm e) in omega (arith, same)

@@ -5,7 +5,7 @@ use Rattle.chw_types.specs.declared.declarations.Data.{Data}
 use Rattle.chw_types.specs.TypeTree.{TypeTree}
 use Rattle.chw_terms.specs.declared.program.Def.{Def}
 use Rattle.chw_terms.specs.declared.rule.Rule.{Rule}
-use Rattle.chw_terms.specs.declared.rule.Rule.TheVariants.{Anf}
+use Rattle.chw_terms.specs.declared.rule.Rule.TheVariants.{Anf, Spec}
 use Rattle.chw_terms.specs.declared.scene.Scene.{Scene}
 use Rattle.chw_terms.specs.declared.term.Arg.{Arg}
 use Rattle.chw_terms.specs.TermTree.{TermTree}
@@ -21,9 +21,11 @@ use Rattle.rewriting.specs.Functions.{OfFunctions}
 use Rattle.rewriting.specs.Cases.{OfCases}
 use Rattle.rewriting.specs.Lets.{OfLets}
 use Rattle.rewriting.specs.Demanded.{OfDemanded}
+use Rattle.rewriting.specs.Instances.{HasInstance}
 use Rattle.rewriting.specs.Names.{OfNames}
 use Rattle.rewriting.specs.Operands.{OfOperands}
 use Rattle.rewriting.specs.Primitives.{OfPrimitives}
+use Rattle.rewriting.specs.Signals.{OfSignals}
 
 -- a place where rules keep types: what terms are typed over is sound, and the variables in scope
 -- have types that terms have
@@ -161,4 +163,30 @@ abbrev pub PrimitivesKeepComplete : Type 0
 PrimitivesKeepComplete =
     (o : Origins) (at : Spot) (r : Rule) (e e' : TermTree)
     → IsTypedPlace o at → OfPrimitives o at r e e'
+    → IsComplete o.program.datas e → IsComplete o.program.datas e'
+
+-- what is made of functions on signals keeps types, but for the names of made definitions
+abbrev pub SignalsKeepType : Type 0
+SignalsKeepType =
+    (o : Origins) (at : Spot) (r : Rule) (e e' : TermTree)
+    → IsTypedPlace o at → OfSignals o at r e e' → (r ≡ Spec → ⊥) → KeepsType o at e e'
+
+-- and it keeps complete terms complete
+abbrev pub SignalsKeepComplete : Type 0
+SignalsKeepComplete =
+    (o : Origins) (at : Spot) (r : Rule) (e e' : TermTree)
+    → OfSignals o at r e e' → IsComplete o.program.datas e → IsComplete o.program.datas e'
+
+-- an instance of a rule keeps types, but for the rule of made definitions
+abbrev pub InstancesKeepType : Type 0
+InstancesKeepType =
+    (o : Origins) (at : Spot) (r : Rule) (e e' : TermTree)
+    → AreTypedOrigins o → IsTypedPlace o at → HasInstance o at r e e' → (r ≡ Spec → ⊥)
+    → KeepsType o at e e'
+
+-- and that of any rule keeps complete terms complete
+abbrev pub InstancesKeepComplete : Type 0
+InstancesKeepComplete =
+    (o : Origins) (at : Spot) (r : Rule) (e e' : TermTree)
+    → AreTypedOrigins o → IsTypedPlace o at → HasInstance o at r e e'
     → IsComplete o.program.datas e → IsComplete o.program.datas e'

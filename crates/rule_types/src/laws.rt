@@ -8,7 +8,11 @@ ghost use Rattle.rule_types.specs.Laws.{OperandsKeepType, OperandsKeepComplete};
 ghost use Rattle.rule_types.specs.Laws.{NamesInWholesKeepType, NamesInWholesKeepComplete};
 ghost use Rattle.rule_types.specs.Laws.{ScenesHaveTypedOrigins, NamesKeepType, NamesKeepComplete};
 ghost use Rattle.rule_types.specs.Laws.{PrimitivesKeepType, PrimitivesKeepComplete};
+ghost use Rattle.rule_types.specs.Laws.{SignalsKeepType, SignalsKeepComplete};
+ghost use Rattle.rule_types.specs.Laws.{InstancesKeepType, InstancesKeepComplete};
+ghost use Rattle.rule_types.specs.States.{StatesHaveTypedOrigins, StepsKeepState};
 
+use chw_typing::laws::typed_is_sound;
 use scenes::laws::settings_of_scenes;
 
 /// A spine keeps its type, and stays complete, where its core does.
@@ -67,3 +71,23 @@ pub fn primitives_keep()
     ensures types { PrimitivesKeepType }
     ensures complete { PrimitivesKeepComplete }
 {}
+
+/// What rules make of functions on signals keeps types, but for the names of made definitions, and complete terms.
+pub fn signals_keep()
+    ensures types { SignalsKeepType }
+    ensures complete { SignalsKeepComplete }
+{}
+
+/// An instance of a rule keeps types, but for the rule of made definitions, and complete terms.
+pub fn instances_keep()
+    ensures types { InstancesKeepType }
+    ensures complete { InstancesKeepComplete }
+{}
+
+/// A step by a rule that makes no definition leads from a typed state to a typed one.
+pub fn steps_keep()
+    ensures origins { StatesHaveTypedOrigins }
+    ensures steps { StepsKeepState }
+{
+    typed_is_sound();
+}
