@@ -1,5 +1,6 @@
 pub mod Counter
 pub mod FirstOrder
+pub mod Names
 pub mod Plain
 pub mod Shown
 pub mod ShownBlocked

@@ -109,7 +109,7 @@ IsRowOnSignals Memory = Unit {0}
 IsRowOnSignals Crossing = Unit {0}
 IsRowOnSignals _ = ⊥
 
--- the sizes of primitives on vectors count everywhere, and those of primitives on words in constants
+-- the sizes of primitives on vectors count everywhere, those of primitives on words in constants
 abbrev pub SizesCount : Spot → Prim → Type 0
 SizesCount at p = (IsRowOnSignals (row_of p) → ⊥) × (IsOnWords p → at.mode ≡ K)
 
@@ -118,8 +118,8 @@ abbrev pub types_asked : TypeTree → ℕ
 types_asked (for_all k t) = suc (types_asked t)
 types_asked t = 0
 
--- at a place a limit is passed by what is looked at in this turn: by the term's own type first, then
--- by the bindings of a letrec, or by the sizes of a primitive that has all its type arguments
+-- at a place a limit is passed by what is looked at in this turn: by the term's own type first,
+-- then by the bindings of a letrec, or by the sizes of a primitive that has all its type arguments
 pub data PassesAt (o : Origins) (at : Spot) : TermTree → ℕ → NoLayout → Type 0 where
   by_type : {e : TermTree} {t : TypeTree} {l : NoLayout}
       → FindsAt o at e t → Passes o.program.datas t l → PassesAt o at e 0 l

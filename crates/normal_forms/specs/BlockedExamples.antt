@@ -44,5 +44,5 @@ WideBinding =
 -- `vreverse @2000 @U8` passes the limit of lengths
 abbrev pub LongVector : Type 0
 LongVector =
-    PassesAt here (at_root V []) (applied (prim VReverse) (types_then (nat_lit 2000 ∷ byte ∷ []) []))
-    1 (OverLength 2000)
+    PassesAt here (at_root V [])
+    (applied (prim VReverse) (types_then (nat_lit 2000 ∷ byte ∷ []) [])) 1 (OverLength 2000)
