@@ -1,3 +1,4 @@
+pub mod Calls
 pub mod Counter
 pub mod FirstOrder
 pub mod Names

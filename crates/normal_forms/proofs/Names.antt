@@ -1,5 +1,5 @@
 -- The variables in scope in a body in normal form have wires.
-use Rattle.std.proofs.Common.{◌≡◌, ◌⊎◌, inl, inr, ℕ, suc, zero, refl, sym, ap, subst, List, [], ◌∷◌, ◌++◌, map, reverse, Some}
+use Rattle.std.proofs.Common.{◌≡◌, inl, inr, ℕ, suc, zero, refl, sym, subst, List, [], ◌∷◌, ◌++◌, map, reverse, Some}
 use Rattle.std.specs.List.{slice_get, AllByRecursion}
 use Rattle.std.proofs.lemmas.List.{reverse-append}
 use Rattle.chw_types.specs.declared.kind.Kind.{Kind}
@@ -11,13 +11,12 @@ use Rattle.chw_types.specs.TypeMoves.{sub}
 use Rattle.chw_types.specs.TypeTree.{TypeTree, TypeTrees, data_of}
 use Rattle.chw_terms.specs.declared.scene.Mode.TheVariants.{V, C}
 use Rattle.chw_terms.specs.declared.term.Pattern.{Pattern}
-use Rattle.chw_terms.specs.Constructors.{Constructor}
 use Rattle.chw_terms.specs.References.{IsField}
-use Rattle.chw_terms.specs.TermTree.{TermTree, var, lam, app, ty_app, letrec, vec_lit, case_of}
+use Rattle.chw_terms.specs.TermTree.{TermTree, var}
 use Rattle.chw_typing.specs.HeadTypes.{PatternOf, of_con, of_lit, of_any}
 use Rattle.chw_typing.specs.Programs.{IsSound}
 use Rattle.chw_typing.specs.Scopes.{Setting, HasKind, IsTermType, AreTermTypes, AreSame, with_more, declared}
-use Rattle.chw_typing.specs.Typing.{HasType, h_var, Binds}
+use Rattle.chw_typing.specs.Typing.{HasType, h_var}
 use Rattle.chw_typing.proofs.Heads.{is_constructor}
 use Rattle.chw_typing.proofs.Kinded.{typed_at}
 use Rattle.chw_typing.proofs.Patterns.{constructor_arguments}
@@ -30,7 +29,7 @@ use Rattle.scenes.specs.Origins.{MadeOf, Origins, setting_at}
 use Rattle.rewriting.specs.Shapes.{IsVariable}
 use Rattle.normal_forms.specs.Normal.{IsNormalBody}
 use Rattle.normal_forms.proofs.FirstOrder.{body_plain}
-use Rattle.normal_forms.proofs.Plain.{AllParts, IsWire, IsPlain, element_holds, side_holds, branch_holds, alternative_holds}
+use Rattle.normal_forms.proofs.Plain.{AllParts, IsWire, IsPlain, element_holds, side_holds, alternative_holds}
 
 all_append : {X : Type 0} (P : X → Type 0) (xs ys : List X) → AllByRecursion P xs → AllByRecursion P ys → AllByRecursion P (xs ++ ys)
 all_append P [] ys h k = k

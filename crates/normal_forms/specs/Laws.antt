@@ -12,6 +12,7 @@ use Rattle.chw_typing.specs.Programs.{IsSound}
 use Rattle.term_contexts.specs.Around.{Around}
 use Rattle.scenes.specs.Origins.{setting_at}
 use Rattle.rewriting.specs.Steps.{origins_in}
+use Rattle.normal_forms.specs.Calls.{HoldsOnlyCalls}
 use Rattle.normal_forms.specs.Normal.{IsNormal}
 use Rattle.normal_forms.specs.Parts.{IsMonomorphic, IsFirstOrder}
 use Rattle.normal_forms.specs.Uses.{Uses, IsAcyclic, WholeOf}
@@ -31,6 +32,13 @@ NamesAreWires =
     → IsSound (setting_at (origins_in p state)) → IsNormal p state → slice_get state m ≡ Some it
     → Around (setting_at (origins_in p state)) [] [] it.body path kinds vars x
     → AllByRecursion (λ t. Representable p.datas t ⊎ IsPort p.datas t) vars
+
+-- a made definition stands in such a body only where it is called
+abbrev pub NormalHoldsOnlyCalls : Type 0
+NormalHoldsOnlyCalls =
+    (p : Program) (state : List Made) (m : ℕ) (it : Made)
+    → IsNormal p state → slice_get state m ≡ Some it
+    → HoldsOnlyCalls (origins_in p state) it.body
 
 -- a made definition is one whole at most
 abbrev pub OneWhole : Type 0

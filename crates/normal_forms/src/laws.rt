@@ -1,5 +1,5 @@
 //! The laws, each as the contract of a call that does nothing.
-ghost use Rattle.normal_forms.specs.Laws.{NormalIsFirstOrder, NamesAreWires, OneWhole, WholeIsThere};
+ghost use Rattle.normal_forms.specs.Laws.{NormalIsFirstOrder, NamesAreWires, NormalHoldsOnlyCalls, OneWhole, WholeIsThere};
 
 use scenes::laws::names_of_modes;
 
@@ -14,6 +14,11 @@ pub fn names_are_wires()
 {
     names_of_modes();
 }
+
+/// A made definition stands in a body of a normal state only where it is called.
+pub fn normal_holds_only_calls()
+    ensures { NormalHoldsOnlyCalls }
+{}
 
 /// A made definition is one whole at most, and it is one if none uses itself.
 pub fn one_whole()
