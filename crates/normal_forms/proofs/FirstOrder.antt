@@ -123,7 +123,7 @@ lambdas_plain datas (under_one s u) w h =
     let inner = lambdas_plain datas u w h in
     record { wires = inner.wires.1; plain = (record { wires = (inner.wires.0, tt); no_type_lambda = λ h. h; looks = tt }, inner.plain) }
 
-body_plain : (o : Origins) (it : MadeOf) (body : TermTree) → IsNormalBody o it body → AllParts (IsPlain o.program.datas) body
+pub body_plain : (o : Origins) (it : MadeOf) (body : TermTree) → IsNormalBody o it body → AllParts (IsPlain o.program.datas) body
 body_plain o it body h =
     (lambdas_plain o.program.datas h.under (named_wires o.program.datas it.sort h.vars h.named) (form_plain o it.sort h.vars h.inner h.form)).plain
 

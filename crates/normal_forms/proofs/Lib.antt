@@ -1,5 +1,7 @@
+pub mod Calls
 pub mod Counter
 pub mod FirstOrder
+pub mod Names
 pub mod Plain
 pub mod Shown
 pub mod ShownBlocked

@@ -1,5 +1,5 @@
 -- What holds of the parts of a term, by recursion over the term; and a term that declares wires alone.
-use Rattle.std.proofs.Common.{◌≡◌, ◌⊎◌, ℕ, suc, zero, subst, List, [], ◌∷◌, map, Some}
+use Rattle.std.proofs.Common.{◌≡◌, ◌⊎◌, ℕ, suc, zero, ap, subst, List, [], ◌∷◌, map, Some}
 use Rattle.std.specs.List.{AllByRecursion}
 use Rattle.std.specs.Prelude.{option_map}
 use Rattle.chw_types.specs.declared.declarations.Data.{Data}
@@ -12,7 +12,7 @@ use Rattle.chw_terms.specs.TermTree.{TermTree, var, global, made, lam, app, ty_l
 use Rattle.chw_terms.specs.TermView.{applied, terms_of}
 use Rattle.chw_terms.specs.TypesMoved.{rename_types, rename_types_all, rename_types_group, rename_types_alts}
 use Rattle.spine_types.specs.Given.{types_then}
-use Rattle.term_paths.specs.Paths.{child, element_at, part_of_group, branch_at, part_at}
+use Rattle.term_paths.specs.Paths.{child, Branch, element_at, part_of_group, branch_at, part_at}
 use Rattle.term_paths.proofs.Parts.{way_to}
 use Rattle.normal_forms.specs.Parts.{declared_by, IsTypeLambda, LooksAtVariable, HasClosedTypes}
 use Rattle.normal_forms.specs.Values.{on_names}
@@ -60,21 +60,24 @@ the_term P (con c) h = h
 the_term P (prim p) h = h
 the_term P (lit s b) h = h
 
-element_holds : (P : TermTree → Type 0) (es : Terms) (i : ℕ) (c : TermTree) → AllOfTerms P es → element_at es i ≡ Some c → AllParts P c
+pub element_holds : (P : TermTree → Type 0) (es : Terms) (i : ℕ) (c : TermTree) → AllOfTerms P es → element_at es i ≡ Some c → AllParts P c
 element_holds P no_terms i c h is = absurd cc
 element_holds P (term_and e es) zero c h is = let same : e ≡ c = cc in subst (AllParts P) same h.0
 element_holds P (term_and e es) (suc i) c h is = element_holds P es i c h.1 is
 
-side_holds : (P : TermTree → Type 0) (g : Group) (b : TermTree) (i : ℕ) (c : TermTree) → AllOfGroup P g → AllParts P b → part_of_group g b i ≡ Some c → AllParts P c
+pub side_holds : (P : TermTree → Type 0) (g : Group) (b : TermTree) (i : ℕ) (c : TermTree) → AllOfGroup P g → AllParts P b → part_of_group g b i ≡ Some c → AllParts P c
 side_holds P no_bindings b zero c h k is = let same : b ≡ c = cc in subst (AllParts P) same k
 side_holds P no_bindings b (suc i) c h k is = absurd cc
 side_holds P (bind t e g) b zero c h k is = let same : e ≡ c = cc in subst (AllParts P) same h.0
 side_holds P (bind t e g) b (suc i) c h k is = side_holds P g b i c h.1 k is
 
-branch_holds : (P : TermTree → Type 0) (alts : Alts) (i : ℕ) (c : TermTree) → AllOfAlts P alts → option_map (λ a. a.body) (branch_at alts i) ≡ Some c → AllParts P c
+pub branch_holds : (P : TermTree → Type 0) (alts : Alts) (i : ℕ) (c : TermTree) → AllOfAlts P alts → option_map (λ a. a.body) (branch_at alts i) ≡ Some c → AllParts P c
 branch_holds P no_alts i c h is = absurd cc
 branch_holds P (alt q e more) zero c h is = let same : e ≡ c = cc in subst (AllParts P) same h.0
 branch_holds P (alt q e more) (suc i) c h is = branch_holds P more i c h.1 is
+
+pub alternative_holds : (P : TermTree → Type 0) (alts : Alts) (i : ℕ) (a : Branch) → AllOfAlts P alts → branch_at alts i ≡ Some a → AllParts P a.body
+alternative_holds P alts i a h is = branch_holds P alts i a.body h (ap (option_map (λ (b : Branch). b.body)) is)
 
 child_holds : (P : TermTree → Type 0) (e c : TermTree) (i : ℕ) → AllParts P e → child e i ≡ Some c → AllParts P c
 child_holds P (lam t e) c zero h is = let same : e ≡ c = cc in subst (AllParts P) same h.1

@@ -109,8 +109,7 @@ IsRowOnSignals Memory = Unit {0}
 IsRowOnSignals Crossing = Unit {0}
 IsRowOnSignals _ = ⊥
 
--- the sizes of primitives on vectors count everywhere, and those of primitives on words in
--- constants
+-- the sizes of primitives on vectors count everywhere, those of primitives on words in constants
 abbrev pub SizesCount : Spot → Prim → Type 0
 SizesCount at p = (IsRowOnSignals (row_of p) → ⊥) × (IsOnWords p → at.mode ≡ K)
 

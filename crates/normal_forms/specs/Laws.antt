@@ -1,9 +1,18 @@
 -- What is promised of normal forms.
-use Rattle.std.specs.Prelude.{◌≡◌, ℕ, ◌<◌, List, length, Some}
-use Rattle.std.specs.List.{slice_get}
+use Rattle.std.specs.Prelude.{◌≡◌, ◌⊎◌, ℕ, ◌<◌, List, [], length, Some}
+use Rattle.std.specs.List.{slice_get, AllByRecursion}
+use Rattle.chw_types.specs.declared.kind.Kind.{Kind}
+use Rattle.chw_types.specs.Ports.{IsPort}
+use Rattle.chw_types.specs.Representable.{Representable}
+use Rattle.chw_types.specs.TypeTree.{TypeTree}
 use Rattle.chw_terms.specs.declared.program.Program.{Program}
 use Rattle.chw_terms.specs.declared.scene.Made.{Made}
 use Rattle.chw_terms.specs.TermTree.{TermTree}
+use Rattle.chw_typing.specs.Programs.{IsSound}
+use Rattle.term_contexts.specs.Around.{Around}
+use Rattle.scenes.specs.Origins.{setting_at}
+use Rattle.rewriting.specs.Steps.{origins_in}
+use Rattle.normal_forms.specs.Calls.{HoldsOnlyCalls}
 use Rattle.normal_forms.specs.Normal.{IsNormal}
 use Rattle.normal_forms.specs.Parts.{IsMonomorphic, IsFirstOrder}
 use Rattle.normal_forms.specs.Uses.{Uses, IsAcyclic, WholeOf}
@@ -14,6 +23,22 @@ NormalIsFirstOrder =
     (p : Program) (state : List Made) (m : ℕ) (it : Made)
     → IsNormal p state → slice_get state m ≡ Some it
     → IsMonomorphic it.body × IsFirstOrder p.datas it.body
+
+-- and each variable in scope at any part of it has a representable type or a port
+abbrev pub NamesAreWires : Type 0
+NamesAreWires =
+    (p : Program) (state : List Made) (m : ℕ) (it : Made)
+    (kinds : List Kind) (vars : List TypeTree) (x : TermTree) (path : List ℕ)
+    → IsSound (setting_at (origins_in p state)) → IsNormal p state → slice_get state m ≡ Some it
+    → Around (setting_at (origins_in p state)) [] [] it.body path kinds vars x
+    → AllByRecursion (λ t. Representable p.datas t ⊎ IsPort p.datas t) vars
+
+-- a made definition stands in such a body only where it is called
+abbrev pub NormalHoldsOnlyCalls : Type 0
+NormalHoldsOnlyCalls =
+    (p : Program) (state : List Made) (m : ℕ) (it : Made)
+    → IsNormal p state → slice_get state m ≡ Some it
+    → HoldsOnlyCalls (origins_in p state) it.body
 
 -- a made definition is one whole at most
 abbrev pub OneWhole : Type 0

@@ -1,5 +1,6 @@
 pub mod Blocked
 pub mod BlockedExamples
+pub mod Calls
 pub mod Circuits
 pub mod Examples
 pub mod Laws
