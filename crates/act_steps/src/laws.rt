@@ -1,0 +1,44 @@
+//! Laws of the meaning of steps, each as the contract of a call that does nothing.
+ghost use Rattle.act_steps.specs.Laws.{MadeActs, SpineActs, InstanceActs};
+
+use act_cases::laws::{app_case_acts, case_case_acts, known_case_acts, prim_case_acts, prim_let_acts, projections_act};
+use act_contexts::laws::plug_acts;
+use act_lets::laws::{dead_acts, inline_acts, joined_lets_act};
+use act_rules::laws::{app_let_acts, beta_acts, case_let_acts, type_beta_acts};
+use scenes::laws::{origins_keep_types, settings_of_scenes};
+
+/// What a flow rule makes of its own shape acts as the shape.
+pub fn made_acts()
+    ensures { MadeActs }
+{
+    type_beta_acts();
+    beta_acts();
+    app_let_acts();
+    case_let_acts();
+    app_case_acts();
+    case_case_acts();
+    known_case_acts();
+    projections_act();
+    prim_let_acts();
+    prim_case_acts();
+    joined_lets_act();
+    dead_acts();
+    inline_acts();
+}
+
+/// A term with arguments acts so where the term does.
+pub fn spine_acts()
+    ensures { SpineActs }
+{
+    plug_acts();
+}
+
+/// What an instance of a flow rule makes of a term acts as the term.
+pub fn instance_acts()
+    ensures { InstanceActs }
+{
+    made_acts();
+    spine_acts();
+    settings_of_scenes();
+    origins_keep_types();
+}
