@@ -10,7 +10,7 @@ ghost use Rattle.rule_types.specs.Laws.{ScenesHaveTypedOrigins, NamesKeepType, N
 ghost use Rattle.rule_types.specs.Laws.{PrimitivesKeepType, PrimitivesKeepComplete};
 ghost use Rattle.rule_types.specs.Laws.{SignalsKeepType, SignalsKeepComplete};
 ghost use Rattle.rule_types.specs.Laws.{InstancesKeepType, InstancesKeepComplete};
-ghost use Rattle.rule_types.specs.States.{StatesHaveTypedOrigins, StepsKeepState};
+ghost use Rattle.rule_types.specs.States.{StatesHaveTypedOrigins, StepsKeepState, LiftedBecomesTyped};
 
 use chw_typing::laws::typed_is_sound;
 use scenes::laws::settings_of_scenes;
@@ -91,3 +91,8 @@ pub fn steps_keep()
 {
     typed_is_sound();
 }
+
+/// A lifted function with a lambda for each parameter becomes a typed made definition.
+pub fn lifted_becomes_typed()
+    ensures { LiftedBecomesTyped }
+{}
