@@ -2,6 +2,7 @@ pub mod Applied
 pub mod Arguments
 pub mod Bodies
 pub mod Called
+pub mod Calls
 pub mod Cases
 pub mod CasesComplete
 pub mod Complete

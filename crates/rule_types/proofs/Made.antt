@@ -39,7 +39,7 @@ patterns_kept o (alt q e more) = ap (λ qs. q ∷ qs) (patterns_kept o more)
 mutual
   unfolding with_origins
 
-  put_complete : (datas : List Data) (o : ℕ → TermTree) → ((m : ℕ) → IsComplete datas (o m)) → (e : TermTree) → IsComplete datas e → IsComplete datas (with_origins o e)
+  pub put_complete : (datas : List Data) (o : ℕ → TermTree) → ((m : ℕ) → IsComplete datas (o m)) → (e : TermTree) → IsComplete datas e → IsComplete datas (with_origins o e)
   put_complete datas o k (var x) h = tt
   put_complete datas o k (global d) h = tt
   put_complete datas o k (made m) h = k m
@@ -139,13 +139,13 @@ first_leads p (under_none a) = under_none a
 first_leads p (under_one s r) = under_one s (first_leads p r)
 
 -- the origins of made definitions as terms for these
-origins_put : (o : Origins) → AreTypedOrigins o → AreOfMade (setting_at o) (origin_at o)
+pub origins_put : (o : Origins) → AreTypedOrigins o → AreOfMade (setting_at o) (origin_at o)
 origins_put o w m u e =
     let at = found_before_map (λ (m : MadeOf). m.ty) o.made m u e in
     let is : origin_at o m ≡ at.0.origin = ap (λ x. unwrap_or (option_map (λ (it : MadeOf). it.origin) x) (made m)) at.1 in
     subst (λ f. HasTypeUpTo (setting_at o) [] [] f u) (sym is) (subst (HasTypeUpTo (setting_at o) [] [] at.0.origin) at.2 (w.origins m at.0 at.1).0)
 
-origins_put_complete : (o : Origins) → AreTypedOrigins o → (m : ℕ) → IsComplete o.program.datas (origin_at o m)
+pub origins_put_complete : (o : Origins) → AreTypedOrigins o → (m : ℕ) → IsComplete o.program.datas (origin_at o m)
 origins_put_complete o w m = by (slice_get o.made m) refl
   where
     by : (it : Option MadeOf) → slice_get o.made m ≡ it → IsComplete o.program.datas (unwrap_or (option_map (λ (it : MadeOf). it.origin) it) (made m))

@@ -11,9 +11,10 @@ ghost use Rattle.rule_types.specs.Laws.{PrimitivesKeepType, PrimitivesKeepComple
 ghost use Rattle.rule_types.specs.Laws.{SignalsKeepType, SignalsKeepComplete};
 ghost use Rattle.rule_types.specs.Laws.{InstancesKeepType, InstancesKeepComplete};
 ghost use Rattle.rule_types.specs.States.{StatesHaveTypedOrigins, StepsKeepState, LiftedBecomesTyped};
+ghost use Rattle.rule_types.specs.States.{CallOriginHasType, CallOriginIsComplete};
 
 use chw_typing::laws::typed_is_sound;
-use scenes::laws::settings_of_scenes;
+use scenes::laws::{named_types, settings_of_scenes};
 
 /// A spine keeps its type, and stays complete, where its core does.
 pub fn cores_keep()
@@ -96,3 +97,11 @@ pub fn steps_keep()
 pub fn lifted_becomes_typed()
     ensures { LiftedBecomesTyped }
 {}
+
+/// A call as a closed term has the type of a function of its free variables, and is complete where the call is.
+pub fn call_origins()
+    ensures types { CallOriginHasType }
+    ensures complete { CallOriginIsComplete }
+{
+    named_types();
+}
