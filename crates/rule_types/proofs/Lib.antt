@@ -1,6 +1,8 @@
 pub mod Applied
 pub mod Arguments
 pub mod Bodies
+pub mod Called
+pub mod Calls
 pub mod Cases
 pub mod CasesComplete
 pub mod Complete
@@ -11,6 +13,7 @@ pub mod Groups
 pub mod Instances
 pub mod Lets
 pub mod LetsComplete
+pub mod Made
 pub mod Names
 pub mod Operands
 pub mod Primitives

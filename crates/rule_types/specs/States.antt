@@ -1,17 +1,27 @@
 -- Typed states of rewriting, and what is promised of them.
-use Rattle.std.specs.Prelude.{◌≡◌, ℕ, List, Some}
+use Rattle.std.specs.Prelude.{◌≡◌, ℕ, ◌≤◌, List, [], ◌∷◌, length, Some}
 use Rattle.std.specs.List.{slice_get}
+use Rattle.chw_types.specs.TypeTree.{TypeTree}
 use Rattle.chw_terms.specs.declared.program.Program.{Program}
 use Rattle.chw_terms.specs.declared.rule.Rule.{Rule}
 use Rattle.chw_terms.specs.declared.rule.Rule.TheVariants.{Spec}
 use Rattle.chw_terms.specs.declared.scene.Made.{Made}
+use Rattle.chw_terms.specs.declared.scene.Sort.TheVariants.{Value}
+use Rattle.chw_terms.specs.TermTree.{TermTree}
 use Rattle.chw_terms.specs.Tidy.{IsTidy}
-use Rattle.chw_typing.specs.Programs.{IsTyped}
-use Rattle.scenes.specs.Origins.{made_of}
+use Rattle.chw_typing.specs.HeadTypes.{from_each}
+use Rattle.chw_typing.specs.Programs.{IsComplete, IsTyped}
+use Rattle.chw_typing.specs.Typing.{HasTypeUpTo}
+use Rattle.scenes.specs.Origins.{HoldsNoMade, MadeOf, Origins, made_of, origin_of, setting_at}
 use Rattle.scenes.specs.Typed.{IsTypedMade}
-use Rattle.rewriting.specs.Runs.{Step, StepsTo}
+use Rattle.found_types.specs.Finding.{Finds}
+use Rattle.active_places.specs.Spots.{Spot}
+use Rattle.rewriting.specs.Calls.{IsCall, call_origin}
+use Rattle.rewriting.specs.Runs.{first_body, Step, StepsTo}
+use Rattle.rewriting.specs.Shapes.{leading_lambdas}
+use Rattle.rewriting.specs.Signals.{IsLifted}
 use Rattle.rewriting.specs.Steps.{origins_in}
-use Rattle.rule_types.specs.Laws.{AreTypedOrigins}
+use Rattle.rule_types.specs.Laws.{AreTypedOrigins, IsTypedPlace}
 
 -- a tidy and typed program with typed made definitions
 pub record IsTypedState (p : Program) (made : List Made) : Type 0 where
@@ -24,6 +34,36 @@ pub record IsTypedState (p : Program) (made : List Made) : Type 0 where
 abbrev pub StatesHaveTypedOrigins : Type 0
 StatesHaveTypedOrigins =
     (p : Program) (made : List Made) → IsTypedState p made → AreTypedOrigins (origins_in p made)
+
+-- the origins of made definitions hold none themselves
+abbrev pub OriginsHoldNoMade : Origins → Type 0
+OriginsHoldNoMade o =
+    (m : ℕ) (it : MadeOf) → slice_get o.made m ≡ Some it → HoldsNoMade it.origin
+
+-- a lifted function with a lambda for each parameter becomes a typed made definition
+abbrev pub LiftedBecomesTyped : Type 0
+LiftedBecomesTyped =
+    (o : Origins) (at : Spot) (g : TermTree) (t r : TypeTree) (ts : List TypeTree)
+    → AreTypedOrigins o → OriginsHoldNoMade o
+    → IsLifted o at g t ts r → length (t ∷ ts) ≤ leading_lambdas g → IsComplete o.program.datas g
+    → IsTypedMade o
+    (record { origin = origin_of o g; ty = from_each (t ∷ ts) r; sort = Value })
+    (first_body o.program (origin_of o g))
+
+-- a call as a closed term has the type of a function of its free variables
+abbrev pub CallOriginHasType : Type 0
+CallOriginHasType =
+    (o : Origins) (at : Spot) (e : TermTree) (ts : List TypeTree) (t : TypeTree)
+    → AreTypedOrigins o → IsTypedPlace o at
+    → IsCall o at e ts → Finds (setting_at o) [] at.vars e t
+    → HasTypeUpTo (setting_at o) [] [] (call_origin o ts e) (from_each ts t)
+
+-- and it is complete where the call is
+abbrev pub CallOriginIsComplete : Type 0
+CallOriginIsComplete =
+    (o : Origins) (ts : List TypeTree) (e : TermTree)
+    → AreTypedOrigins o → IsComplete o.program.datas e
+    → IsComplete o.program.datas (call_origin o ts e)
 
 -- a step by a rule that makes no definition leads from a typed state to a typed one
 abbrev pub StepsKeepState : Type 0

@@ -11,9 +11,11 @@ ghost use Rattle.rule_types.specs.Laws.{PrimitivesKeepType, PrimitivesKeepComple
 ghost use Rattle.rule_types.specs.Laws.{SignalsKeepType, SignalsKeepComplete};
 ghost use Rattle.rule_types.specs.Laws.{InstancesKeepType, InstancesKeepComplete};
 ghost use Rattle.rule_types.specs.States.{StatesHaveTypedOrigins, StepsKeepState};
+ghost use Rattle.rule_types.specs.States.{LiftedBecomesTyped};
+ghost use Rattle.rule_types.specs.States.{CallOriginHasType, CallOriginIsComplete};
 
 use chw_typing::laws::typed_is_sound;
-use scenes::laws::settings_of_scenes;
+use scenes::laws::{named_types, settings_of_scenes};
 
 /// A spine keeps its type, and stays complete, where its core does.
 pub fn cores_keep()
@@ -51,7 +53,8 @@ pub fn operands_keep()
     ensures complete { OperandsKeepComplete }
 {}
 
-/// A name for an operand of a call, or for what a result place gives, keeps types and complete terms.
+/// A name for an operand of a call, or for what a result place gives, keeps types and complete
+/// terms.
 pub fn names_in_wholes_keep()
     ensures types { NamesInWholesKeepType }
     ensures complete { NamesInWholesKeepComplete }
@@ -72,7 +75,8 @@ pub fn primitives_keep()
     ensures complete { PrimitivesKeepComplete }
 {}
 
-/// What rules make of functions on signals keeps types, but for the names of made definitions, and complete terms.
+/// What rules make of functions on signals keeps types, but for the names of made definitions. It
+/// keeps complete terms.
 pub fn signals_keep()
     ensures types { SignalsKeepType }
     ensures complete { SignalsKeepComplete }
@@ -90,4 +94,18 @@ pub fn steps_keep()
     ensures steps { StepsKeepState }
 {
     typed_is_sound();
+}
+
+/// A lifted function with a lambda for each parameter becomes a typed made definition.
+pub fn lifted_becomes_typed()
+    ensures { LiftedBecomesTyped }
+{}
+
+/// A call as a closed term has the type of a function of its free variables. It is complete where
+/// the call is.
+pub fn call_origins()
+    ensures types { CallOriginHasType }
+    ensures complete { CallOriginIsComplete }
+{
+    named_types();
 }
