@@ -1,5 +1,6 @@
 pub mod Calls
 pub mod Counter
+pub mod FirstBlocked
 pub mod FirstOrder
 pub mod Names
 pub mod Plain

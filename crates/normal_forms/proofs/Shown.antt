@@ -1,5 +1,5 @@
 -- The worked examples.
-use Rattle.std.proofs.Common.{◌≡◌, inl, inr, ℕ, suc, zero, ◌<◌, ◌==◌, ◌||◌, true, false, refl, sym, ◌∙◌, ap, subst, arith, List, [], ◌∷◌, map}
+use Rattle.std.proofs.Common.{◌≡◌, inl, inr, ℕ, suc, zero, ◌<◌, ◌==◌, ◌||◌, true, false, refl, sym, ◌∙◌, ap, subst, arith, List, [], ◌∷◌, map, Some}
 use Rattle.std.proofs.lemmas.Bool.{eqb-true, or_cases}
 use Rattle.chw_types.specs.declared.declarations.Data.{Data}
 use Rattle.chw_types.specs.declared.kind.Scalar.TheVariants.{U}
@@ -7,8 +7,8 @@ use Rattle.chw_types.specs.declared.ports.Leaf.{Leaf}
 use Rattle.chw_types.specs.Ports.{IsPort, Leaves, one_leaf, leaves_of_fields}
 use Rattle.chw_types.specs.SamePromises.{natural_value}
 use Rattle.chw_types.specs.Representable.{representable_scalar}
-use Rattle.chw_types.specs.TypeTree.{TypeTree, nat_lit, domain, scalar}
-use Rattle.chw_prims.specs.declared.prim.Primitive.TheVariants.{AddU, Register}
+use Rattle.chw_types.specs.TypeTree.{TypeTree, nat_lit, domain, scalar, fun}
+use Rattle.chw_prims.specs.declared.prim.Primitive.TheVariants.{AddU, Register, Ap}
 use Rattle.chw_terms.specs.declared.scene.Made.{Made}
 use Rattle.chw_terms.specs.declared.term.Arg.{Arg}
 use Rattle.chw_terms.specs.Occurs.{occurs}
@@ -19,12 +19,15 @@ use Rattle.chw_layout.specs.Measured.{Measure, Measured, measured_scalar, measur
 use Rattle.graph_order.specs.References.{Leads, step, step_and, HasNoCycle}
 use Rattle.spine_types.specs.Given.{types_then}
 use Rattle.active_places.proofs.OneStep.{head_of, head_applied}
-use Rattle.scenes.specs.Origins.{Origins, with_origins}
+use Rattle.active_places.specs.Spots.{asked_for}
+use Rattle.rewriting.specs.Shapes.{fmap_of}
+use Rattle.std.specs.List.{slice_get}
+use Rattle.scenes.specs.Origins.{MadeOf, Origins, with_origins}
 use Rattle.normal_forms.specs.Circuits.{IsConstant, constant_literal, constant_constructor, constant_vector, no_constants, constant_and, IsLiftedCall, lifted_on_one, lifted_on_more}
 use Rattle.normal_forms.specs.Circuits.{IsCircuitSide, of_variable, of_register, of_block_ram, of_synchronizer, of_pure, of_lifted, of_call, of_constructor, of_projection}
 use Rattle.normal_forms.specs.Circuits.{no_circuit_sides, circuit_side_and, circuit_letrec}
-use Rattle.normal_forms.specs.Examples.{byte, bytes, zeros, here, inner_group, chosen, cyclic, register_of, made_of_body, two_made}
-use Rattle.normal_forms.specs.Examples.{CounterIsCircuit, TwoLifted, Constants, CaseOfBlocks, NoCycle, NoLambda, NoVariableBegins, WidthHolds, WidthFails, WholeOfFirst, UsesItself}
+use Rattle.normal_forms.specs.Examples.{byte, bytes, zeros, of_byte, lifted_on_two, here, inner_group, chosen, cyclic, register_of, made_of_body, two_made}
+use Rattle.normal_forms.specs.Examples.{CounterIsCircuit, TwoLifted, Constants, CaseOfBlocks, NoCycle, NoLambda, NoVariableBegins, OneTooMany, WidthHolds, WidthFails, WholeOfFirst, UsesItself}
 use Rattle.normal_forms.specs.Uses.{names_made, Uses, WholeOf, whole_of}
 use Rattle.normal_forms.specs.Values.{on_names, BindingRefers, IsBlock, block_variable, block_letrec, no_sides, side_and, no_blocks, block_and}
 use Rattle.normal_forms.specs.Values.{IsSide, side_variable, side_literal, side_constructor, side_vector, side_primitive, side_call, side_case}
@@ -157,6 +160,40 @@ begins_refused (of_projection l) is = absurd cc
 
 pub no_variable_begins : NoVariableBegins
 no_variable_begins h = begins_refused h refl
+
+-- in `ap (fmap m1 x) y` m1 is lifted on two
+on_one : {m n : ℕ} {u : TermTree} → IsLiftedCall m u n → u ≡ fmap_of (domain 0) byte (fun byte byte) (made 1) (var 0) → (m ≡ 1) × (n ≡ 1)
+on_one lifted_on_one is = (cc, refl)
+on_one (lifted_on_more more) is = absurd cc
+
+on_two : {m n : ℕ} {u : TermTree} → IsLiftedCall m u n → u ≡ lifted_on_two 1 → (m ≡ 1) × (n ≡ 2)
+on_two lifted_on_one is = absurd cc
+on_two (lifted_on_more {u = u} more) is =
+    let same : u ≡ fmap_of (domain 0) byte (fun byte byte) (made 1) (var 0) = cc in
+    let below = on_one more same in (below.0, ap suc below.1)
+
+wrong_count : (m : ℕ) (it : MadeOf) → slice_get here.made m ≡ Some it → m ≡ 1 → asked_for it.ty ≡ 2 → ⊥
+wrong_count m it known one two =
+    let second : slice_get here.made 1 ≡ Some it = subst (λ k. slice_get here.made k ≡ Some it) one known in
+    let same : of_byte ≡ it = cc in
+    let count : asked_for of_byte.ty ≡ 2 = subst (λ (k : MadeOf). asked_for k.ty ≡ 2) (sym same) two in absurd cc
+
+head_ap : (e : TermTree) (args : List Arg) → head_of e ≡ e → applied e args ≡ lifted_on_two 1 → e ≡ prim Ap
+head_ap e args one is = head_is e (prim Ap) args (lifted_on_two 1) one refl is
+
+too_many_refused : {e : TermTree} → IsCircuitSide here e → e ≡ lifted_on_two 1 → ⊥
+too_many_refused of_variable is = absurd cc
+too_many_refused (of_register k) is = absurd cc
+too_many_refused (of_block_ram k) is = absurd cc
+too_many_refused of_synchronizer is = absurd cc
+too_many_refused (of_pure k) is = absurd cc
+too_many_refused (of_lifted m {it} k v chain) is = let at = on_two chain is in wrong_count m it k at.0 at.1
+too_many_refused (of_call m xs k v n) is = let same : made m ≡ prim Ap = head_ap (made m) (types_then [] (map (λ x. var x) xs)) refl is in absurd cc
+too_many_refused (of_constructor c types xs k n) is = let same : con c ≡ prim Ap = head_ap (con c) (types_then types (map (λ x. var x) xs)) refl is in absurd cc
+too_many_refused (of_projection l) is = absurd cc
+
+pub one_too_many : OneTooMany
+one_too_many h = too_many_refused h refl
 
 no_leaves_of_scalar : {datas : List Data} {t : TypeTree} {ls : List Leaf} → Leaves datas t ls → t ≡ byte → ⊥
 no_leaves_of_scalar (one_leaf r) is = absurd cc

@@ -38,8 +38,8 @@ use Rattle.rewriting.specs.Steps.{origins_in, HasNoStep}
 use Rattle.normal_forms.specs.Normal.{all_rules}
 use Rattle.normal_forms.specs.Values.{BindingRefers}
 
--- what blocks a place: a cycle of bindings, by their numbers; state of a payload that isn't
--- representable; a limit that is passed
+-- what blocks a place: a cycle of bindings, by their numbers; a payload that isn't representable; a
+-- limit that is passed
 pub data Block : Type 0 where
   recursion : List ℕ → Block
   payload : TypeTree → Block
@@ -62,7 +62,7 @@ IsUnnamedBinding o at g i =
     (b : TypeTree × TermTree) × (binding_at g i ≡ Some b)
     × (IsNamed o.program.datas at.mode b.0 → ⊥)
 
--- the primitive holds a state, and the payload is the type argument of this number
+-- a register, a block RAM or a synchronizer, and the number of the argument that is its payload
 abbrev pub HasPayload : Prim → ℕ → Type 0
 HasPayload Register j = j ≡ 1
 HasPayload BlockRam j = j ≡ 3

@@ -23,7 +23,8 @@ use Rattle.rewriting.specs.Shapes.{fmap_of, ap_of, pure_of}
 use Rattle.normal_forms.specs.Values.{on_names}
 
 mutual
-  -- a constant: of literals, constructors and vectors
+  -- a constant: a literal, or of constants a constructor with all that its type asks for, or a
+  -- vector
   pub data IsConstant (datas : List Data) : TermTree → Type 0 where
     constant_literal : {s : Scalar} {bits : List Bool} → IsConstant datas (lit s bits)
     constant_constructor : (c : ℕ) (types : List TypeTree) (es : List TermTree) {it : Constructor}

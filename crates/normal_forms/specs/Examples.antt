@@ -72,7 +72,7 @@ CounterIsCircuit = IsCircuitBody here counter
 abbrev pub CounterIsNormal : Type 0
 CounterIsNormal = IsNormalBody here counting counter
 
--- `ap (fmap m2 x) y`: m2 takes two bytes, and m1 doesn't
+-- `ap (fmap m x) y` is a right side for m2, which takes two bytes, and not for m1
 abbrev pub lifted_on_two : ℕ → TermTree
 lifted_on_two m =
     let on_one : TermTree = fmap_of (domain 0) byte (fun byte byte) (made m) (var 0) in
@@ -80,6 +80,9 @@ lifted_on_two m =
 
 abbrev pub TwoLifted : Type 0
 TwoLifted = IsCircuitSide here (lifted_on_two 2)
+
+abbrev pub OneTooMany : Type 0
+OneTooMany = IsCircuitSide here (lifted_on_two 1) → ⊥
 
 -- `Just @U8 0u8` and `vec @U8 [0u8, 0u8]` are constants
 abbrev pub Constants : Type 0

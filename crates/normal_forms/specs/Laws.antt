@@ -12,6 +12,7 @@ use Rattle.chw_typing.specs.Programs.{IsSound}
 use Rattle.term_contexts.specs.Around.{Around}
 use Rattle.scenes.specs.Origins.{setting_at}
 use Rattle.rewriting.specs.Steps.{origins_in}
+use Rattle.normal_forms.specs.Blocked.{BlockedPlace, IsFirstBlocked, rank_of}
 use Rattle.normal_forms.specs.Calls.{HoldsOnlyCalls}
 use Rattle.normal_forms.specs.Normal.{IsNormal}
 use Rattle.normal_forms.specs.Parts.{IsMonomorphic, IsFirstOrder}
@@ -52,3 +53,10 @@ WholeIsThere =
     (state : List Made) (m : ℕ)
     → IsAcyclic state → ((j n : ℕ) → Uses state j n → n < length state) → m < length state
     → (e : TermTree) × WholeOf state m e
+
+-- the first blocked place of a state is one place, and is blocked in one way
+abbrev pub OneFirstBlocked : Type 0
+OneFirstBlocked =
+    (p : Program) (state : List Made) (a b : BlockedPlace)
+    → IsFirstBlocked p state a → IsFirstBlocked p state b
+    → (a.number ≡ b.number) × (a.path ≡ b.path) × (rank_of a.block ≡ rank_of b.block)

@@ -1,6 +1,6 @@
 //! Worked examples, as the contract of a call that does nothing.
 ghost use Rattle.normal_forms.specs.BlockedExamples.{CycleBlocks, CounterIsFree, FunctionBlocks, WideBinding, LongVector};
-ghost use Rattle.normal_forms.specs.Examples.{CounterIsCircuit, CounterIsNormal, TwoLifted, Constants, CaseOfBlocks, NoCycle, NoLambda, NoVariableBegins, WidthHolds, WidthFails, WholeOfFirst, UsesItself};
+ghost use Rattle.normal_forms.specs.Examples.{CounterIsCircuit, CounterIsNormal, TwoLifted, Constants, CaseOfBlocks, NoCycle, NoLambda, NoVariableBegins, OneTooMany, WidthHolds, WidthFails, WholeOfFirst, UsesItself};
 
 /// Bodies in normal form.
 pub fn of_forms()
@@ -16,6 +16,7 @@ pub fn of_other_forms()
     ensures cycle { NoCycle }
     ensures lambda { NoLambda }
     ensures begins { NoVariableBegins }
+    ensures lifted { OneTooMany }
 {}
 
 /// Widths that are within the limits, and one that isn't.

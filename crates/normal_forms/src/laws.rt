@@ -1,5 +1,5 @@
 //! The laws, each as the contract of a call that does nothing.
-ghost use Rattle.normal_forms.specs.Laws.{NormalIsFirstOrder, NamesAreWires, NormalHoldsOnlyCalls, OneWhole, WholeIsThere};
+ghost use Rattle.normal_forms.specs.Laws.{NormalIsFirstOrder, NamesAreWires, NormalHoldsOnlyCalls, OneWhole, WholeIsThere, OneFirstBlocked};
 
 use scenes::laws::names_of_modes;
 
@@ -24,4 +24,9 @@ pub fn normal_holds_only_calls()
 pub fn one_whole()
     ensures one { OneWhole }
     ensures there { WholeIsThere }
+{}
+
+/// The first blocked place of a state is one place, and is blocked in one way.
+pub fn one_first_blocked()
+    ensures { OneFirstBlocked }
 {}
