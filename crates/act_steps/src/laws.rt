@@ -48,8 +48,8 @@ pub fn instance_acts()
     origins_keep_types();
 }
 
-/// After a step by such a rule the body of the made definition acts as before, and gives nothing that it
-/// didn't before.
+/// After a step by such a rule the body of the made definition acts as before, and gives nothing
+/// that it didn't before.
 pub fn step_acts()
     ensures acts { StepActs }
     ensures gives { StepGives }
