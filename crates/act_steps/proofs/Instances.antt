@@ -1,9 +1,6 @@
--- The origins of a typed scene, and what an instance of a flow rule makes there.
-use Rattle.std.specs.Prelude.{slice_get}
-use Rattle.std.proofs.Common.{◌≡◌, ℕ, List, [], map, Some, arith}
-use Rattle.chw_types.specs.TypeTree.{TypeTree}
+-- The origins of a typed scene, and what an instance of a rule up to INLINE makes there.
+use Rattle.std.proofs.Common.{[], map, arith}
 use Rattle.chw_terms.specs.declared.rule.Rule.{Rule}
-use Rattle.chw_terms.specs.declared.rule.Rule.TheVariants.{Spec, Anf}
 use Rattle.chw_terms.specs.declared.scene.Scene.{Scene}
 use Rattle.chw_terms.specs.TermTree.{TermTree, made}
 use Rattle.chw_typing.specs.Scopes.{setting_in, AreTermTypes}
@@ -13,11 +10,11 @@ use Rattle.scenes.specs.Laws.{TypedSceneIsSound, OriginNeedsProgram}
 use Rattle.scenes.specs.Origins.{origins_of, origin_at, with_origins}
 use Rattle.scenes.specs.Typed.{IsTypedScene}
 use Rattle.active_places.specs.Spots.{Spot}
-use Rattle.rewriting.specs.Calls.{OfWhole, spec_call, anf_call, anf_result}
+use Rattle.rewriting.specs.Calls.{spec_call, anf_call, anf_result}
 use Rattle.rewriting.specs.Instances.{HasInstance, on_core, on_whole}
 use Rattle.acts.specs.Terms.{OriginsTyped}
 use Rattle.act_rules.specs.Laws.{HasOrigins}
-use Rattle.act_steps.specs.Laws.{IsFlowRule, MadeActs, SpineActs, ActsInScene}
+use Rattle.act_steps.specs.Laws.{IsUpToInline, MadeActs, SpineActs, ActsInScene}
 
 scene_closed : TypedSceneIsSound → (scene : Scene) → IsTypedScene scene → AreClosed (setting_of scene.program.now) (map (λ m. m.ty) scene.made.now)
 scene_closed sound scene h x t q = let of = (sound scene h).made x t q in record { kind = of.kind; has = of.has; of_terms = of.of_terms }
@@ -30,7 +27,7 @@ pub scene_origins : TypedSceneIsSound → OriginNeedsProgram → (scene : Scene)
 scene_origins sound alone scene h =
     record { tidy = h.tidy; typed = h.typed; closed = scene_closed sound scene h; have_types = scene_typed alone scene h }
 
-pub instance_acts : MadeActs → SpineActs → TypedSceneIsSound → OriginNeedsProgram → (scene : Scene) (at : Spot) (r : Rule) (e e' : TermTree) → IsTypedScene scene → AreTermTypes (setting_in scene) [] at.vars → IsFlowRule r → HasInstance (origins_of scene) at r e e' → ActsInScene scene at.vars e' e
+pub instance_acts : MadeActs → SpineActs → TypedSceneIsSound → OriginNeedsProgram → (scene : Scene) (at : Spot) (r : Rule) (e e' : TermTree) → IsTypedScene scene → AreTermTypes (setting_in scene) [] at.vars → IsUpToInline r → HasInstance (origins_of scene) at r e e' → ActsInScene scene at.vars e' e
 instance_acts made_law spine sound alone scene at r e e' h g i (on_core core core' rest m d) =
     let o = scene_origins sound alone scene h in
     let types = map (λ m. m.ty) scene.made.now in

@@ -1,3 +1,4 @@
 pub mod Instances
 pub mod Made
 pub mod Spines
+pub mod Steps

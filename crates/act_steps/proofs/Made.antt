@@ -1,4 +1,4 @@
--- What a flow rule makes of its own shape keeps its meaning: the laws of each group of rules, by
+-- What a rule up to INLINE makes of its own shape keeps its meaning: the laws of each group of rules, by
 -- the shapes of the group.
 use Rattle.std.proofs.Common.{◌∙◌, sym, arith}
 use Rattle.std.proofs.lemmas.List.{length-map}
@@ -19,7 +19,7 @@ use Rattle.rewriting.specs.Instances.{Makes}
 use Rattle.act_rules.specs.Laws.{KeepsMeaning, TypeBetaActs, BetaActs, LetAppActs, LetTypeAppActs, CaseLetActs}
 use Rattle.act_cases.specs.Laws.{KeepsMeaningIn, CaseAppActs, CaseTypeAppActs, CaseCaseActs, CaseConActs, CaseLitActs, CaseDefaultActs, ProjectionsAct, PrimLetActs, PrimCaseActs}
 use Rattle.act_lets.specs.Laws.{LetInLetActs, LetInSideActs, DeadActs, InlineActs}
-use Rattle.act_steps.specs.Laws.{IsFlowRule}
+use Rattle.act_steps.specs.Laws.{IsUpToInline}
 
 -- the laws of the rules
 pub record RuleLaws : Type 0 where
@@ -69,7 +69,7 @@ lets_act l (flat_body {g = g} {cs = cs} {x = x} h n) = l.let_in_let g cs x
 lets_act l (dead {g = g} {e = e} {marks = m} h n k) = l.dead g e m n
 lets_act l (inline front t x back {e} h n k m) = l.inline front t x back e k
 
-pub made_acts : RuleLaws → (o : Origins) (at : Spot) (r : Rule) (core core' : TermTree) → IsFlowRule r → Makes o at r core core' → KeepsMeaningIn o.program core' core
+pub made_acts : RuleLaws → (o : Origins) (at : Spot) (r : Rule) (core core' : TermTree) → IsUpToInline r → Makes o at r core core' → KeepsMeaningIn o.program core' core
 made_acts l o at TyBeta e f i m = functions_act l m o.program
 made_acts l o at Beta e f i m = functions_act l m o.program
 made_acts l o at AppLet e f i m = functions_act l m o.program

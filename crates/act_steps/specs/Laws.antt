@@ -1,7 +1,5 @@
--- What is promised of the first thirteen rules, those on functions, cases, primitives with a
--- demanded argument, and letrecs: what they make acts as the term, in place.
-use Rattle.std.specs.Prelude.{◌≡◌, ◌≤◌, ℕ, List, [], map, Some}
-use Rattle.std.specs.List.{slice_get}
+-- What is promised of the rules up to INLINE: what they make acts as the term, in place.
+use Rattle.std.specs.Prelude.{◌≤◌, ℕ, List, [], map}
 use Rattle.chw_types.specs.declared.kind.Kind.{Kind}
 use Rattle.chw_types.specs.TypeTree.{TypeTree}
 use Rattle.chw_terms.specs.declared.program.Program.{Program}
@@ -11,27 +9,30 @@ use Rattle.chw_terms.specs.declared.term.Arg.{Arg}
 use Rattle.chw_terms.specs.TermTree.{TermTree}
 use Rattle.chw_terms.specs.TermView.{applied}
 use Rattle.chw_typing.specs.Scopes.{setting_in, AreTermTypes}
-use Rattle.scenes.specs.Origins.{Origins, origins_of, origin_at}
+use Rattle.chw_meaning.specs.Gives.{Better}
+use Rattle.term_paths.specs.Paths.{with_part}
+use Rattle.scenes.specs.Origins.{Origins, origins_of, origin_at, origin_of}
 use Rattle.scenes.specs.Typed.{IsTypedScene}
 use Rattle.active_places.specs.Spots.{Spot}
 use Rattle.rewriting.specs.Instances.{Makes, HasInstance}
-use Rattle.rewriting.specs.Steps.{number_of}
-use Rattle.acts.specs.Terms.{setting_with}
+use Rattle.rewriting.specs.Steps.{number_of, Where, HasStep}
+use Rattle.acts.specs.Terms.{ActsAs, setting_with}
 use Rattle.act_rules.specs.Laws.{HasOrigins}
 use Rattle.act_cases.specs.Laws.{KeepsMeaningIn}
 use Rattle.act_contexts.specs.Laws.{ActsAtTypes}
 
--- a rule on functions, on cases, on a primitive with a demanded argument, or on letrecs
-abbrev pub IsFlowRule : Rule → Type 0
-IsFlowRule r = number_of r ≤ 13
+-- one of the rules TYBETA to INLINE, which are those on functions, on cases, on primitives with a
+-- demanded argument, and on letrecs
+abbrev pub IsUpToInline : Rule → Type 0
+IsUpToInline r = number_of r ≤ 13
 
 -- what such a rule makes of its own shape keeps its meaning
 abbrev pub MadeActs : Type 0
 MadeActs =
     (o : Origins) (at : Spot) (r : Rule) (core core' : TermTree)
-    → IsFlowRule r → Makes o at r core core' → KeepsMeaningIn o.program core' core
+    → IsUpToInline r → Makes o at r core core' → KeepsMeaningIn o.program core' core
 
--- what acts as a term at each of its types does so with further arguments
+-- a term that acts as another at each type of that one does so with further arguments on both
 abbrev pub SpineActs : Type 0
 SpineActs =
     (p : Program) (types : List TypeTree) (o : ℕ → TermTree)
@@ -52,5 +53,26 @@ abbrev pub InstanceActs : Type 0
 InstanceActs =
     (scene : Scene) (at : Spot) (r : Rule) (e e' : TermTree)
     → IsTypedScene scene → AreTermTypes (setting_in scene) [] at.vars
-    → IsFlowRule r → HasInstance (origins_of scene) at r e e'
+    → IsUpToInline r → HasInstance (origins_of scene) at r e e'
     → ActsInScene scene at.vars e' e
+
+-- after a step by such a rule in a typed scene, the body of the made definition acts as before,
+-- both with the origins of made definitions
+abbrev pub StepActs : Type 0
+StepActs =
+    (scene : Scene) (w : Where) (new : TermTree)
+    → IsTypedScene scene → IsUpToInline w.rule
+    → (step : HasStep scene.program.now scene.made.now w new)
+    → ActsAs scene.program.now step.it.ty
+    (origin_of (origins_of scene) (with_part step.it.body w.path new))
+    (origin_of (origins_of scene) step.it.body)
+
+-- and it gives nothing that it didn't before
+abbrev pub StepGives : Type 0
+StepGives =
+    (scene : Scene) (w : Where) (new : TermTree)
+    → IsTypedScene scene → IsUpToInline w.rule
+    → (step : HasStep scene.program.now scene.made.now w new)
+    → Better scene.program.now step.it.ty
+    (origin_of (origins_of scene) (with_part step.it.body w.path new))
+    (origin_of (origins_of scene) step.it.body)

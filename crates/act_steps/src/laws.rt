@@ -1,13 +1,18 @@
 //! Laws of the meaning of steps, each as the contract of a call that does nothing.
-ghost use Rattle.act_steps.specs.Laws.{MadeActs, SpineActs, InstanceActs};
+ghost use Rattle.act_steps.specs.Laws.{MadeActs, SpineActs, InstanceActs, StepActs, StepGives};
 
-use act_cases::laws::{app_case_acts, case_case_acts, known_case_acts, prim_case_acts, prim_let_acts, projections_act};
+use act_cases::laws::{
+    app_case_acts, case_case_acts, known_case_acts, prim_case_acts, prim_let_acts, projections_act,
+};
 use act_contexts::laws::plug_acts;
 use act_lets::laws::{dead_acts, inline_acts, joined_lets_act};
 use act_rules::laws::{app_let_acts, beta_acts, case_let_acts, type_beta_acts};
+use active_places::laws::{active_is_around, place_of_scene_is_typed};
+use acts::laws::acts_gives;
+use chw_typing::laws::typed_is_sound;
 use scenes::laws::{origins_keep_types, settings_of_scenes};
 
-/// What a flow rule makes of its own shape acts as the shape.
+/// What a rule up to INLINE makes of its own shape acts as the shape.
 pub fn made_acts()
     ensures { MadeActs }
 {
@@ -33,7 +38,7 @@ pub fn spine_acts()
     plug_acts();
 }
 
-/// What an instance of a flow rule makes of a term acts as the term.
+/// What an instance of such a rule makes of a term acts as the term.
 pub fn instance_acts()
     ensures { InstanceActs }
 {
@@ -41,4 +46,20 @@ pub fn instance_acts()
     spine_acts();
     settings_of_scenes();
     origins_keep_types();
+}
+
+/// After a step by such a rule the body of the made definition acts as before, and gives nothing
+/// that it didn't before.
+pub fn step_acts()
+    ensures acts { StepActs }
+    ensures gives { StepGives }
+{
+    instance_acts();
+    plug_acts();
+    active_is_around();
+    place_of_scene_is_typed();
+    settings_of_scenes();
+    origins_keep_types();
+    acts_gives();
+    typed_is_sound();
 }
