@@ -1,0 +1,4 @@
+pub mod Expanded
+pub mod Named
+pub mod Operands
+pub mod Unfolded
