@@ -19,8 +19,8 @@ use Rattle.acts.specs.Terms.{ActsUnder, setting_with}
 use Rattle.act_rules.specs.Laws.{HasOrigins, KeepsMeaning}
 use Rattle.act_cases.specs.Laws.{KeepsMeaningIn}
 
--- a term in which the operand x stands at a path becomes `letrec { y : t = x; } in e`, where e has y
--- in its place
+-- a term in which the operand x stands at a path becomes `letrec { y : t = x; } in e`, where e has
+-- y in its place
 abbrev pub OperandNameActs : Type 0
 OperandNameActs =
     (origins : Origins) (at : Spot) (e x : TermTree) (path : List ℕ) (t : TypeTree)
