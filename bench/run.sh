@@ -22,10 +22,10 @@ sums, events, work = int(sys.argv[1]), int(sys.argv[2]), sys.argv[3]
 lines = ["module chw_top (input clk_Sys, input [15:0] i_Sys_x, output [15:0] o_Sys_o);", "  reg [15:0] r = 16'h0001;"]
 lines += [f"  wire [15:0] w{k};" for k in range(sums)]
 lines += ["  always @(posedge clk_Sys) r <= w%d;" % (sums - 1)]
-before = ["i_Sys_x", "r"]
+before = "r"
 for k in range(sums):
-    lines.append(f"  assign w{k} = {before[0]} + {before[1]};")
-    before = [before[1], f"w{k}"]
+    lines.append(f"  assign w{k} = {before} + i_Sys_x;")
+    before = f"w{k}"
 lines += ["  assign o_Sys_o = r;", "endmodule"]
 open(f"{work}/net.v", "w").write("\n".join(lines) + "\n")
 open(f"{work}/stim", "w").write(f"{events}* Sys: x=0003\n" if events else "")
