@@ -1,3 +1,4 @@
+pub mod Elements
 pub mod Expanded
 pub mod Named
 pub mod Operands
