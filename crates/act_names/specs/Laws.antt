@@ -1,16 +1,18 @@
 -- What is promised of rules on names: what they make of a typed term acts as the term. The types
 -- that they write in a letrec don't matter.
-use Rattle.std.specs.Prelude.{◌≡◌, ◌⊎◌, ℕ, ◌≤◌, List, [], ◌∷◌, Some, slice_get}
+use Rattle.std.specs.Prelude.{◌≡◌, ◌⊎◌, ℕ, ◌≤◌, min, Bool, List, [], ◌∷◌, Some, slice_get}
+use Rattle.chw_bits.specs.Bits.{number_of}
 use Rattle.chw_types.specs.declared.kind.Kind.{Kind}
+use Rattle.chw_types.specs.declared.kind.Scalar.TheVariants.{U}
 use Rattle.chw_types.specs.TypeTree.{TypeTree, nat_lit}
 use Rattle.chw_types.specs.Polynomials.{greatest}
 use Rattle.chw_prims.specs.declared.prim.Primitive.{Primitive as Prim}
-use Rattle.chw_prims.specs.declared.prim.Primitive.TheVariants.{VGet, VGetC}
+use Rattle.chw_prims.specs.declared.prim.Primitive.TheVariants.{VGet, VGetC, VAt}
 use Rattle.chw_terms.specs.declared.program.Def.{Def}
 use Rattle.chw_terms.specs.declared.program.Program.{Program}
 use Rattle.chw_terms.specs.TermMoves.{shift}
 use Rattle.chw_terms.specs.Evaluated.{evaluated}
-use Rattle.chw_terms.specs.TermTree.{TermTree, var, global, made, letrec, prim, vec_lit, Terms}
+use Rattle.chw_terms.specs.TermTree.{TermTree, var, global, made, letrec, prim, lit, vec_lit, Terms}
 use Rattle.chw_terms.specs.TermTree.{no_bindings, bind}
 use Rattle.chw_terms.specs.TermView.{applied}
 use Rattle.chw_typing.specs.HeadTypes.{from_each}
@@ -84,3 +86,12 @@ ElementActs =
     → (q ≡ VGet) ⊎ (q ≡ VGetC)
     → evaluated i ≡ nat_lit j → j ≤ greatest → element_at es j ≡ Some e
     → KeepsMeaning e (applied (prim q) (types_then (i ∷ n ∷ a ∷ []) (vec_lit t es ∷ [])))
+
+-- `vat @n @k @a (vec @t e0 ..) i`, where i is a literal, becomes element i; the last one, which has
+-- the number n, if i is greater
+abbrev pub ElementAtActs : Type 0
+ElementAtActs =
+    (n k a t : TypeTree) (es : Terms) (bits : List Bool) (m : ℕ) (e : TermTree)
+    → evaluated n ≡ nat_lit m → m ≤ greatest → element_at es (min (number_of bits) m) ≡ Some e
+    → KeepsMeaning e
+    (applied (prim VAt) (types_then (n ∷ k ∷ a ∷ []) (vec_lit t es ∷ lit U bits ∷ [])))

@@ -1,5 +1,5 @@
 //! Laws of the meaning of rules on names, each as the contract of a call that does nothing.
-ghost use Rattle.act_names.specs.Laws.{OperandNameActs, ArgumentNameActs, ResultNameActs, UnfoldGlobalActs, UnfoldMadeActs, EtaFunctionActs, ElementActs};
+ghost use Rattle.act_names.specs.Laws.{OperandNameActs, ArgumentNameActs, ResultNameActs, UnfoldGlobalActs, UnfoldMadeActs, EtaFunctionActs, ElementActs, ElementAtActs};
 
 use chw_typing::laws::typed_is_sound;
 
@@ -27,9 +27,10 @@ pub fn eta_function_acts()
     typed_is_sound();
 }
 
-/// An element of a written vector acts as what takes it.
+/// An element of a written vector acts as what takes it, by a type or by a literal.
 pub fn elements_act()
-    ensures { ElementActs }
+    ensures by_types { ElementActs }
+    ensures by_literals { ElementAtActs }
 {
     typed_is_sound();
 }
