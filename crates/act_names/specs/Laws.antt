@@ -79,7 +79,8 @@ EtaFunctionActs =
     → ActsUnder p kinds vars
     (with_origins o (fmap_of d a b (eta_expanded args g) s)) (with_origins o (fmap_of d a b g s)) t
 
--- `vget @i @n @a (vec @t e0 ..)`, or its form for circuits, becomes element i
+-- `vget @i @n @a (vec @t e0 ..)`, or its form for circuits, becomes element i. No type has a value
+-- over the greatest natural, so i's number isn't over it.
 abbrev pub ElementActs : Type 0
 ElementActs =
     (q : Prim) (i n a t : TypeTree) (es : Terms) (j : ℕ) (e : TermTree)
