@@ -1,4 +1,6 @@
+pub mod Elements
 pub mod Expanded
+pub mod Indexed
 pub mod Named
 pub mod Operands
 pub mod Unfolded

@@ -1,15 +1,25 @@
 -- What is promised of rules on names: what they make of a typed term acts as the term. The types
 -- that they write in a letrec don't matter.
-use Rattle.std.specs.Prelude.{◌≡◌, ℕ, List, Some, slice_get}
+use Rattle.std.specs.Prelude.{◌≡◌, ◌⊎◌, ℕ, ◌≤◌, min, Bool, List, [], ◌∷◌, Some, slice_get}
+use Rattle.chw_bits.specs.Bits.{number_of}
 use Rattle.chw_types.specs.declared.kind.Kind.{Kind}
-use Rattle.chw_types.specs.TypeTree.{TypeTree}
+use Rattle.chw_types.specs.declared.kind.Scalar.TheVariants.{U}
+use Rattle.chw_types.specs.TypeTree.{TypeTree, nat_lit}
+use Rattle.chw_types.specs.Polynomials.{greatest}
+use Rattle.chw_prims.specs.declared.prim.Primitive.{Primitive as Prim}
+use Rattle.chw_prims.specs.declared.prim.Primitive.TheVariants.{VGet, VGetC, VAt}
 use Rattle.chw_terms.specs.declared.program.Def.{Def}
 use Rattle.chw_terms.specs.declared.program.Program.{Program}
 use Rattle.chw_terms.specs.TermMoves.{shift}
-use Rattle.chw_terms.specs.TermTree.{TermTree, var, global, made, letrec, no_bindings, bind}
+use Rattle.chw_terms.specs.Evaluated.{evaluated}
+use Rattle.chw_terms.specs.TermTree.{TermTree, var, global, made, letrec, prim, lit, vec_lit, Terms}
+use Rattle.chw_terms.specs.TermTree.{no_bindings, bind}
+use Rattle.chw_terms.specs.TermView.{applied}
 use Rattle.chw_typing.specs.HeadTypes.{from_each}
 use Rattle.chw_typing.specs.Scopes.{AreTermTypes}
 use Rattle.chw_typing.specs.Typing.{HasType}
+use Rattle.spine_types.specs.Given.{types_then}
+use Rattle.term_paths.specs.Paths.{element_at}
 use Rattle.active_places.specs.Spots.{Spot}
 use Rattle.rewriting.specs.Operands.{StandsAt, StandsInCall, with_name}
 use Rattle.rewriting.specs.Shapes.{fmap_of}
@@ -19,8 +29,8 @@ use Rattle.acts.specs.Terms.{ActsUnder, setting_with}
 use Rattle.act_rules.specs.Laws.{HasOrigins, KeepsMeaning}
 use Rattle.act_cases.specs.Laws.{KeepsMeaningIn}
 
--- a term in which the operand x stands at a path becomes `letrec { y : t = x; } in e`, where e has
--- y in its place
+-- a term in which the operand x stands at a path becomes `letrec { y : t = x; } in e`, where e is
+-- the term with y in that place
 abbrev pub OperandNameActs : Type 0
 OperandNameActs =
     (origins : Origins) (at : Spot) (e x : TermTree) (path : List ℕ) (t : TypeTree)
@@ -68,3 +78,21 @@ EtaFunctionActs =
     → HasType (setting_with p types) kinds vars (fmap_of d a b g s) t
     → ActsUnder p kinds vars
     (with_origins o (fmap_of d a b (eta_expanded args g) s)) (with_origins o (fmap_of d a b g s)) t
+
+-- `vget @i @n @a (vec @t e0 ..)`, or its form for circuits, becomes element i. No type has a value
+-- over the greatest natural, so i's number isn't over it.
+abbrev pub ElementActs : Type 0
+ElementActs =
+    (q : Prim) (i n a t : TypeTree) (es : Terms) (j : ℕ) (e : TermTree)
+    → (q ≡ VGet) ⊎ (q ≡ VGetC)
+    → evaluated i ≡ nat_lit j → j ≤ greatest → element_at es j ≡ Some e
+    → KeepsMeaning e (applied (prim q) (types_then (i ∷ n ∷ a ∷ []) (vec_lit t es ∷ [])))
+
+-- `vat @n @k @a (vec @t e0 ..) i`, where i is a literal, becomes element i; the last one, which has
+-- the number n, if i is greater
+abbrev pub ElementAtActs : Type 0
+ElementAtActs =
+    (n k a t : TypeTree) (es : Terms) (bits : List Bool) (m : ℕ) (e : TermTree)
+    → evaluated n ≡ nat_lit m → m ≤ greatest → element_at es (min (number_of bits) m) ≡ Some e
+    → KeepsMeaning e
+    (applied (prim VAt) (types_then (n ∷ k ∷ a ∷ []) (vec_lit t es ∷ lit U bits ∷ [])))

@@ -1,5 +1,5 @@
 //! Laws of the meaning of rules on names, each as the contract of a call that does nothing.
-ghost use Rattle.act_names.specs.Laws.{OperandNameActs, ArgumentNameActs, ResultNameActs, UnfoldGlobalActs, UnfoldMadeActs, EtaFunctionActs};
+ghost use Rattle.act_names.specs.Laws.{OperandNameActs, ArgumentNameActs, ResultNameActs, UnfoldGlobalActs, UnfoldMadeActs, EtaFunctionActs, ElementActs, ElementAtActs};
 
 use chw_typing::laws::typed_is_sound;
 
@@ -23,6 +23,14 @@ pub fn unfolding_acts()
 /// A lifted function acts so with its parameters written out.
 pub fn eta_function_acts()
     ensures { EtaFunctionActs }
+{
+    typed_is_sound();
+}
+
+/// An element of a written vector acts as what takes it, by a type or by a literal.
+pub fn elements_act()
+    ensures by_types { ElementActs }
+    ensures by_literals { ElementAtActs }
 {
     typed_is_sound();
 }
