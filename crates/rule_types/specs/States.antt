@@ -14,7 +14,6 @@ use Rattle.chw_typing.specs.Programs.{IsComplete, IsTyped}
 use Rattle.chw_typing.specs.Typing.{HasTypeUpTo}
 use Rattle.scenes.specs.Origins.{HoldsNoMade, MadeOf, Origins, made_of, origin_of, setting_at}
 use Rattle.scenes.specs.Typed.{IsTypedMade}
-use Rattle.found_types.specs.Finding.{Finds}
 use Rattle.active_places.specs.Spots.{Spot}
 use Rattle.rewriting.specs.Calls.{IsCall, call_origin}
 use Rattle.rewriting.specs.Runs.{first_body, Step, StepsTo}
@@ -55,7 +54,7 @@ abbrev pub CallOriginHasType : Type 0
 CallOriginHasType =
     (o : Origins) (at : Spot) (e : TermTree) (ts : List TypeTree) (t : TypeTree)
     → AreTypedOrigins o → IsTypedPlace o at
-    → IsCall o at e ts → Finds (setting_at o) [] at.vars e t
+    → IsCall o at e ts t
     → HasTypeUpTo (setting_at o) [] [] (call_origin o ts e) (from_each ts t)
 
 -- and it is complete where the call is

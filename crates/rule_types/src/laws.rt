@@ -15,7 +15,7 @@ ghost use Rattle.rule_types.specs.States.{LiftedBecomesTyped};
 ghost use Rattle.rule_types.specs.States.{CallOriginHasType, CallOriginIsComplete};
 
 use chw_typing::laws::typed_is_sound;
-use scenes::laws::{named_types, settings_of_scenes};
+use scenes::laws::{names_of_modes, settings_of_scenes};
 
 /// A spine keeps its type, and stays complete, where its core does.
 pub fn cores_keep()
@@ -107,5 +107,5 @@ pub fn call_origins()
     ensures types { CallOriginHasType }
     ensures complete { CallOriginIsComplete }
 {
-    named_types();
+    names_of_modes();
 }
