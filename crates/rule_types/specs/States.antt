@@ -14,10 +14,9 @@ use Rattle.chw_typing.specs.Programs.{IsComplete, IsTyped}
 use Rattle.chw_typing.specs.Typing.{HasTypeUpTo}
 use Rattle.scenes.specs.Origins.{HoldsNoMade, MadeOf, Origins, made_of, origin_of, setting_at}
 use Rattle.scenes.specs.Typed.{IsTypedMade}
-use Rattle.found_types.specs.Finding.{Finds}
-use Rattle.active_places.specs.Spots.{Spot}
+use Rattle.active_places.specs.Spots.{HasLets, Spot}
 use Rattle.rewriting.specs.Calls.{IsCall, call_origin}
-use Rattle.rewriting.specs.Runs.{first_body, Step, StepsTo}
+use Rattle.rewriting.specs.Runs.{first_body, sort_at, Step, StepsTo}
 use Rattle.rewriting.specs.Shapes.{leading_lambdas}
 use Rattle.rewriting.specs.Signals.{IsLifted}
 use Rattle.rewriting.specs.Steps.{origins_in}
@@ -55,7 +54,7 @@ abbrev pub CallOriginHasType : Type 0
 CallOriginHasType =
     (o : Origins) (at : Spot) (e : TermTree) (ts : List TypeTree) (t : TypeTree)
     → AreTypedOrigins o → IsTypedPlace o at
-    → IsCall o at e ts → Finds (setting_at o) [] at.vars e t
+    → IsCall o at e ts t
     → HasTypeUpTo (setting_at o) [] [] (call_origin o ts e) (from_each ts t)
 
 -- and it is complete where the call is
@@ -64,6 +63,16 @@ CallOriginIsComplete =
     (o : Origins) (ts : List TypeTree) (e : TermTree)
     → AreTypedOrigins o → IsComplete o.program.datas e
     → IsComplete o.program.datas (call_origin o ts e)
+
+-- a complete call, where a value or a circuit is built, becomes a typed made definition
+abbrev pub CallBecomesTyped : Type 0
+CallBecomesTyped =
+    (o : Origins) (at : Spot) (e : TermTree) (ts : List TypeTree) (t : TypeTree)
+    → AreTypedOrigins o → OriginsHoldNoMade o → IsTypedPlace o at → HasLets at.mode
+    → IsCall o at e ts t → IsComplete o.program.datas e
+    → IsTypedMade o
+    (record { origin = call_origin o ts e; ty = from_each ts t; sort = sort_at at.mode })
+    (first_body o.program (call_origin o ts e))
 
 -- a step by a rule that makes no definition leads from a typed state to a typed one
 abbrev pub StepsKeepState : Type 0

@@ -13,9 +13,10 @@ ghost use Rattle.rule_types.specs.Laws.{InstancesKeepType, InstancesKeepComplete
 ghost use Rattle.rule_types.specs.States.{StatesHaveTypedOrigins, StepsKeepState};
 ghost use Rattle.rule_types.specs.States.{LiftedBecomesTyped};
 ghost use Rattle.rule_types.specs.States.{CallOriginHasType, CallOriginIsComplete};
+ghost use Rattle.rule_types.specs.States.{CallBecomesTyped};
 
 use chw_typing::laws::typed_is_sound;
-use scenes::laws::{named_types, settings_of_scenes};
+use scenes::laws::{names_of_modes, settings_of_scenes};
 
 /// A spine keeps its type, and stays complete, where its core does.
 pub fn cores_keep()
@@ -107,5 +108,12 @@ pub fn call_origins()
     ensures types { CallOriginHasType }
     ensures complete { CallOriginIsComplete }
 {
-    named_types();
+    names_of_modes();
+}
+
+/// A call of named types becomes a typed made definition.
+pub fn call_becomes_typed()
+    ensures { CallBecomesTyped }
+{
+    names_of_modes();
 }
