@@ -15,6 +15,7 @@ pub mod Lets
 pub mod LetsComplete
 pub mod Made
 pub mod Names
+pub mod NewState
 pub mod Operands
 pub mod Primitives
 pub mod PrimitivesComplete

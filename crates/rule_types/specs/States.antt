@@ -16,7 +16,8 @@ use Rattle.scenes.specs.Origins.{HoldsNoMade, MadeOf, Origins, made_of, origin_o
 use Rattle.scenes.specs.Typed.{IsTypedMade}
 use Rattle.active_places.specs.Spots.{HasLets, Spot}
 use Rattle.rewriting.specs.Calls.{IsCall, call_origin}
-use Rattle.rewriting.specs.Runs.{first_body, sort_at, Step, StepsTo}
+use Rattle.rewriting.specs.Instances.{HasInstance}
+use Rattle.rewriting.specs.Runs.{After, first_body, sort_at, Step, StepsTo}
 use Rattle.rewriting.specs.Shapes.{leading_lambdas}
 use Rattle.rewriting.specs.Signals.{IsLifted}
 use Rattle.rewriting.specs.Steps.{origins_in}
@@ -73,6 +74,14 @@ CallBecomesTyped =
     → IsTypedMade o
     (record { origin = call_origin o ts e; ty = from_each ts t; sort = sort_at at.mode })
     (first_body o.program (call_origin o ts e))
+
+-- the state with the definition that a rule makes at a typed place, of a complete term, is typed
+abbrev pub AfterKeepsState : Type 0
+AfterKeepsState =
+    (p : Program) (made with_new : List Made) (at : Spot) (e new : TermTree) (r : Rule)
+    → IsTypedState p made → IsTypedPlace (origins_in p made) at
+    → HasInstance (origins_in p made) at r e new → IsComplete p.datas e
+    → After p made at e r with_new → IsTypedState p with_new
 
 -- a step by a rule that makes no definition leads from a typed state to a typed one
 abbrev pub StepsKeepState : Type 0
