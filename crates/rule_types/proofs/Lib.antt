@@ -16,6 +16,7 @@ pub mod LetsComplete
 pub mod Made
 pub mod Names
 pub mod NewState
+pub mod Numbers
 pub mod Operands
 pub mod Primitives
 pub mod PrimitivesComplete

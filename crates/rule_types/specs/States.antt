@@ -1,6 +1,7 @@
 -- Typed states of rewriting, and what is promised of them.
 use Rattle.std.specs.Prelude.{◌≡◌, ℕ, ◌≤◌, List, [], ◌∷◌, length, Some}
 use Rattle.std.specs.List.{slice_get}
+use Rattle.chw_types.specs.SameTypes.{SameTypes}
 use Rattle.chw_types.specs.TypeTree.{TypeTree}
 use Rattle.chw_terms.specs.declared.program.Program.{Program}
 use Rattle.chw_terms.specs.declared.rule.Rule.{Rule}
@@ -16,6 +17,7 @@ use Rattle.scenes.specs.Origins.{HoldsNoMade, MadeOf, Origins, made_of, origin_o
 use Rattle.scenes.specs.Typed.{IsTypedMade}
 use Rattle.active_places.specs.Spots.{HasLets, Spot}
 use Rattle.rewriting.specs.Calls.{IsCall, call_origin}
+use Rattle.rewriting.specs.Numbers.{HasOrigin}
 use Rattle.rewriting.specs.Instances.{HasInstance}
 use Rattle.rewriting.specs.Runs.{After, first_body, sort_at, Step, StepsTo}
 use Rattle.rewriting.specs.Shapes.{leading_lambdas}
@@ -64,6 +66,14 @@ CallOriginIsComplete =
     (o : Origins) (ts : List TypeTree) (e : TermTree)
     → AreTypedOrigins o → IsComplete o.program.datas e
     → IsComplete o.program.datas (call_origin o ts e)
+
+-- a made definition whose origin is this term, with closed naturals as numbers, has the type that
+-- the term has, up to naturals
+abbrev pub OriginTellsType : Type 0
+OriginTellsType =
+    (o : Origins) (e : TermTree) (t : TypeTree) (m : ℕ)
+    → AreTypedOrigins o → HasTypeUpTo (setting_at o) [] [] e t
+    → (it : HasOrigin o e m) → SameTypes t it.0.ty
 
 -- a complete call, where a value or a circuit is built, becomes a typed made definition
 abbrev pub CallBecomesTyped : Type 0
