@@ -25,7 +25,7 @@ use Rattle.found_types.proofs.FoundTyped.{found_is_type}
 use Rattle.scenes.proofs.PutMade.{made_put}
 use Rattle.scenes.specs.Laws.{IsKindOf, NamedIsTermKind}
 use Rattle.scenes.specs.Named.{IsNamed}
-use Rattle.scenes.specs.Origins.{Origins, origin_at, setting_at, under_each}
+use Rattle.scenes.specs.Origins.{MadeOf, Origins, origin_at, setting_at, under_each}
 use Rattle.active_places.specs.Spots.{Spot}
 use Rattle.rewriting.specs.Calls.{IsCall, call_origin, to_lambdas}
 use Rattle.rule_types.proofs.Complete.{renamed_complete}
@@ -94,8 +94,9 @@ from_named_kind law s mode vars (x ∷ xs) (u ∷ us) t h g e named k =
     let of = typed_at s [] vars x u g at in
     kind_fun (kind_there s mode u of.kind (law s mode u of.kind h of.has named.0) of.has) (from_named_kind law s mode vars xs us t h g rest named.1 k) (functions_there mode)
 
-pub call_typed : NamedIsTermKind → (o : Origins) (at : Spot) (e : TermTree) (ts : List TypeTree) (t : TypeTree) → AreTypedOrigins o → IsTypedPlace o at → IsCall o at e ts t → HasTypeUpTo (setting_at o) [] [] (call_origin o ts e) (from_each ts t)
-call_typed law o at e ts t w h call = made_put closed h.sound (setting_at o).made h.sound (origin_at o) (origins_put o w) tt
+pub call_closed : NamedIsTermKind → (o : Origins) (at : Spot) (e : TermTree) (ts : List TypeTree) (t : TypeTree) → IsTypedPlace o at → IsCall o at e ts t → HasType (setting_at o) [] [] (under_each ts (rename e (to_lambdas (free_in e)))) (from_each ts t)
+call_closed law o at e ts t h call =
+    under_each_typed ts t (rename e (to_lambdas (free_in e))) (kind_at at.mode) (from_named_kind law s at.mode at.vars (free_in e) ts t h.sound h.vars call.free call.free_named kind) moved
   where
     s : Setting
     s = setting_at o
@@ -110,8 +111,8 @@ call_typed law o at e ts t w h call = made_put closed h.sound (setting_at o).mad
         let of = type_kinded (found_is_type call.has) h.sound h.vars in
         kind_there s at.mode t of.kind (law s at.mode t of.kind h.sound of.has call.named) of.has
 
-    closed : HasType s [] [] (under_each ts (rename e (to_lambdas (free_in e)))) (from_each ts t)
-    closed = under_each_typed ts t (rename e (to_lambdas (free_in e))) (kind_at at.mode) (from_named_kind law s at.mode at.vars (free_in e) ts t h.sound h.vars call.free call.free_named kind) moved
+pub call_typed : NamedIsTermKind → (o : Origins) (at : Spot) (e : TermTree) (ts : List TypeTree) (t : TypeTree) → AreTypedOrigins o → IsTypedPlace o at → IsCall o at e ts t → HasTypeUpTo (setting_at o) [] [] (call_origin o ts e) (from_each ts t)
+call_typed law o at e ts t w h call = made_put (call_closed law o at e ts t h call) h.sound (map (λ (m : MadeOf). m.ty) o.made) h.sound (origin_at o) (origins_put o w) tt
 
 pub call_complete : (o : Origins) (ts : List TypeTree) (e : TermTree) → AreTypedOrigins o → IsComplete o.program.datas e → IsComplete o.program.datas (call_origin o ts e)
 call_complete o ts e w h =

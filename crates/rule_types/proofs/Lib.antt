@@ -15,6 +15,8 @@ pub mod Lets
 pub mod LetsComplete
 pub mod Made
 pub mod Names
+pub mod NewState
+pub mod Numbers
 pub mod Operands
 pub mod Primitives
 pub mod PrimitivesComplete

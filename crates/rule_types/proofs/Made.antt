@@ -1,5 +1,5 @@
 -- What a call, or a lifted function, becomes a made definition of.
-use Rattle.std.proofs.Common.{◌∷◌, ◌≡◌, List, None, Option, Some, [], ap, refl, subst, sym, ℕ}
+use Rattle.std.proofs.Common.{◌∷◌, ◌≡◌, List, None, Option, Some, [], ap, map, refl, subst, sym, ℕ}
 use Rattle.std.specs.List.{slice_get}
 use Rattle.std.specs.Prelude.{option_map, unwrap_or}
 use Rattle.chw_types.proofs.SameLaws.{same_through}
@@ -161,7 +161,7 @@ origins_hold_none o h m u e =
 -- a made definition of a closed term of named types, with a lambda for each parameter
 pub made_typed : (o : Origins) → AreTypedOrigins o → ((m : ℕ) (it : MadeOf) → slice_get o.made m ≡ Some it → HoldsNoMade it.origin) → (e : TermTree) (t : TypeTree) (sort : Sort) → HasType (setting_at o) [] [] e t → IsComplete o.program.datas e → HasLeadingLambdas (origin_of o e) t → LeadsToNamed o.program.datas (mode_of sort) t → IsTypedMade o (record { origin = origin_of o e; ty = t; sort = sort }) (first_body o.program (origin_of o e))
 made_typed o w none e t sort d complete leads named =
-    let put = made_put d w.sound (setting_at o).made w.sound (origin_at o) (origins_put o w) tt in
+    let put = made_put d w.sound (map (λ (m : MadeOf). m.ty) o.made) w.sound (origin_at o) (origins_put o w) tt in
     let first = first_typed o w (origin_of o e) [] tt put.type put.has in
     let whole = put_complete o.program.datas (origin_at o) (origins_put_complete o w) e complete in
     record {

@@ -1,6 +1,7 @@
 -- Typed states of rewriting, and what is promised of them.
 use Rattle.std.specs.Prelude.{◌≡◌, ℕ, ◌≤◌, List, [], ◌∷◌, length, Some}
 use Rattle.std.specs.List.{slice_get}
+use Rattle.chw_types.specs.SameTypes.{SameTypes}
 use Rattle.chw_types.specs.TypeTree.{TypeTree}
 use Rattle.chw_terms.specs.declared.program.Program.{Program}
 use Rattle.chw_terms.specs.declared.rule.Rule.{Rule}
@@ -14,9 +15,11 @@ use Rattle.chw_typing.specs.Programs.{IsComplete, IsTyped}
 use Rattle.chw_typing.specs.Typing.{HasTypeUpTo}
 use Rattle.scenes.specs.Origins.{HoldsNoMade, MadeOf, Origins, made_of, origin_of, setting_at}
 use Rattle.scenes.specs.Typed.{IsTypedMade}
-use Rattle.active_places.specs.Spots.{Spot}
+use Rattle.active_places.specs.Spots.{HasLets, Spot}
 use Rattle.rewriting.specs.Calls.{IsCall, call_origin}
-use Rattle.rewriting.specs.Runs.{first_body, Step, StepsTo}
+use Rattle.rewriting.specs.Numbers.{HasOrigin}
+use Rattle.rewriting.specs.Instances.{HasInstance}
+use Rattle.rewriting.specs.Runs.{After, first_body, sort_at, Step, StepsTo}
 use Rattle.rewriting.specs.Shapes.{leading_lambdas}
 use Rattle.rewriting.specs.Signals.{IsLifted}
 use Rattle.rewriting.specs.Steps.{origins_in}
@@ -63,6 +66,32 @@ CallOriginIsComplete =
     (o : Origins) (ts : List TypeTree) (e : TermTree)
     → AreTypedOrigins o → IsComplete o.program.datas e
     → IsComplete o.program.datas (call_origin o ts e)
+
+-- a made definition whose origin is this term, with closed naturals as numbers, has the type that
+-- the term has, up to naturals
+abbrev pub OriginTellsType : Type 0
+OriginTellsType =
+    (o : Origins) (e : TermTree) (t : TypeTree) (m : ℕ)
+    → AreTypedOrigins o → HasTypeUpTo (setting_at o) [] [] e t
+    → (it : HasOrigin o e m) → SameTypes t it.0.ty
+
+-- a complete call, where a value or a circuit is built, becomes a typed made definition
+abbrev pub CallBecomesTyped : Type 0
+CallBecomesTyped =
+    (o : Origins) (at : Spot) (e : TermTree) (ts : List TypeTree) (t : TypeTree)
+    → AreTypedOrigins o → OriginsHoldNoMade o → IsTypedPlace o at → HasLets at.mode
+    → IsCall o at e ts t → IsComplete o.program.datas e
+    → IsTypedMade o
+    (record { origin = call_origin o ts e; ty = from_each ts t; sort = sort_at at.mode })
+    (first_body o.program (call_origin o ts e))
+
+-- the state with the definition that a rule makes at a typed place, of a complete term, is typed
+abbrev pub AfterKeepsState : Type 0
+AfterKeepsState =
+    (p : Program) (made with_new : List Made) (at : Spot) (e new : TermTree) (r : Rule)
+    → IsTypedState p made → IsTypedPlace (origins_in p made) at
+    → HasInstance (origins_in p made) at r e new → IsComplete p.datas e
+    → After p made at e r with_new → IsTypedState p with_new
 
 -- a step by a rule that makes no definition leads from a typed state to a typed one
 abbrev pub StepsKeepState : Type 0

@@ -13,6 +13,7 @@ ghost use Rattle.rule_types.specs.Laws.{InstancesKeepType, InstancesKeepComplete
 ghost use Rattle.rule_types.specs.States.{StatesHaveTypedOrigins, StepsKeepState};
 ghost use Rattle.rule_types.specs.States.{LiftedBecomesTyped};
 ghost use Rattle.rule_types.specs.States.{CallOriginHasType, CallOriginIsComplete};
+ghost use Rattle.rule_types.specs.States.{CallBecomesTyped, AfterKeepsState, OriginTellsType};
 
 use chw_typing::laws::typed_is_sound;
 use scenes::laws::{names_of_modes, settings_of_scenes};
@@ -109,3 +110,23 @@ pub fn call_origins()
 {
     names_of_modes();
 }
+
+/// A call of named types becomes a typed made definition.
+pub fn call_becomes_typed()
+    ensures { CallBecomesTyped }
+{
+    names_of_modes();
+}
+
+/// The state with the definition that a rule makes is typed.
+pub fn new_states_keep()
+    ensures { AfterKeepsState }
+{
+    typed_is_sound();
+    names_of_modes();
+}
+
+/// A made definition has the type of a term that is its origin, up to naturals.
+pub fn origins_tell_types()
+    ensures { OriginTellsType }
+{}
