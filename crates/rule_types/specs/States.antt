@@ -8,7 +8,7 @@ use Rattle.chw_terms.specs.declared.rule.Rule.{Rule}
 use Rattle.chw_terms.specs.declared.rule.Rule.TheVariants.{Spec}
 use Rattle.chw_terms.specs.declared.scene.Made.{Made}
 use Rattle.chw_terms.specs.declared.scene.Sort.TheVariants.{Value}
-use Rattle.chw_terms.specs.TermTree.{TermTree}
+use Rattle.chw_terms.specs.TermTree.{TermTree, made}
 use Rattle.chw_terms.specs.Tidy.{IsTidy}
 use Rattle.chw_typing.specs.HeadTypes.{from_each}
 use Rattle.chw_typing.specs.Programs.{IsComplete, IsTyped}
@@ -17,8 +17,8 @@ use Rattle.scenes.specs.Origins.{HoldsNoMade, MadeOf, Origins, made_of, origin_o
 use Rattle.scenes.specs.Typed.{IsTypedMade}
 use Rattle.active_places.specs.Spots.{HasLets, Spot}
 use Rattle.rewriting.specs.Calls.{IsCall, call_origin}
-use Rattle.rewriting.specs.Numbers.{HasOrigin}
 use Rattle.rewriting.specs.Instances.{HasInstance}
+use Rattle.rewriting.specs.Numbers.{HasOrigin, IsNumberOf}
 use Rattle.rewriting.specs.Runs.{After, first_body, sort_at, Step, StepsTo}
 use Rattle.rewriting.specs.Shapes.{leading_lambdas}
 use Rattle.rewriting.specs.Signals.{IsLifted}
@@ -74,6 +74,13 @@ OriginTellsType =
     (o : Origins) (e : TermTree) (t : TypeTree) (m : ℕ)
     → AreTypedOrigins o → HasTypeUpTo (setting_at o) [] [] e t
     → (it : HasOrigin o e m) → SameTypes t it.0.ty
+
+-- so the number that is taken for an origin names a made definition of its type, where there is one
+abbrev pub NumberHasType : Type 0
+NumberHasType =
+    (o : Origins) (vars : List TypeTree) (e : TermTree) (t : TypeTree) (m n : ℕ)
+    → AreTypedOrigins o → HasTypeUpTo (setting_at o) [] [] e t → HasOrigin o e n
+    → IsNumberOf o e m → HasTypeUpTo (setting_at o) [] vars (made m) t
 
 -- a complete call, where a value or a circuit is built, becomes a typed made definition
 abbrev pub CallBecomesTyped : Type 0

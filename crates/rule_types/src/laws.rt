@@ -14,6 +14,7 @@ ghost use Rattle.rule_types.specs.States.{StatesHaveTypedOrigins, StepsKeepState
 ghost use Rattle.rule_types.specs.States.{LiftedBecomesTyped};
 ghost use Rattle.rule_types.specs.States.{CallOriginHasType, CallOriginIsComplete};
 ghost use Rattle.rule_types.specs.States.{CallBecomesTyped, AfterKeepsState, OriginTellsType};
+ghost use Rattle.rule_types.specs.States.{NumberHasType};
 
 use chw_typing::laws::typed_is_sound;
 use scenes::laws::{names_of_modes, settings_of_scenes};
@@ -126,7 +127,9 @@ pub fn new_states_keep()
     names_of_modes();
 }
 
-/// A made definition has the type of a term that is its origin, up to naturals.
+/// A made definition has the type of a term that is its origin, up to naturals; so has the number
+/// that is taken for the term.
 pub fn origins_tell_types()
-    ensures { OriginTellsType }
+    ensures origin { OriginTellsType }
+    ensures number { NumberHasType }
 {}
