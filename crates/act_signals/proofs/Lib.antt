@@ -1,3 +1,4 @@
 pub mod Joined
 pub mod Opened
 pub mod Payloads
+pub mod Rules

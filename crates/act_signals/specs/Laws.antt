@@ -3,7 +3,10 @@
 use Rattle.chw_types.specs.TypeTree.{TypeTree, fun}
 use Rattle.chw_terms.specs.TermTree.{TermTree, app}
 use Rattle.rewriting.specs.Shapes.{fmap_of, ap_of, pure_of}
-use Rattle.rewriting.specs.Lifted.{composed, before_each, on_value, behind_each, each_composed}
+use Rattle.active_places.specs.Spots.{Spot}
+use Rattle.rewriting.specs.Lifted.{Joins, composed, before_each, on_value}
+use Rattle.rewriting.specs.Lifted.{behind_each, each_composed}
+use Rattle.scenes.specs.Origins.{Origins}
 use Rattle.act_rules.specs.Laws.{KeepsMeaning}
 
 -- `ap (pure f) s` becomes `fmap f s`
@@ -58,3 +61,7 @@ ApApActs =
     (fmap_of d (fun b c) (fun (fun a b) (fun a c)) (each_composed th tk tx) u) v)
     w)
     (ap_of d b c u (ap_of d' a b' v w))
+
+-- where the rule joins functions on signals, at any place of a scene
+abbrev pub JoinsAct : Type 0
+JoinsAct = (o : Origins) (at : Spot) (e e' : TermTree) → Joins o at e e' → KeepsMeaning e' e

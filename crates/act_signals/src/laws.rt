@@ -1,5 +1,5 @@
 //! Laws of the meaning of functions on signals that are joined, each as the contract of a call that does nothing.
-ghost use Rattle.act_signals.specs.Laws.{ApPureActs, FmapPureActs, FmapFmapActs, FmapApActs, ApValueActs, ApFmapActs, ApApActs};
+ghost use Rattle.act_signals.specs.Laws.{ApPureActs, FmapPureActs, FmapFmapActs, FmapApActs, ApValueActs, ApFmapActs, ApApActs, JoinsAct};
 
 use chw_typing::laws::typed_is_sound;
 
@@ -18,6 +18,13 @@ pub fn composed_acts()
     ensures calls { FmapApActs }
     ensures called_maps { ApFmapActs }
     ensures called_calls { ApApActs }
+{
+    typed_is_sound();
+}
+
+/// What the rule on functions on signals makes of a term acts so.
+pub fn joins_act()
+    ensures { JoinsAct }
 {
     typed_is_sound();
 }
