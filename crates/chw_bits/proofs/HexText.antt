@@ -1,12 +1,12 @@
 -- Lemmas on the number of a hexadecimal text.
-use Rattle.std.proofs.Common.{◌≡◌, ℕ, zero, suc, ◌+◌, ◌-◌, ◌*◌, ◌/◌, ◌%◌, ◌^◌, ◌<◌, ◌≤◌, ◌↔◌, ◌==◌, List, [], ◌∷◌, length, get_or, take, sym, ap, ◌∙◌, arith, zero-add}
+use Rattle.std.proofs.Common.{◌≡◌, ℕ, zero, suc, ◌+◌, ◌-◌, ◌*◌, ◌/◌, ◌%◌, ◌^◌, ◌<◌, ◌≤◌, ◌↔◌, ◌==◌, Bool, List, [], ◌∷◌, ◌++◌, length, get_or, take, sym, ap, ◌∙◌, arith, append_assoc, zero-add}
 use Rattle.std.proofs.Math.Nat.{pow-suc, div-one, div-div-eq-div-mul, div-lt_iff_lt-mul}
 use Rattle.std.proofs.lemmas.Nat.{pow-add, pow_pos, shr-shr, field_of, mod-pow-add, mod_low, div-mul-add, mod-mul-add, mod_below}
 use Rattle.std.proofs.lemmas.List.{take_all}
 use Rattle.std.proofs.lemmas.Int.Digits.{digits_value_more}
 use Rattle.std.specs.Char.{digit_value}
 use Rattle.std.specs.Str.Parse.{digits_value, AllDigits}
-use Rattle.chw_bits.specs.Bits.{bit_of}
+use Rattle.chw_bits.specs.Bits.{bit_of, bits_of}
 use Rattle.chw_bits.specs.Hex.{digits_at}
 use Rattle.chw_bits.proofs.Digits.{pow_of_16}
 
@@ -72,3 +72,25 @@ first_below text width all count positive =
     let positive_power : 0 < 16 ^ k = omega (arith, pow_of_16 k, pow_pos (4 * k)) in
     let shifted = div-lt_iff_lt-mul {k = 16 ^ k} {x = digits_value 16 text} {y = 2 ^ r} positive_power in
     (λ below. omega (arith, shifted.0 (omega arith)), λ below. omega (arith, shifted.1 (omega arith)))
+
+-- the lowest bits of the digit of a place stand in front of those of the places below it
+pub bits_of_digit : (n k c : ℕ) → c ≤ 4 → bits_of (4 * k + c) n ≡ bits_of c (n / 16 ^ k % 16) ++ bits_of (4 * k) n
+bits_of_digit n k zero few = ap (λ w. bits_of w n) (omega arith)
+bits_of_digit n k (suc c) few =
+    let next : 4 * k + suc c ≡ suc (4 * k + c) = omega arith in
+    let place : (4 * k + c) / 4 ≡ k = omega arith in
+    let within : (4 * k + c) % 4 ≡ c = omega arith in
+    let bit : bit_of (4 * k + c) n ≡ bit_of c (n / 16 ^ k % 16) = bit_of_digit n (4 * k + c) ∙ ap (λ r. bit_of r (n / 16 ^ ((4 * k + c) / 4) % 16)) within ∙ ap (λ j. bit_of c (n / 16 ^ j % 16)) place in
+    ap (λ w. bits_of w n) next ∙ ap (λ b. b ∷ bits_of (4 * k + c) n) bit ∙ ap (λ bs. bit_of c (n / 16 ^ k % 16) ∷ bs) (bits_of_digit n k c (omega arith))
+
+-- the digits so far and those that are left: one more, of which so many bits are taken
+pub bits_of_digits_left : (xs all : List Bool) (text : List ℕ) (i c : ℕ) → AllDigits 16 text → i < length text → c ≤ 4 → xs ++ bits_of (4 * (length text - (i + 1)) + c) (digits_value 16 text) ≡ all → (xs ++ bits_of c (digit_value (get_or text i 0))) ++ bits_of (4 * (length text - (i + 1))) (digits_value 16 text) ≡ all
+bits_of_digits_left xs all text i c are below few e =
+    let n = digits_value 16 text in
+    let k = length text - (i + 1) in
+    let back : length text - 1 - k ≡ i = omega arith in
+    let digit : n / 16 ^ k % 16 ≡ digit_value (get_or text i 0) = digit_of_place text k are (omega arith) ∙ ap (λ j. digit_value (get_or text j 0)) back in
+    append_assoc xs (bits_of c (digit_value (get_or text i 0))) (bits_of (4 * k) n)
+    ∙ ap (λ d. xs ++ (bits_of c d ++ bits_of (4 * k) n)) (sym digit)
+    ∙ ap (λ bs. xs ++ bs) (sym (bits_of_digit n k c few))
+    ∙ e

@@ -1,5 +1,5 @@
 //! Bits read from hexadecimal text.
-ghost use Rattle.std.specs.Prelude.{◌≡◌, ◌+◌, ◌<◌, ◌*◌, ◌^◌, ◌↔◌, length, IfOk, IsTrue};
+ghost use Rattle.std.specs.Prelude.{◌≡◌, ◌+◌, ◌<◌, ◌≤◌, ◌*◌, ◌^◌, ◌++◌, ◌↔◌, length, IfOk, IsTrue, OnOk};
 ghost use Rattle.std.specs.Char.{digit_value};
 ghost use Rattle.std.specs.Str.Parse.{digits_value, AllDigits};
 ghost use Rattle.chw_base.specs.Outcome.{IfFault, OnMemory};
@@ -9,7 +9,7 @@ ghost use Rattle.chw_bits.specs.Hex.{HasWidth, IsFaultOf, digits_at};
 use crate::bits::Bits;
 use crate::hex::digit_count;
 use crate::places::{bit_at, fits};
-use chw_base::Or;
+use chw_base::{NoMemory, Or};
 use std::alloc::Global;
 use thiserror::Error;
 
@@ -59,14 +59,45 @@ fn fits_width(text: &[u8], width: u32) -> bool
     fits(u128::from(number_of_digit(text[0])), (width - 1) % 4 + 1)
 }
 
-/// Whether the bit of this place is set in the number of a hexadecimal text.
-fn hex_bit(text: &[u8], place: u32) -> bool
-    requires hex { AllDigits 16 text.now }
-    requires within { place < 4 * length text.now }
-    ensures { result ≡ bit_of place (digits_value 16 text.now) }
+/// Appends the lowest bits of a digit, as many as the count.
+fn put_few(bits: &mut Vec<bool>, digit: u8, count: u32) -> Result<(), NoMemory>
+    requires { count ≤ 4 }
+    ensures { OnOk result (bits.new.items ≡ bits.old.items ++ bits_of count digit) }
 {
-    let digit = number_of_digit(text[text.len() - 1 - place as usize / 4]);
-    bit_at(u128::from(digit), place % 4)
+    for i in 0..count {
+        bits.push(bit_at(u128::from(digit), count - 1 - i))?;
+    }
+    Ok(())
+}
+
+/// Appends the four bits of a digit.
+fn put_digit(bits: &mut Vec<bool>, digit: u8) -> Result<(), NoMemory>
+    ensures { OnOk result (bits.new.items ≡ bits.old.items ++ bits_of 4 digit) }
+{
+    let digit = u128::from(digit);
+    let four = [
+        bit_at(digit, 3),
+        bit_at(digit, 2),
+        bit_at(digit, 1),
+        bit_at(digit, 0),
+    ];
+    Ok(bits.extend_from_slice(&four)?)
+}
+
+/// Appends the bits of a hexadecimal text, as many as the width, of which its digits have no bit above.
+fn put_text(bits: &mut Vec<bool>, text: &[u8], width: u32) -> Result<(), NoMemory>
+    requires hex { AllDigits 16 text.now }
+    requires count { length text.now ≡ digits_at width }
+    ensures { OnOk result (bits.new.items ≡ bits.old.items ++ bits_of width (digits_value 16 text.now)) }
+{
+    if width == 0 {
+        return Ok(());
+    }
+    put_few(bits, number_of_digit(text[0]), (width - 1) % 4 + 1)?;
+    for i in 1..text.len() {
+        put_digit(bits, number_of_digit(text[i]))?;
+    }
+    Ok(())
 }
 
 impl Bits {
@@ -87,9 +118,8 @@ impl Bits {
             return Err(Or::Fault(HexFault::Width));
         }
         let mut bits = Vec::new(alloc);
-        for i in 0..width {
-            bits.push(hex_bit(text, width - 1 - i))?;
-        }
+        bits.reserve(width as usize)?;
+        put_text(&mut bits, text, width)?;
         Ok(Bits { bits })
     }
 }
