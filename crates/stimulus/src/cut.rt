@@ -4,13 +4,14 @@ ghost use Rattle.std.specs.List.{position};
 ghost use Rattle.stimulus.specs.Texts.{is, has, before, behind, split_at, texts};
 
 use chw_base::NoMemory;
+use memchr::memchr;
 use std::alloc::Global;
 
 /// The place of the first such byte.
 fn place(text: &[u8], byte: u8) -> Option<usize>
     ensures { result ≡ position (is byte) text.now }
 {
-    text.iter().position(|b| *b == byte)
+    memchr(byte, text)
 }
 
 /// What stands before the first such byte and behind it, where there is one.
