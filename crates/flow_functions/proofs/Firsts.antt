@@ -6,7 +6,6 @@ use Rattle.chw_terms.specs.declared.rule.Rule.TheVariants.{TyBeta, Beta, AppLet,
 use Rattle.chw_terms.specs.declared.term.Arg.{Arg}
 use Rattle.chw_terms.specs.declared.term.Arg.TheVariants.{OfTerm, OfType}
 use Rattle.chw_terms.specs.declared.term.Head.{Head}
-use Rattle.chw_terms.specs.declared.term.Head.TheVariants.{Var, Global, Made, Lam, TyLam, LetRec, Con, PrimOf, Lit, VecLit, Case}
 use Rattle.chw_terms.specs.TermTree.{TermTree, lam, ty_lam, letrec, case_of}
 use Rattle.chw_terms.specs.TermView.{tree_of, applied_to, applied}
 use Rattle.scenes.specs.Origins.{Origins}
@@ -15,21 +14,9 @@ use Rattle.rewriting.specs.Functions.{OfFunctions, ty_beta, beta, app_let, app_l
 use Rattle.rewriting.specs.Instances.{Makes}
 use Rattle.rewriting.proofs.Spines.{IsBare, head_is, args_are}
 use Rattle.flow_functions.specs.AtFirst.{AnswersAt}
-use Rattle.flow_functions.specs.Cores.{MakesOf, of_core, Answers, IsOfFunctions}
-
--- heads are no applications
-pub bare : (h : Head) → IsBare (tree_of h)
-bare (Var x) = record { itself = refl; alone = refl }
-bare (Global d) = record { itself = refl; alone = refl }
-bare (Made m) = record { itself = refl; alone = refl }
-bare (Lam t e) = record { itself = refl; alone = refl }
-bare (TyLam k e) = record { itself = refl; alone = refl }
-bare (LetRec bs e) = record { itself = refl; alone = refl }
-bare (Con c) = record { itself = refl; alone = refl }
-bare (PrimOf p) = record { itself = refl; alone = refl }
-bare (Lit s b) = record { itself = refl; alone = refl }
-bare (VecLit t es) = record { itself = refl; alone = refl }
-bare (Case e alts) = record { itself = refl; alone = refl }
+use Rattle.rule_parts.proofs.Heads.{bare}
+use Rattle.rule_parts.specs.Cores.{MakesOf, of_core, Answers}
+use Rattle.flow_functions.specs.Rules.{IsOfFunctions}
 
 -- a head at one argument
 record IsAtOne (e : TermTree) : Type 0 where

@@ -1,4 +1,3 @@
 pub mod AtFirst
-pub mod Cores
-pub mod Laws
 pub mod Moves
+pub mod Rules

@@ -10,17 +10,18 @@ ghost use Rattle.scenes.specs.Origins.{origins_of};
 ghost use Rattle.active_places.specs.Spots.{spot_of};
 ghost use Rattle.rewriting.specs.Shapes.{shift_alts};
 ghost use Rattle.term_types.specs.Answers.{IsReady};
+ghost use Rattle.term_types.specs.Signatures.{IsSignature};
 ghost use Rattle.flow_functions.specs.AtFirst.{AnswersAt};
 ghost use Rattle.flow_functions.specs.Moves.{at_type, at_name};
 
-use crate::copies::let_one;
 use chw_base::{NoMemory, VarIx};
 use chw_terms::{Alt, Arg, Head, Place, Scene, Term, shift};
 use chw_types::Ty;
 use found_types::laws::found_is_type;
+use rule_parts::copies::let_one;
 use scenes::laws::settings_of_scenes;
 use std::alloc::Global;
-use term_types::type_of;
+use term_types::{Signature, type_of_in};
 
 // An alternative whose body gets the type.
 fn alt_at_type(alloc: Global, alt: &Alt, ty: &Ty) -> Result<Alt, NoMemory>
@@ -71,11 +72,13 @@ fn case_at_name(alloc: Global, on: &Term, alts: &[Alt]) -> Result<Term, NoMemory
 pub(crate) fn app_case(
     alloc: Global,
     scene: &Scene,
+    signature: &Signature,
     place: &Place,
     head: &Head,
     first: &Arg,
 ) -> Result<Option<Term>, NoMemory>
-    requires { IsReady (setting_in scene.now) [] (reverse place.now.vars) }
+    requires ready { IsReady (setting_in scene.now) [] (reverse place.now.vars) }
+    requires table { IsSignature scene.now.program.now signature.now }
     ensures { IfOk result (AnswersAt (origins_of scene.now) (spot_of place.now) AppCase head.now first.now) }
 {
     let Head::Case(on, alts) = head else {
@@ -87,7 +90,7 @@ pub(crate) fn app_case(
     };
     settings_of_scenes();
     found_is_type();
-    let Some(ty) = type_of(alloc, scene, place.vars.as_slice(), of)? else {
+    let Some(ty) = type_of_in(alloc, scene, signature, &[], place.vars.as_slice(), of)? else {
         return Ok(None);
     };
     let body = case_at_name(alloc, on, alts)?;

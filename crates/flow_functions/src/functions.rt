@@ -3,9 +3,9 @@ ghost use Rattle.std.specs.Prelude.{◌≡◌, IfOk};
 ghost use Rattle.chw_terms.specs.declared.rule.Rule.TheVariants.{TyBeta, Beta, AppLet};
 ghost use Rattle.flow_functions.specs.AtFirst.{AnswersAnywhere};
 
-use crate::copies::{arg_under, copy_group, let_one};
 use chw_base::{NoMemory, narrow};
 use chw_terms::{Arg, Head, Term, put_type_in};
+use rule_parts::copies::{arg_under, copy_group, let_one};
 use std::alloc::Global;
 
 /// A type lambda gets its type, and closed naturals are evaluated.

@@ -3,9 +3,7 @@
 #![tactic(auto)]
 
 mod cases;
-mod copies;
 mod functions;
-pub mod laws;
 pub mod trial;
 
 pub use trial::try_function;

@@ -1,10 +1,12 @@
 //! What a rule makes of a term.
-ghost use Rattle.std.specs.Prelude.{IfSome};
+ghost use Rattle.std.specs.Prelude.{[], reverse, IfSome};
 ghost use Rattle.chw_terms.specs.Tidy.{IsTidy};
 ghost use Rattle.chw_typing.specs.Programs.{IsSound, setting_of};
-ghost use Rattle.flow_functions.specs.Cores.{IsOfFunctions};
+ghost use Rattle.chw_typing.specs.Scopes.{setting_in};
+ghost use Rattle.term_types.specs.Answers.{IsReady};
+ghost use Rattle.flow_functions.specs.Rules.{IsOfFunctions};
 
-use chw_base::{Or, Seq};
+use chw_base::{NoMemory, Or, Seq};
 use chw_check::kinds::first_unkinded;
 use chw_check::laws::what_fits_is_sound;
 use chw_lexer::lex;
@@ -15,6 +17,7 @@ use flow_functions::try_function;
 use row_notation::put_term;
 use row_tables::{Unread, put};
 use std::alloc::Global;
+use term_types::Signature;
 
 // The description of the scene.
 const DESCRIPTION: &[u8] = b"domain A; def one : Unsigned 8 = 1u8; top one () (o);";
@@ -71,7 +74,7 @@ fn put_made_in(
         result: true,
         vars: Seq::from(Vec::new(alloc)),
     };
-    let made = try_function(alloc, rule, &scene, term, &place);
+    let made = tried(alloc, rule, &scene, term, &place);
     drop(place);
     let Scene {
         program: _,
@@ -81,4 +84,21 @@ fn put_made_in(
         Some(e) => Ok(put_term(out, &e)?),
         None => Ok(put(out, "nothing")?),
     }
+}
+
+// What a rule makes of a term at a place, by the signature of the scene's program.
+fn tried(
+    alloc: Global,
+    rule: Rule,
+    scene: &Scene,
+    term: &Term,
+    place: &Place,
+) -> Result<Option<Term>, NoMemory>
+    requires rule { IsOfFunctions rule }
+    requires ready { IsReady (setting_in scene.now) [] (reverse place.now.vars) }
+{
+    let signature = Signature::of(alloc, scene.program)?;
+    let made = try_function(alloc, rule, scene, &signature, term, place);
+    drop(signature);
+    made
 }

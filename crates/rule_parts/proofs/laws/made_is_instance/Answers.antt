@@ -1,5 +1,5 @@
-use Rattle.flow_functions.proofs.Instances.{made_is_instance, instance_is_made}
-use Rattle.flow_functions.proofs.laws.made_is_instance.Goals as goal
+use Rattle.rule_parts.proofs.Instances.{made_is_instance, instance_is_made}
+use Rattle.rule_parts.proofs.laws.made_is_instance.Goals as goal
 
 pub returns : goal.returns
 returns c = record {

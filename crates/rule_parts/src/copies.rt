@@ -13,7 +13,7 @@ use chw_types::Ty;
 use std::alloc::Global;
 
 /// The argument under so many more binders.
-pub(crate) fn arg_under(alloc: Global, arg: &Arg, binders: u32) -> Result<Arg, NoMemory>
+pub fn arg_under(alloc: Global, arg: &Arg, binders: u32) -> Result<Arg, NoMemory>
     ensures { IfOk result (λ a. a ≡ rename_arg (raised 0 binders) arg.now) }
 {
     match arg {
@@ -44,11 +44,7 @@ fn copy_args(alloc: Global, args: &[Arg]) -> Result<Vec<Arg>, NoMemory>
 }
 
 /// The term, where there is one, with copies of these arguments behind it.
-pub(crate) fn with_rest(
-    alloc: Global,
-    made: Option<Term>,
-    rest: &[Arg],
-) -> Result<Option<Term>, NoMemory>
+pub fn with_rest(alloc: Global, made: Option<Term>, rest: &[Arg]) -> Result<Option<Term>, NoMemory>
     ensures { IfOk result (λ r. r ≡ option_map (λ e. applied e rest.now) made) }
 {
     match made {
@@ -66,7 +62,7 @@ fn copy_binding(alloc: Global, binding: &Binding) -> Result<Binding, NoMemory>
 }
 
 /// The same bindings once more.
-pub(crate) fn copy_group(alloc: Global, group: &[Binding]) -> Result<Vec<Binding>, NoMemory>
+pub fn copy_group(alloc: Global, group: &[Binding]) -> Result<Vec<Binding>, NoMemory>
     ensures { IfOk result (λ copies. copies.items ≡ group.now) }
 {
     let mut done = Vec::new(alloc);
@@ -77,7 +73,7 @@ pub(crate) fn copy_group(alloc: Global, group: &[Binding]) -> Result<Vec<Binding
 }
 
 /// A let of one name of this type for the term, which stands outside of it.
-pub(crate) fn let_one(alloc: Global, ty: Ty, of: &Term, body: Term) -> Result<Term, NoMemory>
+pub fn let_one(alloc: Global, ty: Ty, of: &Term, body: Term) -> Result<Term, NoMemory>
     ensures { IfOk result (λ e. e ≡ letrec (bind ty (shift of.now 0 1) no_bindings) body) }
 {
     let side = shift(alloc, of, VarIx { number: 0 }, 1)?;

@@ -1,5 +1,5 @@
 use Rattle.std.proofs.Common.{◌≡◌, take}
-use Rattle.flow_functions.proofs.copies.copy_args.Given as goal
+use Rattle.rule_parts.proofs.copies.copy_args.Given as goal
 
 abbrev pub invariant-loop-arg : goal.invariant-loop-arg
 invariant-loop-arg l = l.done.items ≡ take l.arg-index l.args
