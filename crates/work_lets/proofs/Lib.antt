@@ -1,0 +1,5 @@
+pub mod Closed
+pub mod Inlined
+pub mod Lets
+pub mod Marked
+pub mod Searched

@@ -1,0 +1,5 @@
+pub mod Closings
+pub mod Inlined
+pub mod Kept
+pub mod Rules
+pub mod Searching

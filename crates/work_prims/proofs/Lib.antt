@@ -1,0 +1,10 @@
+pub mod Computed
+pub mod Elems
+pub mod Forms
+pub mod Inverted
+pub mod Lists
+pub mod Narrow
+pub mod Splits
+pub mod Taking
+pub mod Trials
+pub mod WrittenOut
