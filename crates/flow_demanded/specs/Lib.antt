@@ -1,0 +1,4 @@
+pub mod Demanding
+pub mod Forms
+pub mod Moves
+pub mod Rules

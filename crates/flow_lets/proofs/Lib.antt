@@ -1,0 +1,3 @@
+pub mod FirstLet
+pub mod Flat
+pub mod OneGroup

@@ -1,0 +1,9 @@
+//! The rule that joins letrecs: a letrec that is a right side or the body of another becomes part of it. It is tried on a term at a
+//! place, and the answer is the term that the rule makes, or that it makes none.
+#![tactic(auto)]
+
+mod joining;
+mod parts;
+pub mod trial;
+
+pub use trial::try_lets;

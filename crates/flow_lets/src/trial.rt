@@ -1,0 +1,51 @@
+//! The rule that joins letrecs, tried on a term at a place.
+ghost use Rattle.std.specs.Prelude.{◌↔◌, IfOk, IsTrue};
+ghost use Rattle.chw_terms.specs.TermTree.{letrec};
+ghost use Rattle.chw_terms.specs.TermView.{group_of};
+ghost use Rattle.active_places.specs.Spots.{spot_of};
+ghost use Rattle.rewriting.specs.Shapes.{IsOfHead};
+ghost use Rattle.flow_lets.specs.Flat.{AnswersFlat, AnswersLetrec};
+
+use crate::joining::{letrec_with_body, letrec_with_side};
+use crate::parts::{as_letrec, first_let};
+use chw_base::NoMemory;
+use chw_terms::{Binding, Head, Mode, Place, Term};
+use rule_parts::copies::with_rest;
+use std::alloc::Global;
+
+// Whether the place is the head of a value or of a circuit.
+fn is_of_head(mode: Mode) -> bool
+    ensures { IsTrue result ↔ IsOfHead mode }
+{
+    matches!(mode, Mode::HV | Mode::HC)
+}
+
+// What the rule makes of a letrec: the first right side that is a letrec joins it; where there is none, a body that is one does.
+fn flat(alloc: Global, group: &[Binding], body: &Term) -> Result<Option<Term>, NoMemory>
+    ensures { IfOk result (AnswersLetrec (letrec (group_of group.now) body.now)) }
+{
+    if let Some(parts) = first_let(group) {
+        return Ok(Some(letrec_with_side(alloc, &parts, body)?));
+    }
+    let Some(inner) = as_letrec(body) else {
+        return Ok(None);
+    };
+    Ok(Some(letrec_with_body(alloc, group, &inner)?))
+}
+
+/// What the rule that joins letrecs makes of a term at a place: of its head, and the arguments stay behind. Nothing comes exactly where
+/// the rule makes nothing of it; so always at the head of a value or of a circuit.
+///
+/// Where a number would pass 32 bits, the answer is want of memory.
+pub fn try_lets(alloc: Global, at: &Term, place: &Place) -> Result<Option<Term>, NoMemory>
+    ensures { IfOk result (AnswersFlat (spot_of place.now) at.now) }
+{
+    if is_of_head(place.mode) {
+        return Ok(None);
+    }
+    let Head::LetRec(group, body) = &at.head else {
+        return Ok(None);
+    };
+    let made = flat(alloc, group, body)?;
+    with_rest(alloc, made, &at.args)
+}

@@ -1,0 +1,6 @@
+//! The eleven rules of flow: on applied functions, on cases, on primitives with a demanded argument, and the one that joins letrecs.
+#![tactic(auto)]
+
+pub mod trial;
+
+pub use trial::{try_rule, try_typed};
