@@ -24,7 +24,7 @@ use rule_parts::copies::with_rest;
 use std::alloc::Global;
 use term_types::Signature;
 
-// A letrec moves out of the first demanded argument that is one.
+// A letrec moves out of the first demanded argument that is one: `p .. (letrec g in e) ..  ==>  letrec g in p .. e ..`.
 fn prim_let(
     alloc: Global,
     scene: &Scene,
@@ -49,7 +49,8 @@ fn prim_let(
     Ok(Some(into_letrec(alloc, which, args, it.number, &of)?))
 }
 
-// A case moves out of the first demanded argument that is one, where none is a letrec.
+// A case moves out of the first demanded argument that is one, where none is a letrec:
+// `p .. (case s of { q -> e; .. }) ..  ==>  case s of { q -> p .. e ..; .. }`.
 fn prim_case(
     alloc: Global,
     scene: &Scene,
@@ -105,8 +106,8 @@ fn of_whole(
 /// What a rule on demanded arguments makes of a term at a place: of a primitive on the arguments that it names, and the other arguments
 /// stay behind. Nothing comes exactly where the rule makes nothing of it.
 ///
-/// The data types have no cycle and the scene is sound, as in every typed program, and terms have the types of the variables in scope at the place. The
-/// signature is that of the scene's program, which is made once for many terms.
+/// The data types have no cycle and the scene is sound, as in every typed program, and terms have the types of the variables in scope at
+/// the place. The signature is that of the scene's program, which is made once for many terms.
 /// Where a number would pass 32 bits, the answer is want of memory.
 pub fn try_demanded(
     alloc: Global,

@@ -68,7 +68,8 @@ fn case_at_name(alloc: Global, on: &Term, alts: &[Alt]) -> Result<Term, NoMemory
     Term::case(alloc, on, done)
 }
 
-/// An argument gets a name and moves into a case; a type moves as it is.
+/// An argument gets a name and moves into a case; a type moves as it is:
+/// `(case s of { p -> e; .. }) a  ==>  letrec { x : t = a; } in case s of { p -> e x; .. }`.
 pub(crate) fn app_case(
     alloc: Global,
     scene: &Scene,

@@ -8,7 +8,7 @@ use chw_terms::{Arg, Head, Term, put_type_in};
 use rule_parts::copies::{arg_under, copy_group, let_one};
 use std::alloc::Global;
 
-/// A type lambda gets its type, and closed naturals are evaluated.
+/// A type lambda gets its type, and closed naturals are evaluated: `(/\(a : Val) . e) @t  ==>  e` with t for a.
 pub(crate) fn ty_beta(alloc: Global, head: &Head, first: &Arg) -> Result<Option<Term>, NoMemory>
     ensures { IfOk result (AnswersAnywhere TyBeta head.now first.now) }
 {
@@ -21,7 +21,7 @@ pub(crate) fn ty_beta(alloc: Global, head: &Head, first: &Arg) -> Result<Option<
     Ok(Some(put_type_in(alloc, body, ty)?))
 }
 
-/// A lambda becomes a let.
+/// A lambda becomes a let: `(\(x : t) . e) a  ==>  letrec { x : t = a; } in e`.
 pub(crate) fn beta(alloc: Global, head: &Head, first: &Arg) -> Result<Option<Term>, NoMemory>
     ensures { IfOk result (AnswersAnywhere Beta head.now first.now) }
 {
@@ -36,7 +36,7 @@ pub(crate) fn beta(alloc: Global, head: &Head, first: &Arg) -> Result<Option<Ter
     Ok(Some(let_one(alloc, ty, of, body)?))
 }
 
-/// An argument moves into a letrec.
+/// An argument moves into a letrec: `(letrec g in e) a  ==>  letrec g in e a`.
 pub(crate) fn app_let(alloc: Global, head: &Head, first: &Arg) -> Result<Option<Term>, NoMemory>
     ensures { IfOk result (AnswersAnywhere AppLet head.now first.now) }
 {

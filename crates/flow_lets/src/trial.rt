@@ -20,7 +20,9 @@ fn is_of_head(mode: Mode) -> bool
     matches!(mode, Mode::HV | Mode::HC)
 }
 
-// What the rule makes of a letrec: the first right side that is a letrec joins it; where there is none, a body that is one does.
+// What the rule makes of a letrec. The first right side that is a letrec joins it:
+// `letrec { front; x = letrec cs in e; back } in b  ==>  letrec { front; cs; x = e; back } in b`.
+// Where there is none, a body that is one does: `letrec g in letrec cs in e  ==>  letrec { g; cs } in e`.
 fn flat(alloc: Global, group: &[Binding], body: &Term) -> Result<Option<Term>, NoMemory>
     ensures { IfOk result (AnswersLetrec (letrec (group_of group.now) body.now)) }
 {

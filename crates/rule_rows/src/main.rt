@@ -12,7 +12,7 @@ mod tried;
 use chw_base::Or;
 use names::{mode_named, rule_named};
 use programs::program_of;
-use row_tables::{Unread, print_rows};
+use row_tables::{Unread, bytes_of, print_rows};
 use std::alloc::Global;
 use std::io;
 use tried::put_compared;
@@ -28,6 +28,7 @@ fn answer(alloc: Global, call: &str, text: &str, out: &mut Vec<u8>) -> Result<()
     };
     let rule = rule_named(call)?;
     let mode = mode_named(place.trim_end_matches('+'))?;
-    let program = program_of(alloc, description.as_bytes())?;
+    let description = bytes_of(alloc, description)?;
+    let program = program_of(alloc, &description)?;
     put_compared(alloc, &program, rule, mode, place.ends_with('+'), out)
 }
