@@ -1,10 +1,11 @@
 //! The programs of rows.
 ghost use Rattle.std.specs.Prelude.{IfOk, IfSome};
 ghost use Rattle.chw_terms.specs.Tidy.{IsTidy};
-ghost use Rattle.chw_typing.specs.Programs.{IsTyped};
+ghost use Rattle.chw_typing.specs.Programs.{IsSound, setting_of};
 
 use chw_base::Or;
-use chw_check::{Checked, check};
+use chw_check::kinds::first_unkinded;
+use chw_check::laws::what_fits_is_sound;
 use chw_lexer::lex;
 use chw_parser::parse;
 use chw_resolve::resolve;
@@ -31,16 +32,18 @@ fn read(alloc: Global, text: &[u8]) -> Option<Program>
     }
 }
 
-/// The typed program that a description means. What isn't one is an unread row.
-pub(crate) fn program_of(alloc: Global, text: &[u8]) -> Result<Checked, Or<Unread>>
+/// The program that a description means, where its written types have kinds. Its top may be any definition. What isn't one is an unread
+/// row.
+pub(crate) fn program_of(alloc: Global, text: &[u8]) -> Result<Program, Or<Unread>>
     ensures tidy { IfOk result IsTidy }
-    ensures typed { IfOk result IsTyped }
+    ensures sound { IfOk result (λ program. IsSound (setting_of program)) }
 {
     let Some(program) = read(alloc, text) else {
         return Err(Or::Fault(Unread));
     };
-    match check(alloc, program) {
-        Ok(checked) => Ok(checked),
-        Err(_) => Err(Or::Fault(Unread)),
+    what_fits_is_sound();
+    match first_unkinded(alloc, &program) {
+        Ok(None) => Ok(program),
+        _ => Err(Or::Fault(Unread)),
     }
 }

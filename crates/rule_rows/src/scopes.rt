@@ -8,8 +8,8 @@ use chw_types::{Ty, kind_of};
 use row_tables::Unread;
 use std::alloc::Global;
 
-// More variables than a row has.
-const VARIABLES: usize = 16;
+/// More variables than a row has.
+pub(crate) const VARIABLES: usize = 16;
 
 /// What stands below leading lambdas: the types of their variables, the outermost first, and the term.
 #[derive(Drop)]
@@ -34,11 +34,12 @@ fn is_term_type(scene: &Scene, ty: &Ty) -> bool
     }
 }
 
-/// What stands below the leading lambdas of a closed term.
+/// What stands below the leading lambdas of a closed term, so many at most.
 pub(crate) fn below_lambdas<'t>(
     alloc: Global,
     scene: &Scene,
     whole: &'t Term,
+    most: usize,
 ) -> Result<Below<'t>, Or<Unread>>
     ensures { IfOk result (λ below. AreTermTypes (setting_in scene.now) [] (reverse below.vars.items)) }
 {
@@ -46,7 +47,7 @@ pub(crate) fn below_lambdas<'t>(
         vars: Vec::new(alloc),
         term: whole,
     };
-    for _variable in 0..VARIABLES {
+    for _variable in 0..most {
         let term = below.term;
         let Head::Lam(ty, body) = &term.head else {
             break;

@@ -1,16 +1,15 @@
 //! What a rule makes of a row's term, beside what the row says.
 ghost use Rattle.std.specs.Prelude.{[], reverse};
 ghost use Rattle.chw_types.specs.References.{HasNoCycle};
-ghost use Rattle.chw_typing.specs.Programs.{IsSound};
+ghost use Rattle.chw_terms.specs.Tidy.{IsTidy};
+ghost use Rattle.chw_typing.specs.Programs.{IsSound, setting_of};
 ghost use Rattle.chw_typing.specs.Scopes.{setting_in};
 ghost use Rattle.term_types.specs.Answers.{IsReady};
 ghost use Rattle.rules_flow.specs.Rules.{IsOfFlow};
 
-use crate::scopes::below_lambdas;
+use crate::scopes::{VARIABLES, below_lambdas};
 use chw_base::{Or, Seq};
-use chw_check::Checked;
 use chw_terms::{Mode, Place, Program, Rule, Scene, Term};
-use chw_typing::laws::typed_is_sound;
 use looks::LookCount;
 use named_types::laws::data_types_in_order;
 use row_notation::put_term;
@@ -92,7 +91,8 @@ fn put_in(
     let Some(before) = body_of(scene.program, b"before") else {
         return Err(Or::Fault(Unread));
     };
-    let below = below_lambdas(alloc, scene, before)?;
+    let below = below_lambdas(alloc, scene, before, VARIABLES)?;
+    let count = below.vars.len();
     let place = Place {
         mode,
         result: is_result,
@@ -100,7 +100,7 @@ fn put_in(
     };
     let made = tried(alloc, rule, scene, below.term, &place)?;
     let after = match body_of(scene.program, b"after") {
-        Some(body) => Some(below_lambdas(alloc, scene, body)?.term),
+        Some(body) => Some(below_lambdas(alloc, scene, body, count)?.term),
         None => None,
     };
     put_answer(alloc, made, after, out)
@@ -109,20 +109,18 @@ fn put_in(
 /// Writes what a rule makes of the term of `before`, beside the term of `after`.
 pub(crate) fn put_compared(
     alloc: Global,
-    checked: &Checked,
+    program: &Program,
     rule: Rule,
     mode: Mode,
     is_result: bool,
     out: &mut Vec<u8>,
 ) -> Result<(), Or<Unread>>
-    requires { IsOfFlow rule }
+    requires rule { IsOfFlow rule }
+    requires tidy { IsTidy program.now }
+    requires sound { IsSound (setting_of program.now) }
 {
-    typed_is_sound();
     data_types_in_order();
-    let scene = Scene {
-        program: checked.program(),
-        made: &[],
-    };
+    let scene = Scene { program, made: &[] };
     let put = put_in(alloc, &scene, rule, mode, is_result, out);
     let Scene {
         program: _,
