@@ -1,9 +1,9 @@
 -- Lists of bits: turned round, bit by bit, and compared by the first bit that differs.
-use Rattle.std.proofs.Common.{◌≡◌, ℕ, zero, suc, ◌+◌, ◌-◌, ◌%◌, ◌<◌, ◌≤◌, ◌^◌, ◌==◌, Bool, true, false, not, List, [], ◌∷◌, ◌++◌, length, map, take, drop, set, get_or, pos, negsuc, refl, sym, ap, ◌∙◌, arith, append_assoc}
+use Rattle.std.proofs.Common.{◌≡◌, ℕ, zero, suc, ◌+◌, ◌-◌, ◌%◌, ◌<◌, ◌≤◌, ◌^◌, ◌==◌, Bool, true, false, not, List, [], ◌∷◌, ◌++◌, length, take, drop, set, get_or, pos, negsuc, refl, sym, ap, ◌∙◌, arith}
 use Rattle.std.specs.Prelude.{int_lt, nat_lt}
 use Rattle.std.specs.Bool.{beq}
 use Rattle.std.proofs.lemmas.Bool.Decides.{nat_tests}
-use Rattle.std.proofs.lemmas.List.{drop_more, get_or_at, set_at, map_more, length-map, length-take-le, length-drop, take_more, take_more_set}
+use Rattle.std.proofs.lemmas.List.{drop_more, length-drop, take_more, take_more_set}
 use Rattle.chw_bits.specs.Bits.{number_of}
 use Rattle.chw_bits.specs.Bitwise.{bit_by_bit}
 use Rattle.chw_bits.specs.Integers.{signed}
@@ -23,20 +23,6 @@ differ_by_not true true x y e is other same = cc
 differ_by_not true false x y e is other same = cc
 differ_by_not false true x y e is other same = cc
 differ_by_not false false x y e is other same = cc
-
--- one more bit turned round
-pub turn_more : (xs bits : List Bool) (i : ℕ) → i < length xs → bits ≡ map not (take i xs) ++ drop i xs
-    → set bits i (not (get_or bits i false)) ≡ map not (take (i + 1) xs) ++ drop (i + 1) xs
-turn_more xs bits i lt is =
-    let front = map not (take i xs) in
-    let back = drop (i + 1) xs in
-    let y = get_or xs i false in
-    let split : bits ≡ front ++ y ∷ back = is ∙ ap (λ rest. front ++ rest) (drop_more xs i false lt) in
-    let count : length front ≡ i = length-map (take i xs) not ∙ length-take-le i xs (omega arith) in
-    let here : get_or bits i false ≡ y = ap (λ b. get_or b i false) split ∙ get_or_at front y back false i count in
-    ap (λ bit. set bits i (not bit)) here ∙ ap (λ b. set b i (not y)) split ∙ set_at front y back (not y) i count
-    ∙ sym (append_assoc front (not y ∷ []) back)
-    ∙ ap (λ f. f ++ back) (sym (map_more not xs i false lt))
 
 -- the bit at a place of two words bit by bit
 pub get_or-bit_by_bit : (of : Bool → Bool → Bool) (x y : List Bool) (i : ℕ) → i < length x → length x ≡ length y

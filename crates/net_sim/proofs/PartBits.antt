@@ -1,33 +1,6 @@
 -- The bits of a part of a room.
-use Rattle.std.proofs.Common.{◌≡◌, ℕ, ◌+◌, ◌-◌, ◌≤◌, Bool, List, [], ◌∷◌, ◌++◌, not, length, map, take, drop, sym, ap, subst, ◌∙◌, arith, length-append, length-drop}
-use Rattle.std.proofs.lemmas.List.{drop-take, length-map, length-take-le, take-take, take_at}
-use Rattle.net_sim.specs.Parts.{HasBits}
-use Rattle.net_sim.specs.declared.room.Part.{Part}
-
--- a part from the start is the front
-pub front_of : (part : Part) (room x : List Bool) → HasBits part room x → part.from ≡ 0 → take part.count room ≡ x
-front_of part room x has start = subst (λ n. take part.count (drop n room) ≡ x) start has.same
-
--- the front turned round
-pub turned_bits : (part : Part) (room turned x : List Bool) → HasBits part room x → part.from ≡ 0 → turned ≡ map not (take part.count room)
-    → HasBits part (turned ++ drop part.count room) (map not x)
-turned_bits part room turned x has start is =
-    let rest = drop part.count room in
-    let within = has.within in
-    let count : length turned ≡ part.count =
-    ap length is ∙ length-map (take part.count room) not ∙ length-take-le part.count room (omega arith) in
-    record {
-      within = omega (arith, length-append turned rest, length-drop part.count room);
-      same =
-          subst (λ n. take part.count (drop n (turned ++ rest)) ≡ map not x) (sym start)
-          (take_at turned rest part.count count ∙ is ∙ ap (map not) (front_of part room x has start));
-    }
-
--- a bit that was made of the front
-pub made_of_front : (made : List Bool → Bool) (part first : Part) (room old x : List Bool) (bit : Bool) → HasBits part room (bit ∷ [])
-    → HasBits first old x → first.from ≡ 0 → bit ≡ made (take first.count old) → HasBits part room (made x ∷ [])
-made_of_front made part first room old x bit has front start is =
-    subst (λ b. HasBits part room (b ∷ [])) (is ∙ ap made (front_of first old x front start)) has
+use Rattle.std.proofs.Common.{◌≡◌, ℕ, ◌+◌, ◌-◌, ◌<◌, ◌≤◌, Bool, false, List, [], ◌∷◌, ◌++◌, length, take, drop, set, get_or, append_assoc, sym, ap, ◌∙◌, arith}
+use Rattle.std.proofs.lemmas.List.{drop-take, take-take, take_more, take_more_set}
 
 -- a part of the front is the same part of its bits
 pub part_of_front : (room x : List Bool) (from count whole : ℕ) → take whole room ≡ x → from + count ≤ whole
@@ -36,3 +9,13 @@ part_of_front room x from count whole front le =
     let split : from + (whole - from) ≡ whole = omega arith in
     sym (take-take count (whole - from) (drop from room) (omega arith))
     ∙ ap (take count) (sym (drop-take from (whole - from) room) ∙ ap (λ n. drop from (take n room)) split ∙ ap (drop from) front)
+
+-- one more bit after those that were laid from a place on
+pub laid_more : (room old bits : List Bool) (at i : ℕ) (bit : Bool) → i < length bits → at + i < length room
+    → take (at + i) room ≡ take at old ++ take i bits → bit ≡ get_or bits i false
+    → take (at + (i + 1)) (set room (at + i) bit) ≡ take at old ++ take (i + 1) bits
+laid_more room old bits at i bit lt within laid is =
+    let next : at + (i + 1) ≡ at + i + 1 = omega arith in
+    ap (λ n. take n (set room (at + i) bit)) next ∙ take_more_set room (at + i) bit within
+    ∙ ap (λ front. front ++ bit ∷ []) laid ∙ append_assoc (take at old) (take i bits) (bit ∷ [])
+    ∙ ap (λ more. take at old ++ more) (ap (λ b. take i bits ++ b ∷ []) is ∙ sym (take_more bits i false lt))

@@ -1,12 +1,27 @@
 -- How a word is kept: its number where it has at most 128 bits, else the list of its bits.
-use Rattle.std.specs.Prelude.{◌≡◌, ℕ, ◌<◌, ◌≤◌, ◌^◌, nat_le, Bool, List, length, if◌then◌else◌}
+use Rattle.std.specs.Prelude.{ℕ, ◌<◌, ◌≤◌, ◌^◌, Bool, List, length}
 use Rattle.chw_bits.specs.Bits.{bits_of}
+use Rattle.net_sim.specs.declared.word.Kept.{Kept}
+use Rattle.net_sim.specs.declared.word.Kept.TheVariants.{Small, Narrow, Wide}
 
--- the bits of a word of this width
-abbrev pub kept_bits : (width number : ℕ) → List Bool → List Bool
-kept_bits width number list = if nat_le width 128 then bits_of width number else list
+-- the bits of a word
+abbrev pub kept_bits : Kept → List Bool
+kept_bits (Small width number) = bits_of width number
+kept_bits (Narrow width number) = bits_of width number.value
+kept_bits (Wide list) = list.value.items
 
--- the number is below 2 to the width, and the list of a wide word has its width
-pub record IsKept (width number : ℕ) (list : List Bool) : Type 0 where
-  pub below : width ≤ 128 → number < 2 ^ width
-  pub wide : 128 < width → length list ≡ width
+-- the width is at most this one, and the number is below 2 to the width
+pub record IsNumber (most width number : ℕ) : Type 0 where
+  pub narrow : width ≤ most
+  pub below : number < 2 ^ width
+
+-- the list is wide, and has fewer than 2 to the 32 bits
+pub record IsList (list : List Bool) : Type 0 where
+  pub wide : 128 < length list
+  pub small : length list < 2 ^ 32
+
+-- the word is kept as its width says
+abbrev pub IsKept : Kept → Type 0
+IsKept (Small width number) = IsNumber 64 width number
+IsKept (Narrow width number) = IsNumber 128 width number.value
+IsKept (Wide list) = IsList list.value.items

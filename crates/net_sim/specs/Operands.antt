@@ -1,9 +1,10 @@
--- Which words an operator on two words takes.
-use Rattle.std.specs.Prelude.{◌≡◌, ℕ, ◌≤◌, Bool, false, ◌&&◌, ◌||◌, List, length}
+-- Which words operators take.
+use Rattle.std.specs.Prelude.{◌≡◌, ℕ, ◌<◌, ◌≤◌, Bool, false, ◌&&◌, ◌||◌, List, length}
 use Rattle.chw_bits.specs.Bitwise.{differ}
 use Rattle.chw_bits.specs.Bits.{number_of}
+use Rattle.net_sim.specs.Tables.{value_in}
 use Rattle.netlist.specs.declared.net.Cell.{Cell}
-use Rattle.netlist.specs.declared.net.Cell.TheVariants.{Bin}
+use Rattle.netlist.specs.declared.net.Cell.TheVariants.{Cut, Un, Bin}
 use Rattle.netlist.specs.declared.net.Op2.{Op2}
 use Rattle.netlist.specs.declared.net.Op2.TheVariants.{Add, Sub, Mul, And, Or, Xor, Shl, Shr, Sar}
 
@@ -28,12 +29,20 @@ IsArithmetic Sub = Unit {0}
 IsArithmetic Mul = Unit {0}
 IsArithmetic _ = ⊥
 
+-- the operator is no sum, difference or product, and one of the words that it takes is wide
+pub record IsWide (op : Op2) (left right : List Bool) : Type 0 where
+  pub kind : IsArithmetic op → ⊥
+  pub one : length left ≤ 128 → length right ≤ 128 → ⊥
+
 -- the number of these bits, which are at most 128
 pub record IsNumberOf (bits : List Bool) (n : ℕ) : Type 0 where
   pub number : n ≡ number_of bits
   pub narrow : length bits ≤ 128
 
--- the cell is no sum, difference or product
-abbrev pub IsNoArithmetic : Cell → Type 0
-IsNoArithmetic (Bin w op a b) = IsArithmetic op → ⊥
-IsNoArithmetic _ = Unit {0}
+-- the cell is no sum, difference or product, and one of the words that it is an operator on, or
+-- the one that it is cut from, is wide
+abbrev pub IsOfWide : List (List Bool) → Cell → Type 0
+IsOfWide table (Cut w a high low) = 128 < length (value_in table a.number)
+IsOfWide table (Un w op a) = 128 < length (value_in table a.number)
+IsOfWide table (Bin w op a b) = IsWide op (value_in table a.number) (value_in table b.number)
+IsOfWide table _ = Unit {0}

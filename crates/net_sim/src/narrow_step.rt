@@ -2,7 +2,7 @@
 ghost use Rattle.std.specs.Prelude.{◌≡◌, ℕ, ◌<◌, ◌≤◌, length, map, flat_map, IfNone, IfSome, slice_index_or};
 ghost use Rattle.std.specs.List.{AllByRecursion};
 ghost use Rattle.chw_bits.specs.Bits.{cut_of, number_of};
-ghost use Rattle.net_sim.specs.Operands.{IsArithmetic, IsNoArithmetic, IsNumberOf, Suit};
+ghost use Rattle.net_sim.specs.Operands.{IsArithmetic, IsNumberOf, IsOfWide, IsWide, Suit};
 ghost use Rattle.net_sim.specs.Tables.{given_in, value_in, values_in};
 ghost use Rattle.netlist.specs.Operators.{operator1, operator2};
 ghost use Rattle.netlist.specs.Sound.{FitsCell, IsWire};
@@ -62,7 +62,8 @@ fn cut(words: &[Word], w: WireId, high: u32, low: u32) -> Option<u128>
     requires wire { IsWire (map length words.now) w }
     requires order { low ≤ high }
     requires within { high < length (value_in words.now w.number) }
-    ensures { IfSome result (IsNumberOf (cut_of high low (value_in words.now w.number))) }
+    ensures number { IfSome result (IsNumberOf (cut_of high low (value_in words.now w.number))) }
+    ensures wide { IfNone result (128 < length (value_in words.now w.number)) }
 {
     let word = word_at(words, w);
     if word.len() > NARROW {
@@ -74,7 +75,8 @@ fn cut(words: &[Word], w: WireId, high: u32, low: u32) -> Option<u128>
 // The number of what an operator makes of a wire.
 fn made_of_wire(words: &[Word], op: Op1, w: WireId) -> Option<u128>
     requires { IsWire (map length words.now) w }
-    ensures { IfSome result (IsNumberOf (operator1 op (value_in words.now w.number))) }
+    ensures number { IfSome result (IsNumberOf (operator1 op (value_in words.now w.number))) }
+    ensures wide { IfNone result (128 < length (value_in words.now w.number)) }
 {
     let word = word_at(words, w);
     if word.len() > NARROW {
@@ -92,7 +94,8 @@ fn made_of_wires(words: &[Word], op: Op2, left: WireId, right: WireId) -> Option
         × (length (value_in words.now right.number) ≤ 128) }
     ensures number { IfSome result (IsNumberOf
         (operator2 op (value_in words.now left.number) (value_in words.now right.number))) }
-    ensures wide { IfNone result (IsArithmetic op → ⊥) }
+    ensures wide { IfNone result
+        (IsWide op (value_in words.now left.number) (value_in words.now right.number)) }
 {
     let first = word_at(words, left);
     let second = word_at(words, right);
@@ -106,7 +109,7 @@ fn made_of_wires(words: &[Word], op: Op2, left: WireId, right: WireId) -> Option
 pub(crate) fn made_number(words: &[Word], cell: &Cell) -> Option<u128>
     requires { (domains : ℕ) × FitsCell domains (map length words.now) cell.now }
     ensures number { IfSome result (IsNumberOf (given_in words.now cell.now)) }
-    ensures wide { IfNone result (IsNoArithmetic cell.now) }
+    ensures wide { IfNone result (IsOfWide words.now cell.now) }
 {
     match cell {
         Cell::Const(_, bits) => number_of_bits(bits.as_slice()),

@@ -1,8 +1,10 @@
 //! Room for the bits of wide words, in which they are made before they are put.
 ghost use Rattle.std.specs.Prelude.{◌≡◌, ◌+◌, ◌<◌, ◌≤◌, ◌++◌, length, take, replicate};
+ghost use Rattle.chw_bits.specs.Bits.{bits_of};
 ghost use Rattle.net_sim.specs.Parts.{HasBits};
 
-use crate::word::Word;
+use crate::reading::bit_at;
+use crate::word::{NARROW, Word};
 
 /// How many bits there is room for: two of the widest words.
 pub(crate) const ROOM: usize = 8192;
@@ -14,13 +16,27 @@ pub(crate) struct Part {
     pub count: usize,
 }
 
+// Writes the bits of a number of this width from this place on.
+fn lay_number(width: u32, n: u128, room: &mut [bool], at: usize)
+    requires narrow { width ≤ 128 }
+    requires enough { at + width ≤ length room.old }
+    ensures { take (at + width) room.new ≡ take at room.old ++ bits_of width n }
+{
+    for i in 0..width {
+        room[at + i as usize] = bit_at(width, n, i);
+    }
+}
+
 /// Writes a word from this place on.
 pub(crate) fn lay(word: &Word, room: &mut [bool], at: usize)
     requires { at + length word.now ≤ length room.old }
     ensures { take (at + length word.now) room.new ≡ take at room.old ++ word.now }
 {
-    for i in 0..word.len() {
-        room[at + i as usize] = word.bit(i);
+    let count = word.len();
+    if count > NARROW {
+        room[at..at + count as usize].copy_from_slice(word.list());
+    } else {
+        lay_number(count, word.number(), room, at);
     }
 }
 

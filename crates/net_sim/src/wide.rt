@@ -4,22 +4,14 @@ ghost use Rattle.std.specs.List.{list_all, list_any};
 ghost use Rattle.chw_bits.specs.Bits.{number_of};
 ghost use Rattle.chw_bits.specs.Bitwise.{bit_by_bit};
 ghost use Rattle.chw_bits.specs.Integers.{signed};
-ghost use Rattle.net_sim.specs.Operands.{IsArithmetic, Suit, bit_of_two};
+ghost use Rattle.net_sim.specs.Operands.{IsWide, Suit, bit_of_two};
 ghost use Rattle.net_sim.specs.Parts.{HasBits};
 ghost use Rattle.netlist.specs.Operators.{operator1, operator2};
+ghost use Rattle.netlist.specs.declared.net.Op2.TheVariants.{Shl, Shr, Sar};
 
-use crate::room::{Part, fill, lay, lay_list, lay_word};
-use crate::word::Word;
+use crate::room::{Part, fill, lay, lay_list};
+use crate::word::{NARROW, Word};
 use netlist::{Op1, Op2};
-
-// Turns each of these bits round.
-fn turn(bits: &mut [bool])
-    ensures { bits.new ≡ map not bits.old }
-{
-    for bit in bits.iter_mut() {
-        *bit = !*bit;
-    }
-}
 
 // Whether all of these bits are set.
 fn are_all_set(bits: &[bool]) -> bool
@@ -39,22 +31,35 @@ fn is_any_set(bits: &[bool]) -> bool
 fn is_odd_set(bits: &[bool]) -> bool
     ensures { result ≡ (count_by (λ bit. bit) bits.now % 2 == 1) }
 {
-    bits.iter().filter(|bit| **bit).count() % 2 == 1
+    let mut odd = false;
+    for bit in bits {
+        odd = odd != *bit;
+    }
+    odd
 }
 
-/// What an operator makes of a word.
-pub(crate) fn bits_of_one(op: Op1, word: &Word, room: &mut [bool]) -> Part
-    requires some { 0 < length room.old }
-    requires enough { length word.now ≤ length room.old }
-    ensures { HasBits result room.new (operator1 op word.now) }
+// These bits turned round.
+fn turned(bits: &[bool], room: &mut [bool]) -> Part
+    requires { length bits.now ≤ length room.old }
+    ensures { HasBits result room.new (map not bits.now) }
 {
-    let part = lay_word(word, room);
-    let bits = &mut room[..part.count];
+    for i in 0..bits.len() {
+        room[i] = !bits[i];
+    }
+    Part {
+        from: 0,
+        count: bits.len(),
+    }
+}
+
+/// What an operator makes of a word of these bits.
+pub(crate) fn bits_of_one(op: Op1, bits: &[bool], room: &mut [bool]) -> Part
+    requires some { 0 < length room.old }
+    requires enough { length bits.now ≤ length room.old }
+    ensures { HasBits result room.new (operator1 op bits.now) }
+{
     match op {
-        Op1::Not => {
-            turn(bits);
-            part
-        }
+        Op1::Not => turned(bits, room),
         Op1::RedAnd => lay_list(&[are_all_set(bits)], room),
         Op1::RedOr => lay_list(&[is_any_set(bits)], room),
         Op1::RedXor => lay_list(&[is_odd_set(bits)], room),
@@ -73,18 +78,18 @@ fn made_of_bits(op: Op2, left: bool, right: bool) -> bool
     }
 }
 
-/// What an operator makes of two words bit by bit.
-pub(crate) fn bitwise(op: Op2, left: &Word, right: &Word, room: &mut [bool]) -> Part
+/// What an operator makes of two words of these bits, bit by bit.
+pub(crate) fn bitwise(op: Op2, left: &[bool], right: &[bool], room: &mut [bool]) -> Part
     requires same { length left.now ≡ length right.now }
     requires enough { length left.now ≤ length room.old }
     ensures { HasBits result room.new (bit_by_bit (bit_of_two op) left.now right.now) }
 {
     for i in 0..left.len() {
-        room[i as usize] = made_of_bits(op, left.bit(i), right.bit(i));
+        room[i] = made_of_bits(op, left[i], right[i]);
     }
     Part {
         from: 0,
-        count: left.len() as usize,
+        count: left.len(),
     }
 }
 
@@ -117,13 +122,13 @@ fn moved_down(word: &Word, places: u32, above: bool, room: &mut [bool]) -> Part
     }
 }
 
-/// Whether two words mean one number.
-pub(crate) fn are_equal(left: &Word, right: &Word) -> bool
+/// Whether two words of these bits mean one number.
+pub(crate) fn are_equal(left: &[bool], right: &[bool]) -> bool
     requires { length left.now ≡ length right.now }
     ensures { result ≡ (number_of left.now == number_of right.now) }
 {
     for i in 0..left.len() {
-        if left.bit(i) != right.bit(i) {
+        if left[i] != right[i] {
             return false;
         }
     }
@@ -131,62 +136,97 @@ pub(crate) fn are_equal(left: &Word, right: &Word) -> bool
 }
 
 /// Whether the bits of a word from a place on mean a smaller number than those of another.
-pub(crate) fn is_less(left: &Word, right: &Word, from: u32) -> bool
+pub(crate) fn is_less(left: &[bool], right: &[bool], from: usize) -> bool
     requires same { length left.now ≡ length right.now }
     requires within { from ≤ length left.now }
     ensures { result ≡ nat_lt (number_of (drop from left.now)) (number_of (drop from right.now)) }
 {
     for i in from..left.len() {
-        if left.bit(i) != right.bit(i) {
-            return right.bit(i);
+        if left[i] != right[i] {
+            return right[i];
         }
     }
     false
 }
 
 /// Whether a word means a smaller integer than another in two's complement.
-pub(crate) fn is_less_signed(left: &Word, right: &Word) -> bool
+pub(crate) fn is_less_signed(left: &[bool], right: &[bool]) -> bool
     requires same { length left.now ≡ length right.now }
     requires some { 0 < length left.now }
     ensures { result ≡ int_lt (signed left.now) (signed right.now) }
 {
-    let sign = left.bit(0);
-    if sign == right.bit(0) {
+    let sign = left[0];
+    if sign == right[0] {
         is_less(left, right, 1)
     } else {
         sign
     }
 }
 
-/// The number of a word, or the most that is of interest.
-pub(crate) fn amount(word: &Word, most: u32) -> u32
-    ensures { result ≡ min (number_of word.now) most }
+// The number of these bits, or the most that is of interest.
+fn amount_of_bits(bits: &[bool], most: u32) -> u32
+    ensures { result ≡ min (number_of bits.now) most }
 {
     let most = u64::from(most);
     let mut n: u64 = 0;
-    for i in 0..word.len() {
-        n = (2 * n + u64::from(word.bit(i))).min(most);
+    for bit in bits {
+        n = (2 * n + u64::from(*bit)).min(most);
     }
     n as u32
 }
 
+/// The number of a word, or the most that is of interest.
+pub(crate) fn amount(word: &Word, most: u32) -> u32
+    ensures { result ≡ min (number_of word.now) most }
+{
+    if word.len() > NARROW {
+        amount_of_bits(word.list(), most)
+    } else {
+        word.number().min(u128::from(most)) as u32
+    }
+}
+
+// A word moved up by the number of another.
+fn shifted_up(left: &Word, right: &Word, room: &mut [bool]) -> Part
+    requires { 2 * length left.now ≤ length room.old }
+    ensures { HasBits result room.new (operator2 Shl left.now right.now) }
+{
+    moved_up(left, amount(right, left.len()), room)
+}
+
+// A word moved down by the number of another, with zeros above.
+fn shifted_down(left: &Word, right: &Word, room: &mut [bool]) -> Part
+    requires { 2 * length left.now ≤ length room.old }
+    ensures { HasBits result room.new (operator2 Shr left.now right.now) }
+{
+    moved_down(left, amount(right, left.len()), false, room)
+}
+
+// A word moved down by the number of another, with its sign above.
+fn shifted_down_signed(left: &Word, right: &Word, room: &mut [bool]) -> Part
+    requires some { 0 < length left.now }
+    requires enough { 2 * length left.now ≤ length room.old }
+    ensures { HasBits result room.new (operator2 Sar left.now right.now) }
+{
+    moved_down(left, amount(right, left.len()), left.bit(0), room)
+}
+
 /// What an operator makes of two words, unless it is a sum, a difference or a product.
 pub(crate) fn bits_of_two(op: Op2, left: &Word, right: &Word, room: &mut [bool]) -> Part
-    requires kind { IsArithmetic op → ⊥ }
+    requires wide { IsWide op left.now right.now }
     requires suit { Suit op left.now right.now }
     requires some { 0 < length left.now }
     requires enough { 2 * length left.now ≤ length room.old }
     ensures { HasBits result room.new (operator2 op left.now right.now) }
 {
-    let places = amount(right, left.len());
     match op {
         Op2::Add | Op2::Sub | Op2::Mul => Part { from: 0, count: 0 },
-        Op2::And | Op2::Or | Op2::Xor => bitwise(op, left, right, room),
-        Op2::Eq => lay_list(&[are_equal(left, right)], room),
-        Op2::LtU => lay_list(&[is_less(left, right, 0)], room),
-        Op2::LtS => lay_list(&[is_less_signed(left, right)], room),
-        Op2::Shl => moved_up(left, places, room),
-        Op2::Shr => moved_down(left, places, false, room),
-        Op2::Sar => moved_down(left, places, left.bit(0), room),
+        Op2::And | Op2::Or | Op2::Xor => bitwise(op, left.list(), right.list(), room),
+        Op2::Eq => lay_list(&[are_equal(left.list(), right.list())], room),
+        Op2::LtU => lay_list(&[is_less(left.list(), right.list(), 0)], room),
+        Op2::LtS => lay_list(&[is_less_signed(left.list(), right.list())], room),
+        Op2::Shl => shifted_up(left, right, room),
+        Op2::Shr => shifted_down(left, right, room),
+        Op2::Sar => shifted_down_signed(left, right, room),
     }
 }

@@ -2,7 +2,7 @@
 ghost use Rattle.std.specs.Prelude.{◌≡◌, ℕ, ◌+◌, ◌*◌, ◌<◌, ◌≤◌, length, map, flat_map, slice_index_or};
 ghost use Rattle.std.specs.List.{AllByRecursion};
 ghost use Rattle.chw_bits.specs.Bits.{cut_of};
-ghost use Rattle.net_sim.specs.Operands.{IsArithmetic, IsNoArithmetic, Suit};
+ghost use Rattle.net_sim.specs.Operands.{IsOfWide, IsWide, Suit};
 ghost use Rattle.net_sim.specs.Parts.{HasBits};
 ghost use Rattle.net_sim.specs.Tables.{given_in, value_in, values_in};
 ghost use Rattle.netlist.specs.Operators.{operator1, operator2};
@@ -30,27 +30,26 @@ fn joined(words: &[Word], parts: &[WireId], room: &mut [bool]) -> Part
     Part { from: 0, count }
 }
 
-// A part of a wire.
+// A part of a wide wire.
 fn cut(words: &[Word], w: WireId, high: u32, low: u32, room: &mut [bool]) -> Part
     requires wire { IsWire (map length words.now) w }
+    requires wide { 128 < length (value_in words.now w.number) }
     requires order { low ≤ high }
     requires within { high < length (value_in words.now w.number) }
     requires enough { length (value_in words.now w.number) ≤ length room.old }
     ensures { HasBits result room.new (cut_of high low (value_in words.now w.number)) }
 {
-    let word = word_at(words, w);
-    let whole = lay_word(word, room);
-    Part {
-        from: whole.count - 1 - high as usize,
-        count: (high - low) as usize + 1,
-    }
+    let bits = word_at(words, w).list();
+    let from = bits.len() - 1 - high as usize;
+    let to = bits.len() - low as usize;
+    lay_list(&bits[from..to], room)
 }
 
 // What an operator makes of two wires, unless it is a sum, a difference or a product.
 fn made_of_wires(words: &[Word], op: Op2, left: WireId, right: WireId, room: &mut [bool]) -> Part
-    requires kind { IsArithmetic op → ⊥ }
     requires left { IsWire (map length words.now) left }
     requires right { IsWire (map length words.now) right }
+    requires wide { IsWide op (value_in words.now left.number) (value_in words.now right.number) }
     requires suit { Suit op (value_in words.now left.number) (value_in words.now right.number) }
     requires some { 0 < length (value_in words.now left.number) }
     requires enough { 2 * length (value_in words.now left.number) ≤ length room.old }
@@ -60,11 +59,11 @@ fn made_of_wires(words: &[Word], op: Op2, left: WireId, right: WireId, room: &mu
     bits_of_two(op, word_at(words, left), word_at(words, right), room)
 }
 
-/// What a cell makes, unless it is a sum, a difference or a product.
+/// What a cell makes of wide words, unless it is a sum, a difference or a product.
 pub(crate) fn made_bits(words: &[Word], cell: &Cell, room: &mut [bool]) -> Part
     requires fits { (domains : ℕ) × FitsCell domains (map length words.now) cell.now }
     requires widths { AllByRecursion IsWireWidth (map length words.now) }
-    requires kind { IsNoArithmetic cell.now }
+    requires wide { IsOfWide words.now cell.now }
     requires enough { length room.old ≡ 8192 }
     ensures { HasBits result room.new (given_in words.now cell.now) }
 {
@@ -73,7 +72,7 @@ pub(crate) fn made_bits(words: &[Word], cell: &Cell, room: &mut [bool]) -> Part
         Cell::Copy(_, a) => lay_word(word_at(words, *a), room),
         Cell::Join(_, parts) => joined(words, parts.as_slice(), room),
         Cell::Cut(_, a, high, low) => cut(words, *a, *high, *low, room),
-        Cell::Un(_, op, a) => bits_of_one(*op, word_at(words, *a), room),
+        Cell::Un(_, op, a) => bits_of_one(*op, word_at(words, *a).list(), room),
         Cell::Bin(_, op, a, b) => made_of_wires(words, *op, *a, *b, room),
         Cell::Mux(_, on, a, b) => lay_word(word_at(words, chosen(words, *on, *a, *b)), room),
         Cell::Reg(_, _, _, _) | Cell::Ram(_, _, _, _) | Cell::Use(_, _, _) => {

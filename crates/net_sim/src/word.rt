@@ -1,6 +1,7 @@
 //! `Word`, the bits of a wire or of a RAM's address.
-ghost use Rattle.std.specs.Prelude.{◌≡◌, ◌<◌, ◌≤◌, ◌^◌, length, replicate, slice_index_or, false, true, IfOk};
+ghost use Rattle.std.specs.Prelude.{◌≡◌, ◌<◌, ◌≤◌, ◌^◌, length, replicate, slice_index_or, false, IfOk};
 ghost use Rattle.chw_bits.specs.Bits.{bits_of, number_of};
+ghost use Rattle.net_sim.specs.Kept.{IsKept, kept_bits};
 
 use crate::reading::{bit_at, number_of_list};
 use chw_base::NoMemory;
@@ -11,25 +12,38 @@ use std::marker::Model;
 /// The widest word that is kept as its number.
 pub(crate) const NARROW: u32 = 128;
 
+// The widest word whose number is kept in the word itself.
+const SMALL: u32 = 64;
+
+// How a word is kept: as its width and its number, or as the list of its bits.
+#[derive(Debug, Drop)]
+enum Kept {
+    Small(u32, u64),
+    Narrow(u32, Box<u128>),
+    Wide(Box<Vec<bool>>),
+}
+
 /// Bits of a width that stays; contracts see them as a list, the most significant first.
 ///
 /// A word of at most 128 bits is kept as its number, a wider one as the list of its bits.
 #[derive(Debug, Drop)]
 pub(crate) struct Word {
-    width: u32,
-    number: u128,
-    list: Vec<bool>,
+    kept: Kept,
 }
+
+// A large table of small words fits the caches.
+const _: () = prove!(size_of::<Word>() == 16);
 
 impl Model for Word {
     ghost use Rattle.std.specs.Prelude.{List, Bool};
-    ghost use Rattle.net_sim.specs.Kept.{IsKept, kept_bits};
 
     ghost Value = { List Bool };
 
-    ghost view = { λ w. kept_bits w.width w.number w.list.items };
+    ghost use Rattle.net_sim.specs.Kept.{IsKept, kept_bits};
 
-    ghost invariant = { λ w. IsKept w.width w.number w.list.items };
+    ghost view = { λ w. kept_bits w.kept };
+
+    ghost invariant = { λ w. IsKept w.kept };
 }
 
 /// So many bits that are not set.
@@ -39,31 +53,39 @@ pub(crate) fn no_bits(alloc: Global, count: usize) -> Result<Vec<bool>, NoMemory
     Ok(vec![in alloc; false; count]?)
 }
 
+// How a word of zeros is kept.
+fn zeros_kept(alloc: Global, width: u32) -> Result<Kept, NoMemory>
+    ensures kept { IfOk result IsKept }
+    ensures zeros { IfOk result (λ kept. kept_bits kept ≡ bits_of width 0) }
+{
+    if width <= SMALL {
+        return Ok(Kept::Small(width, 0));
+    }
+    if width <= NARROW {
+        return Ok(Kept::Narrow(width, Box::new(alloc, 0)?));
+    }
+    let bits = no_bits(alloc, width as usize)?;
+    Ok(Kept::Wide(Box::new(alloc, bits)?))
+}
+
 impl Word {
     /// A word of zeros.
     pub(crate) fn zeros(alloc: Global, width: u32) -> Result<Word, NoMemory>
         ensures { IfOk result (λ w. w ≡ bits_of width 0) }
     {
-        if width <= NARROW {
-            return Ok(Word {
-                width,
-                number: 0,
-                list: Vec::new(alloc),
-            });
-        }
-        let list = no_bits(alloc, width as usize)?;
-        Ok(Word {
-            width,
-            number: 0,
-            list,
-        })
+        let kept = zeros_kept(alloc, width)?;
+        Ok(Word { kept })
     }
 
     /// How many bits there are.
     pub(crate) fn len(&self) -> u32
         ensures { result ≡ length self.now }
     {
-        self.width
+        match &self.kept {
+            Kept::Small(width, _) => *width,
+            Kept::Narrow(width, _) => *width,
+            Kept::Wide(bits) => bits.len() as u32,
+        }
     }
 
     /// The number of a narrow word.
@@ -73,7 +95,22 @@ impl Word {
         ensures below { result < 2 ^ length self.now }
         ensures number { result ≡ number_of self.now }
     {
-        self.number
+        match &self.kept {
+            Kept::Small(_, number) => u128::from(*number),
+            Kept::Narrow(_, number) => **number,
+            Kept::Wide(_) => 0,
+        }
+    }
+
+    /// The bits of a wide word.
+    pub(crate) fn list(&self) -> &[bool]
+        requires { 128 < length self.now }
+        ensures { result.now ≡ self.now }
+    {
+        match &self.kept {
+            Kept::Wide(bits) => bits.as_slice(),
+            _ => &[],
+        }
     }
 
     /// The bit at this place of the list, the most significant at 0.
@@ -81,10 +118,10 @@ impl Word {
         requires { i < length self.now }
         ensures { result ≡ slice_index_or self.now i false }
     {
-        if self.width > NARROW {
-            self.list[i as usize]
+        if self.len() > NARROW {
+            self.list()[i as usize]
         } else {
-            bit_at(self.width, self.number, i)
+            bit_at(self.len(), self.number(), i)
         }
     }
 
@@ -93,10 +130,10 @@ impl Word {
         requires { length self.now ≡ length bits.old }
         ensures { bits.new ≡ self.now }
     {
-        if self.width > NARROW {
-            bits.put_list(&self.list);
+        if self.len() > NARROW {
+            bits.put_list(self.list());
         } else {
-            bits.put_number(self.number);
+            bits.put_number(self.number());
         }
     }
 
@@ -106,17 +143,42 @@ impl Word {
         requires below { n < 2 ^ length self.old }
         ensures { self.new ≡ bits_of (length self.old) n }
     {
-        self.number = n;
+        match &mut self.kept {
+            Kept::Small(_, number) => *number = n as u64,
+            Kept::Narrow(_, number) => **number = n,
+            Kept::Wide(_) => {}
+        }
+    }
+
+    // Puts these bits in place of those of a wide word.
+    fn put_list(&mut self, bits: &[bool])
+        requires wide { 128 < length self.old }
+        requires width { length bits.now ≡ length self.old }
+        ensures { self.new ≡ bits.now }
+    {
+        if let Kept::Wide(list) = &mut self.kept {
+            list.copy_from_slice(bits);
+        }
+    }
+
+    // Sets no bit of a wide word.
+    fn clear_list(&mut self)
+        requires { 128 < length self.old }
+        ensures { self.new ≡ bits_of (length self.old) 0 }
+    {
+        if let Kept::Wide(list) = &mut self.kept {
+            list.fill(false);
+        }
     }
 
     /// Sets no bit.
     pub(crate) fn clear(&mut self)
         ensures { self.new ≡ bits_of (length self.old) 0 }
     {
-        if self.width > NARROW {
-            self.list.fill(false);
+        if self.len() > NARROW {
+            self.clear_list();
         } else {
-            self.number = 0;
+            self.put_number(0);
         }
     }
 
@@ -125,10 +187,10 @@ impl Word {
         requires { length bits.now ≡ length self.old }
         ensures { self.new ≡ bits.now }
     {
-        if self.width > NARROW {
-            self.list.copy_from_slice(bits);
+        if self.len() > NARROW {
+            self.put_list(bits);
         } else {
-            self.number = number_of_list(bits);
+            self.put_number(number_of_list(bits));
         }
     }
 
@@ -137,10 +199,10 @@ impl Word {
         requires { length other.now ≡ length self.old }
         ensures { self.new ≡ other.now }
     {
-        if self.width > NARROW {
-            self.list.copy_from_slice(&other.list);
+        if self.len() > NARROW {
+            self.put_list(other.list());
         } else {
-            self.number = other.number;
+            self.put_number(other.number());
         }
     }
 }

@@ -5,8 +5,8 @@ use Rattle.net_sim.proofs.Keeping.{number_from_bits}
 use Rattle.net_sim.proofs.narrow_step.cut.Goals as goal
 use Rattle.net_sim.specs.Tables.{value_in}
 
-pub returns : goal.returns
-returns c =
+pub returns-clause-number : goal.returns-clause-number
+returns-clause-number c =
     let high = c.args.high in
     let low = c.args.low in
     let word = c.word_at-word.result.now in

@@ -7,7 +7,7 @@ bits_of_one-requires-clause-enough c =
     let fits = rw c.in-Un.is at c.requires.fits.1 in
     let limits = wire_limits c.args.words.now c.in-Un.a c.requires.widths (one_fits _ c.in-Un.op c.in-Un.field-0 c.in-Un.a fits) in
     let enough = c.requires.enough in
-    omega (arith, limits.1, ap length c.word_at-in-Un.ensures)
+    omega (arith, limits.1, ap length c.list.ensures, ap length c.word_at-in-Un.ensures)
 
 pub made_of_wires-requires-clause-left : goal.made_of_wires-requires-clause-left
 made_of_wires-requires-clause-left c =

@@ -1,23 +1,26 @@
-use Rattle.std.proofs.Common.{◌≡◌, ◌<◌, ◌^◌, length, sym, ap, ◌∙◌, subst, arith}
-use Rattle.chw_bits.specs.Bits.{bits_of}
-use Rattle.net_sim.proofs.Keeping.{length-kept_bits, narrow_bits, number_from_bits, width_is}
+use Rattle.net_sim.proofs.Keeping.{narrow_known, number_read, small_known}
 use Rattle.net_sim.proofs.word.Word.number.Goals as goal
 
-pub returns-clause-bits : goal.returns-clause-bits
-returns-clause-bits c =
-    let kept = c.self.inside in
-    let width : kept.width ≡ length c.args.self.now = sym (length-kept_bits _ _ _ c.self.invariant) ∙ ap length c.self.view_is in
-    sym c.self.view_is ∙ narrow_bits _ _ _ (omega arith) ∙ ap (λ n. bits_of n kept.number) width
+pub returns-in-Small-clause-bits : goal.returns-in-Small-clause-bits
+returns-in-Small-clause-bits c =
+    (number_read _ _ _ _ _ (small_known _ _ _ _ c.in-Small.is c.self.invariant c.self.view_is) c.from.ensures).bits_are
 
-pub returns-clause-below : goal.returns-clause-below
-returns-clause-below c =
-    let kept = c.self.inside in
-    let width : kept.width ≡ length c.args.self.now = sym (length-kept_bits _ _ _ c.self.invariant) ∙ ap length c.self.view_is in
-    subst (λ n. kept.number < 2 ^ n) width (c.self.invariant.below (omega arith))
+pub returns-in-Small-clause-below : goal.returns-in-Small-clause-below
+returns-in-Small-clause-below c =
+    (number_read _ _ _ _ _ (small_known _ _ _ _ c.in-Small.is c.self.invariant c.self.view_is) c.from.ensures).below
 
-pub returns-clause-number : goal.returns-clause-number
-returns-clause-number c =
-    let kept = c.self.inside in
-    let width = width_is _ _ _ _ c.self.invariant c.self.view_is in
-    number_from_bits kept.width kept.number c.args.self.now
-    (sym (narrow_bits kept.width kept.number kept.list.items (omega arith)) ∙ c.self.view_is) (c.self.invariant.below (omega arith))
+pub returns-in-Small-clause-number : goal.returns-in-Small-clause-number
+returns-in-Small-clause-number c =
+    (number_read _ _ _ _ _ (small_known _ _ _ _ c.in-Small.is c.self.invariant c.self.view_is) c.from.ensures).number_is
+
+pub returns-in-Narrow-clause-bits : goal.returns-in-Narrow-clause-bits
+returns-in-Narrow-clause-bits c =
+    (number_read _ _ _ _ _ (narrow_known _ _ _ _ c.in-Narrow.is c.self.invariant c.self.view_is) c.deref.ensures).bits_are
+
+pub returns-in-Narrow-clause-below : goal.returns-in-Narrow-clause-below
+returns-in-Narrow-clause-below c =
+    (number_read _ _ _ _ _ (narrow_known _ _ _ _ c.in-Narrow.is c.self.invariant c.self.view_is) c.deref.ensures).below
+
+pub returns-in-Narrow-clause-number : goal.returns-in-Narrow-clause-number
+returns-in-Narrow-clause-number c =
+    (number_read _ _ _ _ _ (narrow_known _ _ _ _ c.in-Narrow.is c.self.invariant c.self.view_is) c.deref.ensures).number_is

@@ -1,0 +1,10 @@
+use Rattle.std.proofs.Common.{subst}
+use Rattle.net_sim.specs.Parts.{HasBits}
+use Rattle.net_sim.proofs.Shifting.{moved_down_signed}
+use Rattle.net_sim.proofs.wide.shifted_down_signed.Goals as goal
+
+pub returns : goal.returns
+returns c =
+    let capped = rw c.len.ensures at c.amount.ensures in
+    subst (HasBits c.moved_down.result c.moved_down.new.room)
+    (moved_down_signed c.args.left.now c.amount.result _ c.bit.result capped c.bit.ensures) c.moved_down.ensures
