@@ -6,3 +6,4 @@ pub mod Progress
 pub mod Searches
 pub mod Splits
 pub mod Unique
+pub mod Broken

@@ -10,8 +10,9 @@ use Rattle.chw_bits.specs.Hex.{IsFaultOf}
 use Rattle.chw_bits.specs.declared.read_hex.HexFault.{HexFault}
 use Rattle.chw_bits.specs.declared.read_hex.HexFault.TheVariants.{NotHex, Width}
 use Rattle.chw_clock.specs.declared.event.Port.{Port}
-use Rattle.stimulus.specs.Stimulus.{AreWide, IsPart}
+use Rattle.stimulus.specs.Stimulus.{AreWide}
 use Rattle.stimulus.specs.Texts.{behind, texts}
+use Rattle.stimulus.specs.Words.{HasDigits}
 use Rattle.stimulus.proofs.Lists.{all_text_at}
 
 -- what holds of the ports and parts that are left speaks of the first of them
@@ -35,9 +36,9 @@ back R ports parts i port d within same is h =
 pub part_fault : (ports : List Port) (parts : List (Bor (List ℕ))) (i : ℕ) (port : Port) (d : Bor (List ℕ)) (digits : List ℕ) (e : Or HexFault)
     → i < length ports → length parts ≡ length ports → port ≡ get_or ports i port → digits ≡ behind 61 (get_or parts i d).now
     → (AreWide ports (texts parts) → AreWide (drop i ports) (texts (drop i parts))) → OfFault e (IsFaultOf port.width digits)
-    → OfFault e (λ _. AllByRecursion IsPart (texts parts) → AreWide ports (texts parts) → ⊥)
+    → OfFault e (λ _. AllByRecursion HasDigits (texts parts) → AreWide ports (texts parts) → ⊥)
 part_fault ports parts i port d digits Memory within same is cut left f = tt
 part_fault ports parts i port d digits (Fault NotHex) within same is cut left f =
-    λ all wide. (subst (λ (t : List ℕ). IsFaultOf port.width t NotHex) cut f) (all_text_at IsPart parts i d (omega arith) all).2
+    λ all wide. (subst (λ (t : List ℕ). IsFaultOf port.width t NotHex) cut f) (all_text_at HasDigits parts i d (omega arith) all)
 part_fault ports parts i port d digits (Fault Width) within same is cut left f =
     λ all wide. (subst (λ (t : List ℕ). IsFaultOf port.width t Width) cut f).1 (front AreWide ports parts i port d within same is (left wide)).0

@@ -3,7 +3,8 @@ ghost use Rattle.std.specs.Prelude.{◌≡◌, ◌<◌, ◌++◌, length, map, r
 ghost use Rattle.std.specs.List.{AllByRecursion, filter};
 ghost use Rattle.chw_base.specs.Outcome.{IfFault};
 ghost use Rattle.stimulus.specs.Texts.{has, texts};
-ghost use Rattle.stimulus.specs.Stimulus.{AreWide, IsPart, domain_of, event_from, inputs_of};
+ghost use Rattle.stimulus.specs.Stimulus.{AreWide, domain_of, event_from, inputs_of};
+ghost use Rattle.stimulus.specs.Words.{HasDigits};
 
 use crate::cut::{before, behind, has};
 use crate::form::Words;
@@ -54,7 +55,8 @@ fn inputs_of(alloc: Global, inputs: &[Port], parts: &[&[u8]]) -> Result<Vec<Bits
     requires { length parts.now ≡ length inputs.now }
     ensures wide { IfOk result (λ _. AreWide inputs.now (texts parts.now)) }
     ensures bits { IfOk result (λ bits. bits.items ≡ inputs_of inputs.now (texts parts.now)) }
-    ensures fault { IfFault result (λ _. AllByRecursion IsPart (texts parts.now) → AreWide inputs.now (texts parts.now) → ⊥) }
+    ensures digits { IfOk result (λ _. AllByRecursion HasDigits (texts parts.now)) }
+    ensures fault { IfFault result (λ _. AllByRecursion HasDigits (texts parts.now) → AreWide inputs.now (texts parts.now) → ⊥) }
 {
     let mut bits = Vec::new(alloc);
     for (place, input) in inputs.iter().enumerate() {
@@ -68,7 +70,8 @@ pub fn event_of(alloc: Global, words: &Words, ports: &Ports) -> Result<Event, Or
     requires { length words.now.parts.items ≡ length ports.now.inputs }
     ensures wide { IfOk result (λ _. AreWide ports.now.inputs (texts words.now.parts.items)) }
     ensures event { IfOk result (λ event. event ≡ event_from ports.now (texts words.now.domains.items) (texts words.now.parts.items)) }
-    ensures fault { IfFault result (λ _. AllByRecursion IsPart (texts words.now.parts.items) → AreWide ports.now.inputs (texts words.now.parts.items) → ⊥) }
+    ensures digits { IfOk result (λ _. AllByRecursion HasDigits (texts words.now.parts.items)) }
+    ensures fault { IfFault result (λ _. AllByRecursion HasDigits (texts words.now.parts.items) → AreWide ports.now.inputs (texts words.now.parts.items) → ⊥) }
 {
     let inputs = inputs_of(alloc, ports.inputs.as_slice(), &words.parts)?;
     let with_reset = with_reset(alloc, &words.domains)?;

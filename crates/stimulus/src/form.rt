@@ -3,11 +3,11 @@ ghost use Rattle.std.specs.Prelude.{◌≡◌, ◌↔◌, length, map, IfOk, IfS
 ghost use Rattle.std.specs.List.{AllByRecursion};
 ghost use Rattle.name_tables.specs.Names.{AreDistinct};
 ghost use Rattle.stimulus.specs.Texts.{before, behind, has, texts};
-ghost use Rattle.stimulus.specs.Stimulus.{IsApart, IsBody, IsDomain, IsPart, HasCount, HaveForm, body_of, count_of, domains_of, parts_in, parts_of};
-ghost use Rattle.stimulus.specs.Words.{AreWordsOf};
+ghost use Rattle.stimulus.specs.Stimulus.{IsApart, IsBody, IsDomain, HasCount, body_of, count_of, domains_of, parts_in, parts_of};
+ghost use Rattle.stimulus.specs.Words.{AreWordsOf, HasDigits, HaveWords, IsPair};
 
 use crate::cut::{before, cut, split_at};
-use crate::words::{count, is_domain, is_part};
+use crate::words::{count, has_digits, is_domain, is_pair};
 use chw_base::NoMemory;
 use name_tables::Declared;
 use std::alloc::Global;
@@ -85,11 +85,23 @@ fn are_domains(domains: &[&[u8]]) -> bool
     true
 }
 
-fn are_parts(parts: &[&[u8]]) -> bool
-    ensures { IsTrue result ↔ AllByRecursion IsPart (texts parts.now) }
+fn are_pairs(parts: &[&[u8]]) -> bool
+    ensures { IsTrue result ↔ AllByRecursion IsPair (texts parts.now) }
 {
     for part in parts {
-        if !is_part(part) {
+        if !is_pair(part) {
+            return false;
+        }
+    }
+    true
+}
+
+/// Whether what stands behind the `=` of each part is hexadecimal.
+pub fn have_digits(parts: &[&[u8]]) -> bool
+    ensures { IsTrue result ↔ AllByRecursion HasDigits (texts parts.now) }
+{
+    for part in parts {
+        if !has_digits(part) {
             return false;
         }
     }
@@ -109,26 +121,29 @@ fn are_distinct(alloc: Global, domains: &[&[u8]]) -> Result<bool, NoMemory>
     Ok(true)
 }
 
-/// Whether the words are a line's of so many inputs.
+/// Whether the words are a line's of so many inputs, whatever stands behind the `=` of its parts.
 fn have_form(alloc: Global, words: &Words, inputs: usize) -> Result<bool, NoMemory>
-    ensures { IfOk result (λ yes. IsTrue yes ↔ HaveForm inputs (texts words.now.domains.items) (texts words.now.parts.items)) }
+    ensures { IfOk result (λ yes. IsTrue yes ↔ HaveWords inputs (texts words.now.domains.items) (texts words.now.parts.items)) }
 {
     Ok(
         words.parts.len() == inputs
             && are_domains(&words.domains)
-            && are_parts(&words.parts)
+            && are_pairs(&words.parts)
             && are_distinct(alloc, &words.domains)?,
     )
 }
 
-/// The words of a line without its count, where it is of the form.
+/// The words of a line without its count, where it is of the form if its parts have hexadecimal digits.
+///
+/// These are not tested, since to read them tests them.
 pub fn words_of<'a>(
     alloc: Global,
     body: &'a [u8],
     inputs: usize,
 ) -> Result<Option<Words<'a>>, NoMemory>
-    ensures form { IfOk result (λ r. IfSome r (λ _. IsBody inputs body.now)) }
+    ensures form { IfOk result (λ r. IfSome r (λ w. AllByRecursion HasDigits (texts w.parts.items) → IsBody inputs body.now)) }
     ensures words { IfOk result (λ r. IfSome r (λ w. AreWordsOf body.now w)) }
+    ensures each { IfOk result (λ r. IfSome r (λ w. length w.parts.items ≡ inputs)) }
     ensures none { IfOk result (λ r. IfNone r (IsBody inputs body.now → ⊥)) }
 {
     let Some(words) = around_colon(alloc, body)? else {

@@ -1,16 +1,18 @@
 //! The events of a text.
-ghost use Rattle.std.specs.Prelude.{◌≡◌, ◌+◌, ◌<◌, ◌≤◌, ◌^◌, ◌++◌, length, IfOk, OnOk};
+ghost use Rattle.std.specs.Prelude.{◌≡◌, ◌+◌, ◌<◌, ◌≤◌, ◌^◌, ◌++◌, ◌⊎◌, length, IfOk, OnOk};
 ghost use Rattle.std.specs.List.{AllByRecursion};
 ghost use Rattle.chw_base.specs.Outcome.{IfFault};
 ghost use Rattle.chw_base.specs.declared.limits.TheConstants.{EVENTS};
 ghost use Rattle.chw_clock.specs.Histories.{FitsEvent};
-ghost use Rattle.stimulus.specs.Texts.{before, behind};
+ghost use Rattle.stimulus.specs.Texts.{before, behind, texts};
 ghost use Rattle.stimulus.specs.Stimulus.{IsBroken, IsFaultOf, IsRight, IsStimFault, LineOf, Stim, line_events};
+ghost use Rattle.stimulus.specs.Words.{HasDigits};
+ghost use Rattle.stimulus.specs.declared.fault.StimCode.TheVariants.{S01};
 
 use crate::cut::cut;
 use crate::event::{event_of, put_copies};
 use crate::fault::{StimCode, StimFault};
-use crate::form::{Words, without_count, words_of};
+use crate::form::{Words, have_digits, without_count, words_of};
 use crate::names::have_names;
 use chw_base::limits::{EVENTS, STIMULUS_BYTES};
 use chw_base::{NoMemory, Or, Seq};
@@ -22,6 +24,18 @@ use std::alloc::Global;
 struct Line {
     count: u32,
     event: Event,
+}
+
+// The code of a line that would break this but for its form, of which the digits of its parts are left.
+fn code_of(parts: &[&[u8]], code: StimCode) -> StimCode
+    ensures { (AllByRecursion HasDigits (texts parts.now) × (result ≡ code))
+        ⊎ ((AllByRecursion HasDigits (texts parts.now) → ⊥) × (result ≡ S01)) }
+{
+    if have_digits(parts) {
+        code
+    } else {
+        StimCode::S01
+    }
 }
 
 /// The events of a line.
@@ -36,7 +50,7 @@ fn line_of(alloc: Global, text: &[u8], ports: &Ports) -> Result<Line, Or<StimCod
         return Err(Or::Fault(StimCode::S01));
     };
     if !have_names(&words, ports) {
-        return Err(Or::Fault(StimCode::S02));
+        return Err(Or::Fault(code_of(&words.parts, StimCode::S02)));
     }
     match event_of(alloc, &words, ports) {
         Ok(event) => Ok(Line {
@@ -44,7 +58,7 @@ fn line_of(alloc: Global, text: &[u8], ports: &Ports) -> Result<Line, Or<StimCod
             event,
         }),
         Err(Or::Memory) => Err(Or::Memory),
-        Err(Or::Fault(_)) => Err(Or::Fault(StimCode::S03)),
+        Err(Or::Fault(_)) => Err(Or::Fault(code_of(&words.parts, StimCode::S03))),
     }
 }
 
@@ -118,7 +132,7 @@ fn put_first<'a>(
 /// A fault is the first line that isn't taken, with what it breaks first: its form, the names of the
 /// ports, the widths of the inputs, the most events. A text that is too long has line 0.
 ///
-/// Want of memory may come before the fault of a later line. Ports with more domains than can be numbered
+/// Want of memory may come before the fault of the same line or of a later one. Ports with more domains than can be numbered
 /// find no memory at a line that names one past these.
 pub fn read_stimulus(alloc: Global, text: &[u8], ports: &Ports) -> Result<Seq<Event>, Or<StimFault>>
     ensures stimulus { IfOk result (λ events. Stim text.now ports.now events) }

@@ -3,7 +3,8 @@ ghost use Rattle.std.specs.Prelude.{◌≡◌, ◌<◌, ◌≤◌, ◌↔◌, le
 ghost use Rattle.std.specs.Char.{digit_value};
 ghost use Rattle.std.specs.Str.Parse.{digits_value, AllDigits};
 ghost use Rattle.chw_base.specs.Names.{AllOf, IsLowerWord, IsUpper, is_capital, is_letter_or_digit, is_name_byte, is_small_letter};
-ghost use Rattle.stimulus.specs.Stimulus.{IsCount, IsDomain, IsPart};
+ghost use Rattle.stimulus.specs.Stimulus.{IsCount, IsDomain};
+ghost use Rattle.stimulus.specs.Words.{HasDigits, IsPair};
 
 use crate::cut::{before, behind};
 
@@ -128,10 +129,16 @@ pub fn is_domain(word: &[u8]) -> bool
     is_upper(before(word, b'!')) && behind(word, b'!').is_empty()
 }
 
-/// Whether it is the name of an input, `=` and hexadecimal digits.
-pub fn is_part(word: &[u8]) -> bool
-    ensures { IsTrue result ↔ IsPart word.now }
+/// Whether it is the name of an input, `=` and a text that isn't empty.
+pub fn is_pair(word: &[u8]) -> bool
+    ensures { IsTrue result ↔ IsPair word.now }
 {
-    let digits = behind(word, b'=');
-    is_lower_word(before(word, b'=')) && !digits.is_empty() && are_digits(digits, 16)
+    is_lower_word(before(word, b'=')) && !behind(word, b'=').is_empty()
+}
+
+/// Whether what stands behind the `=` of a part is hexadecimal.
+pub fn has_digits(part: &[u8]) -> bool
+    ensures { IsTrue result ↔ HasDigits part.now }
+{
+    are_digits(behind(part, b'='), 16)
 }

@@ -1,0 +1,4 @@
+pub mod Building
+pub mod Expanded
+pub mod Opened
+pub mod Ports
