@@ -1,6 +1,6 @@
 -- Each form of term acts so where its parts do, in any two environments.
 use Rattle.std.specs.Prelude.{slice_get}
-use Rattle.std.proofs.Common.{◌≡◌, ℕ, suc, zero, Bool, List, [], Some, refl, sym, subst}
+use Rattle.std.proofs.Common.{◌≡◌, ℕ, suc, zero, Bool, List, [], length, Some, refl, sym, subst}
 use Rattle.chw_types.specs.declared.kind.Kind.{Kind}
 use Rattle.chw_types.specs.declared.kind.Scalar.{Scalar}
 use Rattle.chw_types.specs.TypeTree.{TypeTree, scalar, vector, fun, for_all, TypeTrees, type_and}
@@ -10,6 +10,7 @@ use Rattle.chw_terms.specs.TermTree.{TermTree, var, lam, app, ty_lam, ty_app, le
 use Rattle.chw_terms.specs.Evaluated.{evaluated}
 use Rattle.chw_typing.specs.Scopes.{HasKind}
 use Rattle.chw_typing.specs.Programs.{setting_of}
+use Rattle.chw_layout.specs.Measured.{closed_value}
 use Rattle.chw_meaning.specs.Values.{History, Value, bits, vec_of, closure, ty_closure, Thunk, closed, applied, member, sample, Thunks, none, thunk_and, closed_type, in_group, body_at, closed_all}
 use Rattle.chw_meaning.specs.Eval.{plus, Evals, e_var, e_lam, e_app, e_ty_lam, e_ty_app, e_letrec, e_lit, e_vec, Forces, f_closed, f_applied, f_member, f_sample, Applies, a_closure, TyApplies, t_closure}
 use Rattle.chw_meaning.proofs.Once.{same_some}
@@ -35,18 +36,18 @@ var_acts {p} l t x' x γ' γ δ' δ look h' h m v al (e_var {n = k} {th = th} i 
     let acts = look.acts h' h k v al (subst (λ th. Forces p k th h' v) same d) in
     cost l k t v _ (more l k t v (thunk_has p look.second h) (term_has p (var x) γ δ h) (λ u q. (suc q.0, e_var look.has_second q.1)) acts)
 
-bits_at : (p : Program) (n m : ℕ) (x : Scalar) (w : TypeTree) (b : List Bool) (s : Value → Type 0) → s (bits b) → later m (acts_from p n) zero (scalar x w) (bits b) s
+bits_at : (p : Program) (n m : ℕ) (x : Scalar) (w : TypeTree) (b : List Bool) (s : Value → Type 0) → length b ≡ closed_value w → s (bits b) → later m (acts_from p n) zero (scalar x w) (bits b) s
 unfolding acts_from
-bits_at p zero m x w b s own = at_end p m (scalar x w) (bits b) s
-bits_at p (suc n) zero x w b s own = (b, refl, own)
-bits_at p (suc n) (suc m) x w b s own = bits_at p n m x w b s own
+bits_at p zero m x w b s wide own = at_end p m (scalar x w) (bits b) s
+bits_at p (suc n) zero x w b s wide own = (b, refl, own, wide)
+bits_at p (suc n) (suc m) x w b s wide own = bits_at p n m x w b s wide own
 
 -- a scalar that the other side has too
-pub bits_act : {p : Program} {r : Levels} → IsLevels p r → (m : ℕ) (x : Scalar) (w : TypeTree) (b : List Bool) (s : Value → Type 0) → s (bits b) → later m r zero (scalar x w) (bits b) s
-bits_act {p} l m x w b s own = at_levels l (λ q. later m q zero (scalar x w) (bits b) s) (λ n. bits_at p n m x w b s own)
+pub bits_act : {p : Program} {r : Levels} → IsLevels p r → (m : ℕ) (x : Scalar) (w : TypeTree) (b : List Bool) (s : Value → Type 0) → length b ≡ closed_value w → s (bits b) → later m r zero (scalar x w) (bits b) s
+bits_act {p} l m x w b s wide own = at_levels l (λ q. later m q zero (scalar x w) (bits b) s) (λ n. bits_at p n m x w b s wide own)
 
-pub lit_acts : {p : Program} {r : Levels} → IsLevels p r → (x : Scalar) (b : List Bool) (w : TypeTree) (γ' γ : Thunks) (δ' δ : TypeTrees) → TermsAct p r (scalar x w) (lit x b) γ' δ' (lit x b) γ δ
-lit_acts {p} l x b w γ' γ δ' δ h' h m v al e_lit = bits_act l (suc zero) x w b (term_has p (lit x b) γ δ h) (suc zero, e_lit)
+pub lit_acts : {p : Program} {r : Levels} → IsLevels p r → (x : Scalar) (b : List Bool) (w : TypeTree) → length b ≡ closed_value w → (γ' γ : Thunks) (δ' δ : TypeTrees) → TermsAct p r (scalar x w) (lit x b) γ' δ' (lit x b) γ δ
+lit_acts {p} l x b w wide γ' γ δ' δ h' h m v al e_lit = bits_act l (suc zero) x w b (term_has p (lit x b) γ δ h) wide (suc zero, e_lit)
 
 -- a term's thunk
 pub thunk_acts : {p : Program} {r : Levels} → IsLevels p r → (t : TypeTree) (e' e : TermTree) (γ' γ : Thunks) (δ' δ : TypeTrees) → TermsAct p r t e' γ' δ' e γ δ → ThunksAct p r t (closed e' γ' δ') (closed e γ δ)

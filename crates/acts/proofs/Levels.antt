@@ -91,7 +91,7 @@ step_grows p r g (nat_lit n) v s u f h = tt
 step_grows p r g (nat_sum a b) v s u f h = tt
 step_grows p r g (nat_product a b) v s u f h = tt
 step_grows p r g (domain d) v s u f h = tt
-step_grows p r g (scalar x w) v s u f h = (h.0, h.1, f _ h.2)
+step_grows p r g (scalar x w) v s u f h = (h.0, h.1, f _ h.2, h.3)
 step_grows p r g (vector n t) v s u f h = record { first = h.first; second = h.second; is = h.is; has_value = f _ h.has_value; parts = h.parts }
 step_grows p r g (data_of d ts) v s u f h = record { tag = h.tag; it = h.it; held = h.held; of_type = h.of_type; first = h.first; second = h.second; is = h.is; has_value = f _ h.has_value; parts = h.parts }
 step_grows p r g (fun a b) v s u f h = λ i x' x xs. runs_grow (later i r) (later_grows i r g) b _ _ _ (λ h w q. (q.0, f q.0 q.1, q.2)) (h i x' x xs)

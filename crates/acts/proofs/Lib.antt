@@ -24,4 +24,5 @@ pub mod Telescopes
 pub mod Tied
 pub mod Typed
 pub mod Values
+pub mod Widths
 pub mod Yields

@@ -1,8 +1,10 @@
 -- A vector with one element replaced: the term that chooses between both acts as itself.
 use Rattle.std.specs.Prelude.{nat_lt}
-use Rattle.std.proofs.Common.{◌≡◌, ◌^◌, ℕ, suc, Bool, true, false, if◌then◌else◌, [], ◌∷◌, map, reverse, Some, refl, sym, ap, ◌∙◌, subst}
+use Rattle.std.proofs.Common.{◌≡◌, ◌≤◌, ◌^◌, ℕ, suc, Bool, true, false, if◌then◌else◌, [], ◌∷◌, map, reverse, Some, refl, sym, ap, ◌∙◌, subst}
 use Rattle.std.proofs.lemmas.Bool.{eqb-true}
 use Rattle.chw_bits.specs.Bits.{bits_of}
+use Rattle.chw_bits.proofs.Numbers.{length-bits_of}
+use Rattle.chw_types.specs.Polynomials.{greatest}
 use Rattle.chw_types.specs.declared.kind.Kind.TheVariants.{Nat, Val}
 use Rattle.chw_types.specs.declared.kind.Scalar.TheVariants.{U}
 use Rattle.chw_types.specs.TypeTree.{TypeTree, ty_var, nat_lit, scalar, vector, fun, TypeTrees, no_types}
@@ -35,20 +37,21 @@ use Rattle.acts.proofs.Levels.{IsLevels, from_turns, at_later, runs_later}
 use Rattle.acts.proofs.Rows.{RowActs, prim_acts, compare_line, truth_con, falsity_con, each_step}
 use Rattle.acts.proofs.Shapes.{types_3_step, thunks_3_step}
 use Rattle.acts.proofs.Steps.{scalars_act}
+use Rattle.acts.proofs.Widths.{closed_least, number_itself}
 
 equal_acts : (p : Program) → IsSound (setting_of p) → (r : Levels) → IsLevels p r → (γ' γ : Thunks) (δ' δ : TypeTrees) → TermsAct p r (schema_type EqU) (prim EqU) γ' δ' (prim EqU) γ δ
 equal_acts p sound r l γ' γ δ' δ =
     prim_acts p sound EqU (Compare U) refl (Nat ∷ []) (scalar U (ty_var 0) ∷ scalar U (ty_var 0) ∷ []) bool refl refl refl (compare_line p sound EqU U refl) r l γ' γ δ' δ
 
 -- the variable 0 compared to a number
-test_acts : (p : Program) → IsSound (setting_of p) → (r : Levels) → IsLevels p r → (k j : ℕ) (γ' γ : Thunks) → LooksAlike p r (scalar U (nat_lit k)) 0 0 γ' γ → TermsAct p r bool (app (app (ty_app (prim EqU) (nat_lit k)) (var 0)) (lit U (bits_of k j))) γ' no_types (app (app (ty_app (prim EqU) (nat_lit k)) (var 0)) (lit U (bits_of k j))) γ no_types
+test_acts : (p : Program) → IsSound (setting_of p) → (r : Levels) → IsLevels p r → (k j : ℕ) → k ≤ greatest → (γ' γ : Thunks) → LooksAlike p r (scalar U (nat_lit k)) 0 0 γ' γ → TermsAct p r bool (app (app (ty_app (prim EqU) (nat_lit k)) (var 0)) (lit U (bits_of k j))) γ' no_types (app (app (ty_app (prim EqU) (nat_lit k)) (var 0)) (lit U (bits_of k j))) γ no_types
 unfolding sub put_at up_by evaluated
-test_acts p sound r l k j γ' γ look =
+test_acts p sound r l k j least γ' γ look =
     let a = scalar U (nat_lit k) in
     let at = ty_app_acts l Nat (fun (scalar U (ty_var 0)) (fun (scalar U (ty_var 0)) bool)) (nat_lit k) (nat_lit k) (nat_lit k) (prim EqU) (prim EqU) γ' γ no_types no_types refl refl kind_nat refl (equal_acts p sound r l γ' γ no_types no_types) in
     app_acts l a bool (app (ty_app (prim EqU) (nat_lit k)) (var 0)) (app (ty_app (prim EqU) (nat_lit k)) (var 0)) (lit U (bits_of k j)) (lit U (bits_of k j)) γ' γ no_types no_types
     (app_acts l a (fun a bool) (ty_app (prim EqU) (nat_lit k)) (ty_app (prim EqU) (nat_lit k)) (var 0) (var 0) γ' γ no_types no_types at (var_acts l a 0 0 γ' γ no_types no_types look))
-    (lit_acts l U (bits_of k j) (nat_lit k) γ' γ no_types no_types)
+    (lit_acts l U (bits_of k j) (nat_lit k) (length-bits_of k j ∙ number_itself k least) γ' γ no_types no_types)
 
 both_none : (p : Program) (r : Levels) (xs' xs : Thunks) → AllAct p r [] xs' xs → (xs' ≡ none) × (xs ≡ none)
 both_none p r none none h = (refl, refl)
@@ -78,10 +81,10 @@ several p sound = subst (λ datas. is_only (con_at datas 1) ≡ false) (sym soun
 abbrev truth_alts : Alts
 truth_alts = alt (OfCon (record { number = 1 }) 0) (var 1) (alt (OfCon (record { number = 0 }) 0) (var 2) no_alts)
 
-replacing_acts : (p : Program) → IsSound (setting_of p) → (r : Levels) → IsLevels p r → (a : TypeTree) (k j : ℕ) (γ' γ : Thunks) → LooksAlike p r (scalar U (nat_lit k)) 0 0 γ' γ → LooksAlike p r a 1 1 γ' γ → LooksAlike p r a 2 2 γ' γ → TermsAct p r a (replacing k j) γ' no_types (replacing k j) γ no_types
+replacing_acts : (p : Program) → IsSound (setting_of p) → (r : Levels) → IsLevels p r → (a : TypeTree) (k j : ℕ) → k ≤ greatest → (γ' γ : Thunks) → LooksAlike p r (scalar U (nat_lit k)) 0 0 γ' γ → LooksAlike p r a 1 1 γ' γ → LooksAlike p r a 2 2 γ' γ → TermsAct p r a (replacing k j) γ' no_types (replacing k j) γ no_types
 unfolding sub
-replacing_acts p sound r l a k j γ' γ index new old =
-    looks_acts l bool a test test truth_alts truth_alts γ' γ no_types no_types tt looking looking (test_acts p sound r l k j γ' γ index) arms
+replacing_acts p sound r l a k j least γ' γ index new old =
+    looks_acts l bool a test test truth_alts truth_alts γ' γ no_types no_types tt looking looking (test_acts p sound r l k j least γ' γ index) arms
   where
     test : TermTree
     test = app (app (ty_app (prim EqU) (nat_lit k)) (var 0)) (lit U (bits_of k j))
@@ -109,18 +112,19 @@ if_acts p r t false x' x y' y xs ys = ys
 here : {p : Program} {r : Levels} (t : TypeTree) (x : ℕ) (γ' γ : Thunks) (x' y : Thunk) → thunk_at γ' x ≡ Some x' → thunk_at γ x ≡ Some y → ThunksAct p r t x' y → LooksAlike p r t x x γ' γ
 here t x γ' γ x' y e f acts = record { first = x'; second = y; has_first = e; has_second = f; acts = acts }
 
-replaced_acts : (p : Program) → IsSound (setting_of p) → (r : Levels) → IsLevels p r → (m w a : TypeTree) (k : ℕ) (v' v i' i x' x : Thunk) → ThunksAct p r (vector m a) v' v → ThunksAct p r (scalar U w) i' i → ThunksAct p r a x' x → (j : ℕ) → ThunksAct p r a (replaced k v' i' x' j) (replaced k v i x j)
-replaced_acts p sound r l m w a k v' v i' i x' x vs is xs j =
+replaced_acts : (p : Program) → IsSound (setting_of p) → (r : Levels) → IsLevels p r → (m w a : TypeTree) (k : ℕ) → closed_value w ≡ k → (v' v i' i x' x : Thunk) → ThunksAct p r (vector m a) v' v → ThunksAct p r (scalar U w) i' i → ThunksAct p r a x' x → (j : ℕ) → ThunksAct p r a (replaced k v' i' x' j) (replaced k v i x j)
+replaced_acts p sound r l m w a k wide v' v i' i x' x vs is xs j =
+    let least = subst (λ n. n ≤ greatest) wide (closed_least w) in
     let old = element_acts l m a j v' v vs in
     let γ' = thunk_and i' (thunk_and x' (thunk_and (element j v') none)) in
     let γ = thunk_and i (thunk_and x (thunk_and (element j v) none)) in
     if_acts p r a (nat_lt j (2 ^ k)) (closed (replacing k j) γ' no_types) (closed (replacing k j) γ no_types) (element j v') (element j v)
     (thunk_acts l a (replacing k j) (replacing k j) γ' γ no_types no_types
-    (replacing_acts p sound r l a k j γ' γ (here (scalar U (nat_lit k)) 0 γ' γ i' i refl refl (scalars_act l U w (nat_lit k) i' i is)) (here a 1 γ' γ x' x refl refl xs) (here a 2 γ' γ (element j v') (element j v) refl refl old))) old
+    (replacing_acts p sound r l a k j least γ' γ (here (scalar U (nat_lit k)) 0 γ' γ i' i refl refl (scalars_act l U w (nat_lit k) (wide ∙ number_itself k least) i' i is)) (here a 1 γ' γ x' x refl refl xs) (here a 2 γ' γ (element j v') (element j v) refl refl old))) old
 
 pub replaced_line : (p : Program) → IsSound (setting_of p) → (q : Prim) → RowActs p q Replaced (vector (ty_var 2) (ty_var 0)) (Val ∷ Nat ∷ Nat ∷ []) (ty_var 0 ∷ scalar U (ty_var 1) ∷ vector (ty_var 2) (ty_var 0) ∷ [])
 unfolding sub
-replaced_line p sound q n ts xs' xs =
+replaced_line p sound q n ts xs' xs size =
     types_3_step p (acts_from p n) (ty_var 0 ∷ scalar U (ty_var 1) ∷ vector (ty_var 2) (ty_var 0) ∷ []) (vector (ty_var 2) (ty_var 0)) (λ m k a xs. thunks_3 xs (λ v i x. gives (each (closed_value m) (replaced (closed_value k) v i x)))) xs' xs
     (λ m k a. thunks_3_step p (acts_from p n) a (scalar U k) (vector m a) (vector m a) (λ v i x. gives (each (closed_value m) (replaced (closed_value k) v i x)))
-    (λ v' v i' i x' x vs is xs. each_step p n m a (closed_value m) (replaced (closed_value k) v' i' x') (replaced (closed_value k) v i x) (replaced_acts p sound (acts_from p n) (from_turns p n) m k a (closed_value k) v' v i' i x' x vs is xs)) xs' xs) ts
+    (λ v' v i' i x' x vs is xs. each_step p n m a (closed_value m) (replaced (closed_value k) v' i' x') (replaced (closed_value k) v i x) (replaced_acts p sound (acts_from p n) (from_turns p n) m k a (closed_value k) refl v' v i' i x' x vs is xs)) xs' xs) ts

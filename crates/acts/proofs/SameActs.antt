@@ -1,6 +1,6 @@
 -- Types that are the same up to naturals act the same.
 use Rattle.std.specs.Prelude.{slice_get}
-use Rattle.std.proofs.Common.{◌≡◌, ◌⊎◌, ℕ, suc, zero, true, List, [], ◌∷◌, ◌++◌, length, map, reverse, Some, refl, sym, subst}
+use Rattle.std.proofs.Common.{◌≡◌, ◌⊎◌, ℕ, suc, zero, true, List, [], ◌∷◌, ◌++◌, length, map, reverse, Some, refl, sym, ◌∙◌, subst}
 use Rattle.chw_types.specs.declared.kind.Kind.{Kind}
 use Rattle.chw_types.specs.declared.kind.Kind.TheVariants.{Nat, Val}
 use Rattle.chw_types.specs.declared.declarations.Data.{Data}
@@ -30,6 +30,7 @@ use Rattle.chw_meaning.specs.Values.{History, Value, Thunks, none, thunk_and}
 use Rattle.chw_meaning.specs.Eval.{plus}
 use Rattle.acts.specs.Levels.{Levels, later, Alike, First, Second, RunsAct, thunk_runs, thunk_has}
 use Rattle.acts.specs.Acts.{AllAct, EachAct, act_step, acts_from}
+use Rattle.acts.proofs.Widths.{same_number}
 use Rattle.acts.proofs.Levels.{at_end, later_plus, IsLevels, at_levels}
 
 -- closed types that are the same, with kinds
@@ -177,7 +178,7 @@ step_same {p} {r} sound resp (same_naturals {b = b} x y q) j k d e v s h = natur
 step_same sound resp (same_sum x y) j k d e v s h = tt
 step_same sound resp (same_product x y) j k d e v s h = tt
 step_same sound resp same_domain j k d e v s h = tt
-step_same sound resp (same_scalar x) j k d e v s h = h
+step_same sound resp (same_scalar x) j k d e v s h = (h.0, h.1, h.2, h.3 ∙ same_number x)
 step_same {p} sound resp (same_vector {t = t} {u = u} x y) j k d e v s h =
     record { first = h.first; second = h.second; is = h.is; has_value = h.has_value; parts = each_same resp (as_same (element_kind d) (element_kind e) y) h.first h.second h.parts }
 step_same {p} sound resp (same_data {d = i} {ts = ts} {us = us} x) j k d e v s h =

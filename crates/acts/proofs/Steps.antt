@@ -1,10 +1,12 @@
 -- What a primitive does with thunks that act so acts so.
-use Rattle.std.proofs.Common.{◌≡◌, ◌<◌, ◌≤◌, ◌⊎◌, inl, inr, ℕ, suc, zero, min, Bool, List, [], ◌∷◌, refl, subst, arith}
+use Rattle.std.proofs.Common.{◌≡◌, ◌<◌, ◌≤◌, ◌⊎◌, inl, inr, ℕ, suc, zero, min, Bool, List, [], ◌∷◌, reverse, Some, refl, ◌∙◌, subst, arith}
 use Rattle.chw_bits.specs.Bits.{number_of}
 use Rattle.chw_types.specs.declared.kind.Scalar.{Scalar}
 use Rattle.chw_types.specs.TypeTree.{TypeTree, ty_var, nat_lit, nat_sum, nat_product, domain, scalar, vector, data_of, fun, signal, for_all}
 use Rattle.chw_prims.specs.declared.prim.Primitive.{Primitive as Prim}
+use Rattle.prim_bits.specs.Values.{value_of as word_value}
 use Rattle.chw_terms.specs.declared.program.Program.{Program}
+use Rattle.chw_layout.specs.Measured.{closed_value}
 use Rattle.chw_meaning.specs.Values.{History, Value, bits, vec_of, Thunk, applied, element, sample, Thunks, none, thunk_and, joined}
 use Rattle.chw_meaning.specs.Steps.{Step, gives, goes_to, computes, samples, delays, looks_up, stuck, each_from, folded_left, folded_right, concatenated, at_index}
 use Rattle.chw_meaning.specs.Eval.{plus, result, Forces, r_gives, r_goes_to, r_computes, r_samples, r_first, r_later, r_looks_up, Looks, l_empty, l_bits, Words, no_words, word_and}
@@ -47,15 +49,15 @@ delays_step {p} {r} l c d a i' i s' s is ss h' h m w al (r_later {g = g} q e) =
     subst (λ h. later m r zero (signal d a) w (step_has p (delays c i s) h)) al
     (more l m (signal d a) w (thunk_has p s g) (step_has p (delays c i s) h') (λ u x. (x.0, r_later q x.1)) (ss g g m w refl e))
 
--- a scalar, of which the width isn't asked
-scalar_at : (p : Program) (n m : ℕ) (x : Scalar) (w u : TypeTree) (v : Value) (s : Value → Type 0) → later m (acts_from p n) zero (scalar x w) v s → later m (acts_from p n) zero (scalar x u) v s
+-- a scalar of another type of the same width
+scalar_at : (p : Program) (n m : ℕ) (x : Scalar) (w u : TypeTree) → closed_value w ≡ closed_value u → (v : Value) (s : Value → Type 0) → later m (acts_from p n) zero (scalar x w) v s → later m (acts_from p n) zero (scalar x u) v s
 unfolding acts_from
-scalar_at p zero m x w u v s h = at_end p m (scalar x u) v s
-scalar_at p (suc n) zero x w u v s h = h
-scalar_at p (suc n) (suc m) x w u v s h = scalar_at p n m x w u v s h
+scalar_at p zero m x w u same v s h = at_end p m (scalar x u) v s
+scalar_at p (suc n) zero x w u same v s h = (h.0, h.1, h.2, h.3 ∙ same)
+scalar_at p (suc n) (suc m) x w u same v s h = scalar_at p n m x w u same v s h
 
-pub scalars_act : {p : Program} {r : Levels} → IsLevels p r → (x : Scalar) (w u : TypeTree) (x' y : Thunk) → ThunksAct p r (scalar x w) x' y → ThunksAct p r (scalar x u) x' y
-scalars_act {p} l x w u x' y acts h' h m v al d = at_levels l (λ q. later m q zero (scalar x w) v (thunk_has p y h) → later m q zero (scalar x u) v (thunk_has p y h)) (λ n. scalar_at p n m x w u v (thunk_has p y h)) (acts h' h m v al d)
+pub scalars_act : {p : Program} {r : Levels} → IsLevels p r → (x : Scalar) (w u : TypeTree) → closed_value w ≡ closed_value u → (x' y : Thunk) → ThunksAct p r (scalar x w) x' y → ThunksAct p r (scalar x u) x' y
+scalars_act {p} l x w u same x' y acts h' h m v al d = at_levels l (λ q. later m q zero (scalar x w) v (thunk_has p y h) → later m q zero (scalar x u) v (thunk_has p y h)) (λ n. scalar_at p n m x w u same v (thunk_has p y h)) (acts h' h m v al d)
 
 -- the bits of a scalar, where a turn is left
 pub bits_left : (p : Program) (n m : ℕ) (x : Scalar) (w : TypeTree) (b : List Bool) (s : Value → Type 0) → m < n → later m (acts_from p n) zero (scalar x w) (bits b) s → s (bits b)
@@ -97,11 +99,11 @@ words_found p n (signal t u ∷ ts) xs' xs h' h widths m bs sc all l d = absurd 
 words_found p n (for_all k t ∷ ts) xs' xs h' h widths m bs sc all l d = absurd sc
 
 -- a primitive on words, if what it gives acts as itself
-pub computes_step : (p : Program) (n : ℕ) (t : TypeTree) (q : Prim) (nats widths : List ℕ) (ts : List TypeTree) (xs' xs : Thunks) → AreScalars ts → ((m : ℕ) (b : List Bool) (s : Value → Type 0) → s (result q b) → later m (acts_from p n) zero t (result q b) s) → AllAct p (acts_from p n) ts xs' xs → StepsAct p (acts_from p n) t (computes q nats widths xs') (computes q nats widths xs)
+pub computes_step : (p : Program) (n : ℕ) (t : TypeTree) (q : Prim) (nats widths : List ℕ) (ts : List TypeTree) (xs' xs : Thunks) → AreScalars ts → ((m : ℕ) (b : List Bool) (s : Value → Type 0) → ((args : List (List Bool)) × (word_value q nats args ≡ Some b)) → s (result q b) → later m (acts_from p n) zero t (result q b) s) → AllAct p (acts_from p n) ts xs' xs → StepsAct p (acts_from p n) t (computes q nats widths xs') (computes q nats widths xs)
 computes_step p n t q nats widths ts xs' xs sc gives_it all h' h m v al (r_computes {bs = bs} {b = b} words e) = by (room n m)
   where
     by : (m < n) ⊎ (n ≤ m) → later m (acts_from p n) zero t (result q b) (step_has p (computes q nats widths xs) h)
-    by (inl l) = let found = words_found p n ts xs' xs h' h widths m bs sc all l words in gives_it m b (step_has p (computes q nats widths xs) h) (found.0, r_computes found.1 e)
+    by (inl l) = let found = words_found p n ts xs' xs h' h widths m bs sc all l words in gives_it m b (step_has p (computes q nats widths xs) h) (reverse bs, e) (found.0, r_computes found.1 e)
     by (inr l) = ended p n m t (result q b) _ l
 
 pub looks_up_step : (p : Program) (n last k : ℕ) (x : Scalar) (w u t : TypeTree) (v' v i' i : Thunk) → ThunksAct p (acts_from p n) (vector w t) v' v → ThunksAct p (acts_from p n) (scalar x u) i' i → StepsAct p (acts_from p n) t (looks_up last k v' i') (looks_up last k v i)

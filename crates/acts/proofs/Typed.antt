@@ -37,6 +37,7 @@ use Rattle.acts.proofs.Arms.{Seen, seen, matches_same, pattern_acts, only_acts}
 use Rattle.acts.proofs.Filled.{filled, filled_all, filled_group, filled_alts, size_filled, size_declared, KeepsValues, Carries, carries_type, type_filled}
 use Rattle.acts.proofs.Cases.{goes_on_acts, takes_acts, looks_acts, ArmActs, ArmOf, alt_acts}
 use Rattle.acts.proofs.Closing.{closed_kind, closed_same, closed_stays, opens_as, put_closes}
+use Rattle.acts.proofs.Widths.{width_itself}
 use Rattle.acts.proofs.Forms.{TermsAct, var_acts, lit_acts, thunk_acts, app_acts, lam_acts, ty_lam_acts, ty_app_acts, MembersAct, SidesAct, members_act, letrec_acts, EachTermActs, vec_acts}
 use Rattle.acts.proofs.Levels.{IsLevels, at_levels, at_later, runs_later}
 use Rattle.acts.proofs.SameActs.{same_acts}
@@ -268,7 +269,7 @@ module _ (p : Program) (made_types : List TypeTree) (sound : IsSound (setting_wi
     typed_acts (h_prim {p = q}) g r l σ' σ τ' τ δ0 δ' δ γ' γ h =
         let stays = closed_stays p δ0 (schema_kind (setting_of p) q base).has in
         subst (λ t. TermsAct p r t (prim q) γ' δ' (prim q) γ δ) (sym stays) (at_levels l (λ r. TermsAct p r (schema_type q) (prim q) γ' δ' (prim q) γ δ) (λ n. heads.prims n q γ' γ δ' δ))
-    typed_acts (h_lit {r = s} {bits = b} i) g r l σ' σ τ' τ δ0 δ' δ γ' γ h = lit_acts l s b (nat_lit (length b)) γ' γ δ' δ
+    typed_acts (h_lit {r = s} {bits = b} i) g r l σ' σ τ' τ δ0 δ' δ γ' γ h = lit_acts l s b (nat_lit (length b)) (width_itself (length b) i) γ' γ δ' δ
     typed_acts (h_vec {t = t} {es = es} kt all) g r l σ' σ τ' τ δ0 δ' δ γ' γ h =
         vec_acts l (nat_lit (count es)) (closed_type t δ0) (f' (sub t τ')) (f (sub t τ)) (filled_all o' f' es σ' τ') (filled_all o f es σ τ) γ' γ δ' δ (elements_act all kt.has g r l σ' σ τ' τ δ0 δ' δ γ' γ h)
     typed_acts {kinds} {vars} (h_case {bound = bnd} {q = q} {more = more} {u = u} {t = t} {e = e} {f = a} {j = j} {k = k} d looked ku bs da kt fs alts hidden) g r l σ' σ τ' τ δ0 δ' δ γ' γ h =

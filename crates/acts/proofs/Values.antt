@@ -1,7 +1,7 @@
 -- Data values act as themselves.
 use Rattle.std.specs.Prelude.{slice_get}
-use Rattle.std.proofs.Common.{◌≡◌, ◌+◌, ℕ, suc, zero, Bool, List, [], ◌∷◌, ◌++◌, length, map, reverse, Some, refl, sym, ap, ◌∙◌, subst, arith}
-use Rattle.std.proofs.lemmas.List.{append-nil}
+use Rattle.std.proofs.Common.{◌≡◌, ◌+◌, ℕ, suc, zero, Bool, false, List, [], ◌∷◌, ◌++◌, length, map, reverse, Some, refl, sym, ap, ◌∙◌, subst, arith}
+use Rattle.std.proofs.lemmas.List.{append-nil, length-replicate}
 use Rattle.chw_types.specs.declared.kind.Scalar.{Scalar}
 use Rattle.chw_types.specs.declared.declarations.ConDecl.{ConDecl}
 use Rattle.chw_types.specs.declared.declarations.Data.{Data}
@@ -10,6 +10,7 @@ use Rattle.chw_types.specs.TypeMoves.{Substitution, sub}
 use Rattle.chw_types.specs.Arguments.{arguments}
 use Rattle.chw_terms.specs.declared.program.Program.{Program}
 use Rattle.chw_terms.specs.Constructors.{Constructor, cons_of, constructors_from, con_at}
+use Rattle.chw_layout.specs.Measured.{closed_value}
 use Rattle.chw_layout.specs.Datum.{Datum, word, built, elements, Datums, no_data, datum_and}
 use Rattle.chw_layout.specs.Encodes.{first_constructor, IsValueOf, scalar_value, vector_value, data_value, AreElements, no_elements, element_and, AreFields, no_fields, field_and}
 use Rattle.chw_typing.specs.HeadTypes.{fields_at}
@@ -23,9 +24,9 @@ use Rattle.acts.proofs.Forms.{bits_act, vector_acts}
 use Rattle.acts.proofs.Levels.{at_end, IsLevels, from_turns, at_levels, all_later}
 
 mutual
-  -- the data value has the form of values of the closed type, whatever its widths and lengths
+  -- the data value has the form of values of the closed type, whatever its lengths
   pub data Fits (p : Program) : TypeTree → Datum → Type 0 where
-    fits_word : {x : Scalar} {w : TypeTree} {b : List Bool} → Fits p (scalar x w) (word b)
+    fits_word : {x : Scalar} {w : TypeTree} {b : List Bool} → length b ≡ closed_value w → Fits p (scalar x w) (word b)
     fits_elements : {n t : TypeTree} {ds : Datums} → FitsEach p t ds → Fits p (vector n t) (elements ds)
     fits_built : {d c : ℕ} {ts : TypeTrees} {it : Constructor} {ds : Datums} → con_at p.datas c ≡ Some it → it.of ≡ d → FitsFields p it.decl.fields (arguments ts) ds → Fits p (data_of d ts) (built c ds)
 
@@ -55,7 +56,7 @@ known_from {p} r t d acts h' h m v al f_known = acts (suc zero) (thunk_has p (kn
 
 mutual
   pub value_acts : {p : Program} {r : Levels} {t : TypeTree} {d : Datum} → Fits p t d → IsLevels p r → (m : ℕ) (s : Value → Type 0) → s (value_of d) → later m r zero t (value_of d) s
-  value_acts (fits_word {x = x} {w = w} {b = b}) l m s own = bits_act l m x w b s own
+  value_acts (fits_word {x = x} {w = w} {b = b} wide) l m s own = bits_act l m x w b s wide own
   value_acts (fits_elements {n = n} {t = t} {ds = ds} all) l m s own = vector_acts l m n t (knowns ds) (knowns ds) s own (knowns_act all l)
   value_acts {p} {r} (fits_built {d = d} {c = c} {ts = ts} {it = it} {ds = ds} held of all) l m s own =
       let fields = knowns_back_act all l [] none tt in
@@ -109,7 +110,7 @@ fits_placed p datas same d i it k ts ds e f all = fits_built placed_con_in refl 
 
 mutual
   value_fits_in : {p : Program} {datas : List Data} {t : TypeTree} {d : Datum} → IsValueOf datas t d → datas ≡ p.datas → Fits p t d
-  value_fits_in (scalar_value e) same = fits_word
+  value_fits_in (scalar_value e) same = fits_word e
   value_fits_in (vector_value e all) same = fits_elements (elements_fit all same)
   value_fits_in {p} {datas} (data_value {d = d} {n = n} i it k {ts = ts} {vs = vs} e l is g all) same = subst (λ n. Fits p (data_of d ts) (built n vs)) (sym is) (fits_placed p datas same d i it k ts vs e g (fields_fit all same))
 
@@ -126,7 +127,7 @@ value_fits p v = value_fits_in v refl
 
 mutual
   zero_fits_in : {p : Program} {datas : List Data} {t : TypeTree} {z : Datum} → IsZero datas t z → datas ≡ p.datas → Fits p t z
-  zero_fits_in zero_scalar same = fits_word
+  zero_fits_in (zero_scalar {n = n}) same = fits_word (length-replicate (closed_value n) false)
   zero_fits_in (zero_vector all) same = fits_elements (zeros_fit all same)
   zero_fits_in {p} {datas} (zero_data {d = d} {it = it} {con = k} {ts = ts} {ds = ds} e g all) same =
       subst (λ n. Fits p (data_of d ts) (built n ds)) (let e : first_constructor datas d + zero ≡ first_constructor datas d = omega arith in e) (fits_placed p datas same d zero it k ts ds e g (zero_fields_fit all same))

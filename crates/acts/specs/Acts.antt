@@ -1,6 +1,6 @@
 -- A value of a closed type acts as one of a set of values: whatever is done with it within so many
 -- turns, the same done with that one leads to the same.
-use Rattle.std.specs.Prelude.{◌≡◌, ℕ, suc, zero, Bool, List, [], ◌∷◌, reverse, Some}
+use Rattle.std.specs.Prelude.{◌≡◌, ℕ, suc, zero, Bool, List, [], ◌∷◌, length, reverse, Some}
 use Rattle.chw_types.specs.declared.kind.Kind.{Kind}
 use Rattle.chw_types.specs.TypeTree.{TypeTree, ty_var, nat_lit, nat_sum, nat_product, domain}
 use Rattle.chw_types.specs.TypeTree.{scalar, vector, data_of, fun, signal, for_all, TypeTrees}
@@ -11,6 +11,7 @@ use Rattle.chw_terms.specs.Evaluated.{evaluated}
 use Rattle.chw_typing.specs.Scopes.{HasKind}
 use Rattle.chw_typing.specs.HeadTypes.{fields_at}
 use Rattle.chw_typing.specs.Programs.{setting_of}
+use Rattle.chw_layout.specs.Measured.{closed_value}
 use Rattle.chw_meaning.specs.Values.{Value, bits, con_of, vec_of, Thunk, Thunks, none, thunk_and}
 use Rattle.chw_meaning.specs.Eval.{Applies, TyApplies}
 use Rattle.acts.specs.Levels.{Level, Levels, later, RunsAct, ThunksAct}
@@ -68,14 +69,16 @@ FamilyActs p r k t v' s =
     → RunsAct r (put t 0 c) (λ m h w. TyApplies p m v' c h w)
     (λ h w. (v : Value) × s v × ((m : ℕ) × TyApplies p m v c h w))
 
--- what is asked of a value with one turn at least, where r is what is asked after it
+-- what is asked of a value with one turn at least, where r is what is asked after it. A word has
+-- the width of its type, as the literals of a case have
 abbrev pub act_step : Program → Levels → Level
 act_step p r (ty_var x) v' s = Unit {0}
 act_step p r (nat_lit n) v' s = Unit {0}
 act_step p r (nat_sum a b) v' s = Unit {0}
 act_step p r (nat_product a b) v' s = Unit {0}
 act_step p r (domain d) v' s = Unit {0}
-act_step p r (scalar x w) v' s = (b : List Bool) × (v' ≡ bits b) × s (bits b)
+act_step p r (scalar x w) v' s =
+    (b : List Bool) × (v' ≡ bits b) × s (bits b) × (length b ≡ closed_value w)
 act_step p r (vector n t) v' s = VectorActs p r t v' s
 act_step p r (data_of d ts) v' s = BuiltActs p r d ts v' s
 act_step p r (fun a b) v' s = FunctionActs p r a b v' s

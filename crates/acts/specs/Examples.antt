@@ -23,6 +23,10 @@ abbrev pub AtEachHistory : Type 0
 AtEachHistory =
     ActsAs bare (signal_in 0 byte) (counter a_clock) (pure a_clock byte (number 8 0)) → ⊥
 
+-- a word of two bits doesn't act as itself at a type of one bit
+abbrev pub AtItsWidth : Type 0
+AtItsWidth = ActsAs bare (unsigned 1) (number 2 0) (number 2 0) → ⊥
+
 -- a memory of 0 and this byte, which is read at 1 and never written
 abbrev pub memory_with : ℕ → TermTree
 memory_with n =

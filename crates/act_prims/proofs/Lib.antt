@@ -1,0 +1,16 @@
+mod Called
+mod Computed
+mod Elements
+mod Folds
+mod Given
+mod Indexed
+mod Joins
+mod Lines
+mod Maps
+mod Names
+mod Parameters
+mod Places
+mod Replaces
+mod Shapes
+mod Unrolled
+mod Words

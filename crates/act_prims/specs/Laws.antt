@@ -1,0 +1,48 @@
+-- What is promised of rules on primitives: what they make of a typed term acts as the term.
+use Rattle.std.specs.Prelude.{◌≡◌, ◌⊎◌, ℕ, ◌≤◌, Bool, List, map, Some}
+use Rattle.std.specs.List.{AllByRecursion}
+use Rattle.chw_types.specs.declared.kind.Scalar.{Scalar}
+use Rattle.chw_types.specs.Polynomials.{greatest}
+use Rattle.chw_types.specs.TypeTree.{TypeTree, nat_lit}
+use Rattle.chw_prims.specs.Schemas.{schema_type}
+use Rattle.chw_prims.specs.declared.prim.Primitive.{Primitive as Prim}
+use Rattle.chw_prims.specs.declared.prim.Primitive.TheVariants.{VRotl, VRotlC}
+use Rattle.chw_terms.specs.declared.rule.Rule.TheVariants.{Delta}
+use Rattle.chw_terms.specs.TermTree.{TermTree, prim}
+use Rattle.chw_terms.specs.TermView.{applied}
+use Rattle.chw_terms.specs.Evaluated.{evaluated}
+use Rattle.chw_terms.specs.Unrolled.{CanUnroll, unrolled}
+use Rattle.spine_types.specs.Given.{types_then}
+use Rattle.scenes.specs.Origins.{Origins}
+use Rattle.active_places.specs.Spots.{Spot}
+use Rattle.rewriting.specs.Primitives.{HasValue, OfPrimitives, literal, word_given}
+use Rattle.act_rules.specs.Laws.{KeepsMeaning}
+
+-- a primitive on literals, within the limits, becomes its value
+abbrev pub ComputedActs : Type 0
+ComputedActs =
+    (p : Prim) (types : List TypeTree) (words : List (Scalar × List Bool)) (b : List Bool)
+    → HasValue p types words b
+    → KeepsMeaning
+    (word_given (schema_type p) b) (applied (prim p) (types_then types (map literal words)))
+
+-- so does whatever the rule makes at any place of a scene
+abbrev pub DeltaActs : Type 0
+DeltaActs =
+    (o : Origins) (at : Spot) (e e' : TermTree)
+    → OfPrimitives o at Delta e e' → KeepsMeaning e' e
+
+-- each of these types that is a number is one that naturals have
+abbrev pub AreInRange : List TypeTree → Type 0
+AreInRange types =
+    AllByRecursion (λ t. (n : ℕ) → evaluated t ≡ nat_lit n → n ≤ greatest) types
+
+-- a primitive on vectors, within the limits, becomes its unrolled form. The types of `vrotl` and
+-- `vrotlC` say nothing of the number of places, so that it has to be one that naturals have.
+abbrev pub UnrolledActs : Type 0
+UnrolledActs =
+    (p : Prim) (types : List TypeTree) (es : List TermTree) (e : TermTree)
+    → CanUnroll p types es
+    → ((p ≡ VRotl) ⊎ (p ≡ VRotlC) → AreInRange types)
+    → unrolled p types es ≡ Some e
+    → KeepsMeaning e (applied (prim p) (types_then types es))
