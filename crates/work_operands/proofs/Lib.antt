@@ -1,0 +1,11 @@
+pub mod AtResults
+pub mod CasesAndVectors
+pub mod Counted
+pub mod Heads
+pub mod Named
+pub mod Needs
+pub mod Parted
+pub mod Searching
+pub mod Shapes
+pub mod Spines
+pub mod Standing

@@ -1,0 +1,27 @@
+use Rattle.std.proofs.Common.{subst}
+use Rattle.scenes.specs.Origins.{origins_of}
+use Rattle.active_places.specs.Spots.{spot_of}
+use Rattle.rewriting.specs.Operands.{NeedsName}
+use Rattle.term_types.proofs.Matched.{of_none}
+use Rattle.work_operands.specs.Firsts.{AnswersName, NeedsNameOf}
+use Rattle.work_operands.proofs.Searching.{no_element_more, first_element}
+use Rattle.work_operands.proofs.finding.first_element.Goals as goal
+
+pub returns-in-Some : goal.returns-in-Some
+returns-in-Some c =
+    let o = origins_of c.args.scene.now in
+    let at = spot_of c.args.place.now in
+    let e = c.index-elements-number.result in
+    first_element c.args.elements.now c.loop-number.number e c.in-Some.ty c.loop-number-test.true
+    c.index-elements-number.is c.loop-number.invariant
+    (subst (AnswersName o at e) c.in-Some.is c.in_ok-ty.ensures)
+
+pub loop-number-preserved : goal.loop-number-preserved
+loop-number-preserved c =
+    let o = origins_of c.args.scene.now in
+    let at = spot_of c.args.place.now in
+    let e = c.index-elements-number.result in
+    no_element_more c.args.elements.now c.loop-number.number e c.loop-number-test.true
+    c.index-elements-number.is c.loop-number.invariant
+    (of_none (NeedsName o at e → ⊥) (NeedsNameOf o at e) c.in_ok-ty.field-0 c.in_default.not-Some
+    c.in_ok-ty.ensures)

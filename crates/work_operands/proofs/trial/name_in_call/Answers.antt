@@ -1,0 +1,17 @@
+use Rattle.scenes.specs.Origins.{origins_of}
+use Rattle.active_places.specs.Spots.{spot_of}
+use Rattle.term_types.proofs.Matched.{not_true}
+use Rattle.work_operands.proofs.Heads.{call_answers, call_stays}
+use Rattle.work_operands.proofs.trial.name_in_call.Goals as goal
+
+pub returns-then-not-has_lets : goal.returns-then-not-has_lets
+returns-then-not-has_lets c =
+    call_stays (origins_of c.args.scene.now) (spot_of c.args.place.now) c.args.of c.args.args.now
+    c.requires.call
+    (λ m. not_true c.has_lets.result c.if-not-has_lets.true (c.has_lets.ensures.1 m))
+
+pub returns : goal.returns
+returns c =
+    call_answers (origins_of c.args.scene.now) (spot_of c.args.place.now) c.args.of c.args.args.now
+    c.name_argument.result c.requires.call (c.has_lets.ensures.0 c.if-not-has_lets.false)
+    c.name_argument.ensures

@@ -1,0 +1,166 @@
+//! Which terms need names, and the first of some.
+ghost use Rattle.std.specs.Prelude.{◌↔◌, [], reverse, length, IfOk, IsTrue, MatchOption};
+ghost use Rattle.chw_types.specs.References.{HasNoCycle};
+ghost use Rattle.chw_typing.specs.Scopes.{setting_in};
+ghost use Rattle.scenes.specs.Origins.{origins_of};
+ghost use Rattle.active_places.specs.Spots.{spot_of};
+ghost use Rattle.rewriting.specs.Shapes.{IsVariable, IsLet};
+ghost use Rattle.term_types.specs.Answers.{IsReady};
+ghost use Rattle.term_types.specs.Signatures.{IsSignature};
+ghost use Rattle.work_operands.specs.Firsts.{AnswersType, AnswersName, AnswersFirstArg, AnswersFirstElement, AnswersArg};
+
+use crate::operands::{Operands, is_among};
+use chw_base::NoMemory;
+use chw_terms::{Arg, Head, Place, Scene, Term};
+use chw_types::Ty;
+use chw_typing::laws::{one_type, types_are_term_types};
+use found_types::laws::found_is_type;
+use rule_parts::named::is_named;
+use scenes::laws::{names_of_modes, settings_of_scenes};
+use std::alloc::Global;
+use term_types::{Signature, type_of_in};
+
+/// A part that gets a name: its number, its type, and the part.
+#[derive(Drop)]
+pub(crate) struct Named<'t> {
+    pub(crate) number: usize,
+    pub(crate) ty: Ty,
+    pub(crate) part: &'t Term,
+}
+
+/// Whether a term is a variable.
+pub(crate) fn is_variable(term: &Term) -> bool
+    ensures { IsTrue result ↔ IsVariable term.now }
+{
+    match &term.head {
+        Head::Var(_) => term.args.is_empty(),
+        _ => false,
+    }
+}
+
+/// Whether a term is a letrec.
+pub(crate) fn is_let(term: &Term) -> bool
+    ensures { IsTrue result ↔ IsLet term.now }
+{
+    match &term.head {
+        Head::LetRec(_, _) => term.args.is_empty(),
+        _ => false,
+    }
+}
+
+/// The type of a term at a place.
+pub(crate) fn type_at(
+    alloc: Global,
+    scene: &Scene,
+    signature: &Signature,
+    place: &Place,
+    term: &Term,
+) -> Result<Option<Ty>, NoMemory>
+    requires ready { IsReady (setting_in scene.now) [] (reverse place.now.vars) }
+    requires table { IsSignature scene.now.program.now signature.now }
+    ensures { IfOk result (AnswersType (origins_of scene.now) (spot_of place.now) term.now) }
+{
+    settings_of_scenes();
+    type_of_in(alloc, scene, signature, &[], place.vars.as_slice(), term)
+}
+
+/// The type of the name that a term needs at a place, if it needs one: it is no variable, and its type is named there.
+pub(crate) fn name_needed(
+    alloc: Global,
+    scene: &Scene,
+    signature: &Signature,
+    place: &Place,
+    term: &Term,
+) -> Result<Option<Ty>, NoMemory>
+    requires order { HasNoCycle scene.now.program.now.datas }
+    requires ready { IsReady (setting_in scene.now) [] (reverse place.now.vars) }
+    requires table { IsSignature scene.now.program.now signature.now }
+    ensures { IfOk result (AnswersName (origins_of scene.now) (spot_of place.now) term.now) }
+{
+    if is_variable(term) {
+        return Ok(None);
+    }
+    let Some(ty) = type_at(alloc, scene, signature, place, term)? else {
+        return Ok(None);
+    };
+    settings_of_scenes();
+    found_is_type();
+    one_type();
+    types_are_term_types();
+    names_of_modes();
+    if is_named(alloc, scene.program.datas.as_slice(), place.mode, &ty)? {
+        return Ok(Some(ty));
+    }
+    Ok(None)
+}
+
+// The name that the argument of this number needs, if it is an operand and needs one.
+fn argument_named<'t>(
+    alloc: Global,
+    scene: &Scene,
+    signature: &Signature,
+    place: &Place,
+    among: Operands,
+    number: usize,
+    arg: &'t Arg,
+) -> Result<Option<Named<'t>>, NoMemory>
+    requires order { HasNoCycle scene.now.program.now.datas }
+    requires ready { IsReady (setting_in scene.now) [] (reverse place.now.vars) }
+    requires table { IsSignature scene.now.program.now signature.now }
+    ensures { IfOk result (AnswersArg (origins_of scene.now) (spot_of place.now) among number arg.now) }
+{
+    let Arg::OfTerm(part) = arg else {
+        return Ok(None);
+    };
+    if !is_among(among, number) {
+        return Ok(None);
+    }
+    match name_needed(alloc, scene, signature, place, part)? {
+        Some(ty) => Ok(Some(Named { number, ty, part })),
+        None => Ok(None),
+    }
+}
+
+/// The first argument that is an operand and needs a name.
+pub(crate) fn first_argument<'t>(
+    alloc: Global,
+    scene: &Scene,
+    signature: &Signature,
+    place: &Place,
+    among: Operands,
+    args: &'t [Arg],
+) -> Result<Option<Named<'t>>, NoMemory>
+    requires order { HasNoCycle scene.now.program.now.datas }
+    requires ready { IsReady (setting_in scene.now) [] (reverse place.now.vars) }
+    requires table { IsSignature scene.now.program.now signature.now }
+    ensures { IfOk result (AnswersFirstArg (origins_of scene.now) (spot_of place.now) among args.now) }
+{
+    for (number, arg) in args.iter().enumerate() {
+        let found = argument_named(alloc, scene, signature, place, among, number, arg)?;
+        if let Some(named) = found {
+            return Ok(Some(named));
+        }
+    }
+    Ok(None)
+}
+
+/// The first element that needs a name.
+pub(crate) fn first_element<'t>(
+    alloc: Global,
+    scene: &Scene,
+    signature: &Signature,
+    place: &Place,
+    elements: &'t [Term],
+) -> Result<Option<Named<'t>>, NoMemory>
+    requires order { HasNoCycle scene.now.program.now.datas }
+    requires ready { IsReady (setting_in scene.now) [] (reverse place.now.vars) }
+    requires table { IsSignature scene.now.program.now signature.now }
+    ensures { IfOk result (AnswersFirstElement (origins_of scene.now) (spot_of place.now) elements.now) }
+{
+    for (number, part) in elements.iter().enumerate() {
+        if let Some(ty) = name_needed(alloc, scene, signature, place, part)? {
+            return Ok(Some(Named { number, ty, part }));
+        }
+    }
+    Ok(None)
+}

@@ -1,0 +1,5 @@
+pub mod Fives
+pub mod Given
+pub mod Joining
+pub mod Seen
+pub mod Staying
