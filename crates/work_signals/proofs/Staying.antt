@@ -1,29 +1,19 @@
--- Functions on signals of which the rule makes nothing.
-use Rattle.std.proofs.Common.{◌≡◌, ◌∙◌, sym, subst, refl}
-use Rattle.chw_types.specs.Representable.{Representable}
+-- Functions on signals of which the rule makes nothing, since a type isn't found.
+use Rattle.std.proofs.Common.{◌≡◌, subst, refl}
 use Rattle.chw_types.specs.TypeTree.{TypeTree, fun, signal}
 use Rattle.chw_terms.specs.TermTree.{TermTree}
 use Rattle.scenes.specs.Origins.{Origins}
 use Rattle.active_places.specs.Spots.{Spot}
 use Rattle.rewriting.specs.Lifted.{Joins, FindsAt, IsNotPure}
-use Rattle.rewriting.specs.Lifted.{ap_pure, fmap_pure, fmap_fmap, fmap_ap}
-use Rattle.rewriting.specs.Lifted.{ap_value, ap_fmap, ap_ap}
-use Rattle.rewriting.specs.Shapes.{fmap_of, ap_of, pure_of}
+use Rattle.rewriting.specs.Shapes.{fmap_of, ap_of}
 use Rattle.work_signals.specs.declared.views.Lifted.{Lifted}
 use Rattle.work_signals.specs.Joined.{fmap_seen, ap_seen}
 use Rattle.work_signals.proofs.Given.{OnSignal, on_value, on_mapped, on_applied}
-use Rattle.work_signals.proofs.Given.{OfFmap, of_fmap, OfAp, of_ap}
+use Rattle.work_signals.proofs.Given.{of_fmap, OfAp, of_ap}
 
 -- nothing is made of the term
 abbrev pub Stays : Origins → Spot → TermTree → Type 0
 Stays o at e = (e' : TermTree) → Joins o at e e' → ⊥
-
--- no `fmap`, and no `ap`, on five arguments
-abbrev pub IsNotFmap : TermTree → Type 0
-IsNotFmap e = (d a b : TypeTree) (f s : TermTree) → e ≡ fmap_of d a b f s → ⊥
-
-abbrev pub IsNotAp : TermTree → Type 0
-IsNotAp e = (d a b : TypeTree) (u s : TermTree) → e ≡ ap_of d a b u s → ⊥
 
 -- for the term no type of functions is found, none of signals, and none of signals of functions
 abbrev pub NoFunction : Origins → Spot → TermTree → Type 0
@@ -34,17 +24,6 @@ NoSignal o at u = (i t : TypeTree) → FindsAt o at u (signal i t) → ⊥
 
 abbrev pub NoLifted : Origins → Spot → TermTree → Type 0
 NoLifted o at u = (i t r : TypeTree) → FindsAt o at u (signal i (fun t r)) → ⊥
-
--- an `fmap` or `ap` alone becomes another term
-pub others_stay : (o : Origins) (at : Spot) (e : TermTree)
-    → IsNotFmap e → IsNotAp e → Stays o at e
-others_stay o at e f u e' ap_pure = u _ _ _ _ _ refl
-others_stay o at e f u e' fmap_pure = f _ _ _ _ _ refl
-others_stay o at e f u e' (fmap_fmap n k) = f _ _ _ _ _ refl
-others_stay o at e f u e' (fmap_ap n k) = f _ _ _ _ _ refl
-others_stay o at e f u e' (ap_value p n k) = u _ _ _ _ _ refl
-others_stay o at e f u e' (ap_fmap p n k m) = u _ _ _ _ _ refl
-others_stay o at e f u e' (ap_ap p n k m) = u _ _ _ _ _ refl
 
 module _ (o : Origins) (at : Spot) where
   -- signals on which functions stay
@@ -63,49 +42,30 @@ module _ (o : Origins) (at : Spot) where
       let same : h ≡ u = cc in
       none i t r (subst (λ u. FindsAt o at u (signal i (fun t r))) same k)
 
-  no_signal : (s : TermTree)
-      → IsNotPure s → IsNotFmap s → IsNotAp s → OnSignal o at s → ⊥
-  no_signal s value f u (on_value p) = value _ _ _ p
-  no_signal s value f u (on_mapped p k) = f _ _ _ _ _ p
-  no_signal s value f u (on_applied p k) = u _ _ _ _ _ p
-
 module _ (o : Origins) (at : Spot) (outer : Lifted) where
   -- `fmap` on the signal
-  given_fmap : {e' : TermTree} → Joins o at (fmap_seen outer) e'
-      → OfFmap o at outer.from.now outer.signal.now
+  given_fmap : {e' : TermTree} → Joins o at (fmap_seen outer) e' → OnSignal o at outer.signal.now
   given_fmap j =
       of_fmap j outer.dom.now outer.from.now outer.to.now outer.function.now outer.signal.now refl
-
-  pub fmap_stays_named : IsNotPure outer.signal.now
-      → Representable o.program.datas outer.from.now → Stays o at (fmap_seen outer)
-  fmap_stays_named none r e' j = (given_fmap j).fused none r
 
   pub fmap_stays_mapped : (inner : Lifted) → outer.signal.now ≡ fmap_seen inner
       → NoFunction o at inner.function.now → Stays o at (fmap_seen outer)
   fmap_stays_mapped l q none e' j =
       mapped_by_none o at l.dom.now l.from.now l.to.now outer.signal.now l.function.now
-      l.signal.now q none (given_fmap j).on
+      l.signal.now q none (given_fmap j)
 
   pub fmap_stays_applied : (inner : Lifted) → outer.signal.now ≡ ap_seen inner
       → NoLifted o at inner.function.now → Stays o at (fmap_seen outer)
   fmap_stays_applied l q none e' j =
       applied_by_none o at l.dom.now l.from.now l.to.now outer.signal.now l.function.now
-      l.signal.now q none (given_fmap j).on
-
-  pub fmap_stays_on_other : IsNotPure outer.signal.now → IsNotFmap outer.signal.now
-      → IsNotAp outer.signal.now → Stays o at (fmap_seen outer)
-  fmap_stays_on_other value f u e' j = no_signal o at outer.signal.now value f u (given_fmap j).on
+      l.signal.now q none (given_fmap j)
 
   -- `ap` of functions that aren't one value on the signal
   given_ap : {e' : TermTree} → Joins o at (ap_seen outer) e' → IsNotPure outer.function.now
-      → OfAp o at outer.from.now outer.function.now outer.signal.now
+      → OfAp o at outer.function.now outer.signal.now
   given_ap j none =
       of_ap j outer.dom.now outer.from.now outer.to.now outer.function.now outer.signal.now refl
       none
-
-  pub ap_stays_named : IsNotPure outer.function.now
-      → Representable o.program.datas outer.from.now → Stays o at (ap_seen outer)
-  ap_stays_named pure r e' j = (given_ap j pure).fused r
 
   pub ap_stays_untyped : IsNotPure outer.function.now
       → NoSignal o at outer.function.now → Stays o at (ap_seen outer)
@@ -125,8 +85,3 @@ module _ (o : Origins) (at : Spot) (outer : Lifted) where
   ap_stays_applied l pure q none e' j =
       applied_by_none o at l.dom.now l.from.now l.to.now outer.signal.now l.function.now
       l.signal.now q none (given_ap j pure).on
-
-  pub ap_stays_on_other : IsNotPure outer.function.now → IsNotPure outer.signal.now
-      → IsNotFmap outer.signal.now → IsNotAp outer.signal.now → Stays o at (ap_seen outer)
-  ap_stays_on_other pure value f u e' j =
-      no_signal o at outer.signal.now value f u (given_ap j pure).on
