@@ -1,0 +1,17 @@
+use Rattle.std.proofs.Common.{[], reverse, sym, subst}
+use Rattle.chw_types.specs.TypeTree.{TypeTree}
+use Rattle.chw_typing.specs.Typing.{HasType}
+use Rattle.scenes.specs.Origins.{origins_of}
+use Rattle.active_places.specs.Spots.{spot_of}
+use Rattle.rule_trials.proofs.Tried.{found}
+use Rattle.rule_trials.proofs.trial.first_rule.Goals as goal
+
+pub tried-requires-clause-typed : goal.tried-requires-clause-typed
+tried-requires-clause-typed g c =
+    subst (λ s. (t : TypeTree) × HasType s [] (reverse c.args.place.now.vars) c.args.at.now t) (sym (c.settings_of_scenes.ensures.setting c.args.scene.now))
+    c.requires.typed
+
+pub returns-in-Some : goal.returns-in-Some
+returns-in-Some g c =
+    found (origins_of c.args.scene.now) (spot_of c.args.place.now) c.args.at.now c.in-Some.new c.loop-rule.rule-index _ _ c.in_ok-new.field-0
+    c.loop-rule-test.true c.loop-rule.invariant c.in-Some.is c.in_ok-new.ensures
