@@ -1,4 +1,4 @@
-//! Rows of the rules of flow: the name of a rule, a mode, and a description in which `before` has an instance whose answer is `after`. A row without
+//! Rows of the rules: the name of a rule, a mode, and a description in which `before` has an instance whose answer is `after`. A row without
 //! `after` has no instance.
 //!
 //! The leading lambdas of the two bind the variables in scope. The mode has `+` behind it where the body gives what the term gives.

@@ -1,14 +1,15 @@
 //! The names of rules and of modes in rows.
-ghost use Rattle.std.specs.Prelude.{IfOk};
+ghost use Rattle.std.specs.Prelude.{◌⊎◌, IfOk};
 ghost use Rattle.rules_flow.specs.Rules.{IsOfFlow};
+ghost use Rattle.rules_work.specs.Rules.{IsOfWork};
 
 use chw_base::Or;
 use chw_terms::{Mode, Rule};
 use row_tables::Unread;
 
-/// The rule of flow of this name.
+/// The rule of this name.
 pub(crate) fn rule_named(name: &str) -> Result<Rule, Or<Unread>>
-    ensures { IfOk result IsOfFlow }
+    ensures { IfOk result (λ rule. IsOfFlow rule ⊎ IsOfWork rule) }
 {
     match name {
         "TYBETA" => Ok(Rule::TyBeta),
@@ -22,6 +23,15 @@ pub(crate) fn rule_named(name: &str) -> Result<Rule, Or<Unread>>
         "PRIMLET" => Ok(Rule::PrimLet),
         "PRIMCASE" => Ok(Rule::PrimCase),
         "FLAT" => Ok(Rule::Flat),
+        "DEAD" => Ok(Rule::Dead),
+        "INLINE" => Ok(Rule::Inline),
+        "UNFOLD" => Ok(Rule::Unfold),
+        "UNROLL" => Ok(Rule::Unroll),
+        "ELEM" => Ok(Rule::Elem),
+        "DELTA" => Ok(Rule::Delta),
+        "APPURE" => Ok(Rule::ApPure),
+        "ETA" => Ok(Rule::Eta),
+        "ANF" => Ok(Rule::Anf),
         _ => Err(Or::Fault(Unread)),
     }
 }

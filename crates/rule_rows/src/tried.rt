@@ -1,11 +1,12 @@
 //! What a rule makes of a row's term, beside what the row says.
-ghost use Rattle.std.specs.Prelude.{[], reverse};
+ghost use Rattle.std.specs.Prelude.{◌⊎◌, [], reverse};
 ghost use Rattle.chw_types.specs.References.{HasNoCycle};
 ghost use Rattle.chw_terms.specs.Tidy.{IsTidy};
 ghost use Rattle.chw_typing.specs.Programs.{IsSound, setting_of};
 ghost use Rattle.chw_typing.specs.Scopes.{setting_in};
 ghost use Rattle.term_types.specs.Answers.{IsReady};
 ghost use Rattle.rules_flow.specs.Rules.{IsOfFlow};
+ghost use Rattle.rules_work.specs.Rules.{IsOfWork};
 
 use crate::scopes::{VARIABLES, below_lambdas};
 use chw_base::{Or, Seq};
@@ -14,7 +15,6 @@ use looks::LookCount;
 use named_types::laws::data_types_in_order;
 use row_notation::put_term;
 use row_tables::{Unread, put};
-use rules_flow::try_rule;
 use std::alloc::Global;
 
 // The body of the definition of this name.
@@ -35,12 +35,24 @@ fn tried(
     term: &Term,
     place: &Place,
 ) -> Result<Option<Term>, Or<Unread>>
-    requires rule { IsOfFlow rule }
+    requires rule { IsOfFlow rule ⊎ IsOfWork rule }
     requires order { HasNoCycle scene.now.program.now.datas }
     requires ready { IsReady (setting_in scene.now) [] (reverse place.now.vars) }
 {
     let mut looks = LookCount::new();
-    Ok(try_rule(alloc, rule, scene, term, place, &mut looks)?)
+    let made = match rule {
+        Rule::Dead
+        | Rule::Inline
+        | Rule::Unfold
+        | Rule::Unroll
+        | Rule::Elem
+        | Rule::Delta
+        | Rule::ApPure
+        | Rule::Eta
+        | Rule::Anf => rules_work::try_rule(alloc, rule, scene, term, place, &mut looks),
+        _ => rules_flow::try_rule(alloc, rule, scene, term, place, &mut looks),
+    };
+    Ok(made?)
 }
 
 // Writes whether two terms are one, and the first one where they aren't.
@@ -84,7 +96,7 @@ fn put_in(
     is_result: bool,
     out: &mut Vec<u8>,
 ) -> Result<(), Or<Unread>>
-    requires rule { IsOfFlow rule }
+    requires rule { IsOfFlow rule ⊎ IsOfWork rule }
     requires order { HasNoCycle scene.now.program.now.datas }
     requires sound { IsSound (setting_in scene.now) }
 {
@@ -115,7 +127,7 @@ pub(crate) fn put_compared(
     is_result: bool,
     out: &mut Vec<u8>,
 ) -> Result<(), Or<Unread>>
-    requires rule { IsOfFlow rule }
+    requires rule { IsOfFlow rule ⊎ IsOfWork rule }
     requires tidy { IsTidy program.now }
     requires sound { IsSound (setting_of program.now) }
 {
