@@ -16,14 +16,14 @@ use Rattle.chw_meaning.specs.Values.{closed, member, Thunks, thunk_and, closed_t
 use Rattle.chw_meaning.specs.Eval.{Evals, e_lam, e_app, e_ty_lam, e_ty_app, e_letrec, f_closed, f_member, a_closure, t_closure}
 use Rattle.acts.specs.Levels.{Levels, term_runs, term_has, thunk_has, ThunksAct}
 use Rattle.acts.specs.Acts.{acts_from}
-use Rattle.scenes.specs.Origins.{with_origins}
+use Rattle.rewriting.specs.Origins.{with_origins}
 use Rattle.acts.specs.Terms.{ActsUnder, OriginsTyped, with_argument, setting_with}
 use Rattle.acts.proofs.Closing.{closed_same, opens_as, put_closes}
 use Rattle.acts.proofs.Forms.{TermsAct}
 use Rattle.acts.proofs.Globals.{put_type_acts, sound_with}
 use Rattle.acts.proofs.Levels.{IsLevels, from_turns, cost, more, runs_more}
 use Rattle.acts.proofs.SameActs.{same_acts}
-use Rattle.act_rules.proofs.Moves.{tied_more, tied_spare, tied_type, past_one, moved_acts, same_term_acts}
+use Rattle.act_rules.proofs.RuleMoves.{tied_more, tied_spare, tied_type, past_one, moved_acts, same_term_acts}
 
 module _ (p : Program) (sound : IsSound (setting_of p)) (typed : IsTyped p) (types : List TypeTree) (o : ℕ → TermTree) (are_closed : AreClosed (setting_of p) types) (have : OriginsTyped p types o) where
   full : IsSound (setting_with p types)

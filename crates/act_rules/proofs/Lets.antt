@@ -18,14 +18,14 @@ use Rattle.chw_meaning.specs.Values.{member, Thunks, thunk_and, thunk_at, type_a
 use Rattle.chw_meaning.specs.Eval.{e_letrec}
 use Rattle.acts.specs.Levels.{Levels, term_runs, term_has}
 use Rattle.acts.specs.Acts.{acts_from}
-use Rattle.scenes.specs.Origins.{with_origins, with_origins_group}
+use Rattle.rewriting.specs.Origins.{with_origins, with_origins_group}
 use Rattle.acts.specs.Terms.{TiedBy, Kinded, ActsUnder, OriginsTyped, setting_with}
 use Rattle.acts.proofs.Closing.{closed_kind, closed_same, put_closes}
 use Rattle.acts.proofs.Forms.{TermsAct, app_acts, ty_app_acts}
 use Rattle.acts.proofs.Globals.{group_tied, sound_with}
 use Rattle.acts.proofs.Levels.{from_turns, cost, runs_more}
 use Rattle.acts.proofs.SameActs.{same_acts}
-use Rattle.act_rules.proofs.Moves.{moved_acts, same_term_acts}
+use Rattle.act_rules.proofs.RuleMoves.{moved_acts, same_term_acts}
 
 pub size_with_origins : (o : ℕ → TermTree) (g : Group) → size_of (with_origins_group o g) ≡ size_of g
 unfolding with_origins

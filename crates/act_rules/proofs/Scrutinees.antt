@@ -14,7 +14,7 @@ use Rattle.chw_typing.proofs.Kinded.{typed_more}
 use Rattle.chw_meaning.specs.Values.{Thunks, closed_type, in_group}
 use Rattle.acts.specs.Levels.{later}
 use Rattle.acts.specs.Acts.{acts_from}
-use Rattle.scenes.specs.Origins.{with_origins, with_origins_group, with_origins_alts}
+use Rattle.rewriting.specs.Origins.{with_origins, with_origins_group, with_origins_alts}
 use Rattle.acts.specs.Terms.{TiedBy, Kinded, ActsUnder, OriginsTyped, setting_with}
 use Rattle.acts.proofs.Filled.{filled, filled_alts, filled_renamed_alts, variables_by, itself_keeps}
 use Rattle.acts.proofs.Forms.{TermsAct}

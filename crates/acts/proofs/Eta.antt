@@ -18,7 +18,7 @@ use Rattle.chw_meaning.specs.Eval.{plus, Evals, e_var, e_lam, e_app, Forces, f_c
 use Rattle.chw_meaning.proofs.Once.{same_some}
 use Rattle.acts.specs.Levels.{Levels, later, Alike, RunsAct, term_runs, term_has, thunk_runs, thunk_has, ThunksAct}
 use Rattle.acts.specs.Acts.{acts_from}
-use Rattle.scenes.specs.Origins.{with_origins, on_variables, under_each, eta_expanded}
+use Rattle.rewriting.specs.Origins.{with_origins, on_variables, under_each, eta_expanded}
 use Rattle.acts.specs.Terms.{TiedBy, Kinded, OriginsAct, setting_with}
 use Rattle.acts.proofs.Forms.{TermsAct, called, call_acts}
 use Rattle.acts.proofs.Given.{closed_from_each}

@@ -17,7 +17,7 @@ use Rattle.chw_typing.specs.Scopes.{HasKind, declared}
 use Rattle.chw_typing.specs.Programs.{setting_of}
 use Rattle.chw_typing.proofs.PutAgreeing.{put_agreeing}
 use Rattle.chw_meaning.specs.Values.{type_at, closed_type}
-use Rattle.scenes.specs.Origins.{with_origins, with_origins_all, with_origins_group, with_origins_alts}
+use Rattle.rewriting.specs.Origins.{with_origins, with_origins_all, with_origins_group, with_origins_alts}
 
 unfoldable mutual
   -- the function is what becomes of types besides: they are evaluated, or stay

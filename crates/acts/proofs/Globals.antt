@@ -23,7 +23,7 @@ use Rattle.chw_meaning.specs.Eval.{Evals, e_global}
 use Rattle.chw_meaning.proofs.Once.{same_some}
 use Rattle.acts.specs.Levels.{Levels, term_runs, term_has}
 use Rattle.acts.specs.Acts.{acts_from}
-use Rattle.scenes.specs.Origins.{with_origins, with_origins_all, with_origins_group, with_origins_alts}
+use Rattle.rewriting.specs.Origins.{with_origins, with_origins_all, with_origins_group, with_origins_alts}
 use Rattle.acts.specs.Terms.{TiedBy, Kinded, ActsAs, setting_with, LooksAlike}
 use Rattle.acts.proofs.Filled.{filled, filled_renamed, filled_evaluated, variables_by, KeepsValues, Carries, itself_keeps, evaluated_keeps, filled_group, filled_retyped_group, up_by_variables}
 use Rattle.acts.proofs.Closing.{closed_kind, closed_stays}

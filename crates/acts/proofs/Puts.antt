@@ -17,7 +17,7 @@ use Rattle.chw_meaning.specs.Values.{History, Value, Thunk, Thunks, thunk_and, t
 use Rattle.chw_meaning.specs.Eval.{e_var}
 use Rattle.acts.specs.Levels.{Levels, later, term_runs, term_has, thunk_has}
 use Rattle.acts.specs.Acts.{acts_from}
-use Rattle.scenes.specs.Origins.{with_origins}
+use Rattle.rewriting.specs.Origins.{with_origins}
 use Rattle.acts.specs.Terms.{LooksAlike, TiedBy, Kinded, setting_with, OriginsTyped, StandsFor, ArePut}
 use Rattle.acts.proofs.Closing.{closed_same}
 use Rattle.acts.proofs.Filled.{filled, filled_put, filled_retyped, filled_renamed, variables_by, Carries, itself_keeps}

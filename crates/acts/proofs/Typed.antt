@@ -31,7 +31,7 @@ use Rattle.chw_meaning.specs.Values.{Value, Thunk, closed, Thunks, none, thunk_a
 use Rattle.chw_meaning.specs.Eval.{is_only, by_fields, Arm, bound, arm_of}
 use Rattle.acts.specs.Levels.{Levels, later, term_runs, term_has, ThunksAct}
 use Rattle.acts.specs.Acts.{AllAct, act_step, acts_from}
-use Rattle.scenes.specs.Origins.{with_origins}
+use Rattle.rewriting.specs.Origins.{with_origins}
 use Rattle.acts.specs.Terms.{Kinded, setting_with}
 use Rattle.acts.proofs.Arms.{Seen, seen, matches_same, pattern_acts, only_acts}
 use Rattle.acts.proofs.Filled.{filled, filled_all, filled_group, filled_alts, size_filled, size_declared, KeepsValues, Carries, carries_type, type_filled}

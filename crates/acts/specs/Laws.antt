@@ -21,7 +21,7 @@ use Rattle.chw_meaning.specs.Gives.{Input, Given, Better}
 use Rattle.acts.specs.Levels.{RunsAct, term_runs, term_has, ThunksAct}
 use Rattle.acts.specs.Acts.{acts_from}
 use Rattle.acts.specs.Terms.{TiedBy, Kinded, ActsUnder, ActsAs, Chain, OriginsAct, OriginsTyped}
-use Rattle.scenes.specs.Origins.{with_origins, eta_expanded}
+use Rattle.rewriting.specs.Origins.{with_origins, eta_expanded}
 use Rattle.acts.specs.Terms.{ArePut, with_argument, setting_with}
 
 -- thunks that act so for a number of turns do so for one less

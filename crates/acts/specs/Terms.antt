@@ -12,7 +12,7 @@ use Rattle.chw_typing.specs.Scopes.{Setting, HasKind, AreTermTypes}
 use Rattle.chw_typing.specs.Programs.{setting_of}
 use Rattle.chw_typing.specs.Typing.{HasType, HasTypeUpTo}
 use Rattle.chw_meaning.specs.Values.{History, Value, Thunk, Thunks, thunk_at, closed_type}
-use Rattle.scenes.specs.Origins.{with_origins}
+use Rattle.rewriting.specs.Origins.{with_origins}
 use Rattle.acts.specs.Levels.{Levels, RunsAct, term_runs, term_has, thunk_has, ThunksAct}
 use Rattle.acts.specs.Acts.{acts_from}
 

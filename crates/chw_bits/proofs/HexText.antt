@@ -1,9 +1,11 @@
 -- Lemmas on the number of a hexadecimal text.
-use Rattle.std.proofs.Common.{◌≡◌, ℕ, zero, suc, ◌+◌, ◌-◌, ◌*◌, ◌/◌, ◌%◌, ◌^◌, ◌<◌, ◌≤◌, ◌↔◌, ◌==◌, Bool, List, [], ◌∷◌, ◌++◌, length, get_or, take, sym, ap, ◌∙◌, arith, append_assoc, zero-add}
+use Rattle.std.proofs.Common.{◌≡◌, ℕ, zero, suc, ◌+◌, ◌-◌, ◌*◌, ◌/◌, ◌%◌, ◌^◌, ◌<◌, ◌≤◌, ◌↔◌, ◌==◌, Bool, true, ◌&&◌, ltb, List, [], ◌∷◌, ◌++◌, length, get_or, take, sym, ap, subst, ◌∙◌, arith, append_assoc, zero-add}
 use Rattle.std.proofs.Math.Nat.{pow-suc, div-one, div-div-eq-div-mul, div-lt_iff_lt-mul}
 use Rattle.std.proofs.lemmas.Nat.{pow-add, pow_pos, shr-shr, field_of, mod-pow-add, mod_low, div-mul-add, mod-mul-add, mod_below}
-use Rattle.std.proofs.lemmas.List.{take_all}
-use Rattle.std.proofs.lemmas.Int.Digits.{digits_value_more}
+use Rattle.std.proofs.lemmas.Bool.{and_from, and_parts}
+use Rattle.std.proofs.lemmas.Bool.Decides.{Decides-ltb}
+use Rattle.std.proofs.lemmas.List.{take_all, take_more}
+use Rattle.std.proofs.lemmas.Int.Digits.{digits_more, digits_value_more}
 use Rattle.std.specs.Char.{digit_value}
 use Rattle.std.specs.Str.Parse.{digits_value, AllDigits}
 use Rattle.chw_bits.specs.Bits.{bit_of, bits_of}
@@ -14,6 +16,22 @@ pub digit_below : (text : List ℕ) (i : ℕ) → AllDigits 16 text → i < leng
 digit_below [] i all below = absurd (omega arith)
 digit_below (c ∷ text) zero all below = all.0
 digit_below (c ∷ text) (suc i) all below = digit_below text i all.1 (omega arith)
+
+push_less : (xs : List ℕ) (c : ℕ) → AllDigits 16 (xs ++ c ∷ []) → AllDigits 16 xs × (digit_value c < 16)
+push_less [] c all = (tt, all.0)
+push_less (x ∷ xs) c all = let rest = push_less xs c all.1 in ((all.0, rest.0), rest.1)
+
+-- one more byte that was tested
+pub tested_more : (text : List ℕ) (i : ℕ) (all is : Bool) → i < length text → is ≡ ltb (digit_value (get_or text i 0)) 16
+    → (all ≡ true ↔ AllDigits 16 (take i text)) → ((all && is) ≡ true ↔ AllDigits 16 (take (i + 1) text))
+tested_more text i all is within test so_far = (
+  λ both.
+      let parts = and_parts all is both in
+      digits_more 16 text i within (so_far.0 parts.0) ((Decides-ltb (digit_value (get_or text i 0)) 16).0 (sym test ∙ parts.1)),
+  λ digits.
+      let less = push_less (take i text) (get_or text i 0) (subst (AllDigits 16) (take_more text i 0 within) digits) in
+      and_from all is (so_far.1 less.0) (test ∙ (Decides-ltb (digit_value (get_or text i 0)) 16).1 less.1),
+)
 
 -- a front of the text, without some of its last digits
 pub digits_shift : (text : List ℕ) (m k : ℕ) → AllDigits 16 text → k ≤ m → m ≤ length text → digits_value 16 (take m text) / 16 ^ k ≡ digits_value 16 (take (m - k) text)

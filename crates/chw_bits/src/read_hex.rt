@@ -1,5 +1,5 @@
 //! Bits read from hexadecimal text.
-ghost use Rattle.std.specs.Prelude.{◌≡◌, ◌+◌, ◌<◌, ◌≤◌, ◌*◌, ◌^◌, ◌++◌, ◌↔◌, length, IfOk, IsTrue, OnOk};
+ghost use Rattle.std.specs.Prelude.{◌≡◌, ◌+◌, ◌<◌, ◌≤◌, ◌*◌, ◌^◌, ◌++◌, ◌↔◌, length, take, IfOk, IsTrue};
 ghost use Rattle.std.specs.Char.{digit_value};
 ghost use Rattle.std.specs.Str.Parse.{digits_value, AllDigits};
 ghost use Rattle.chw_base.specs.Outcome.{IfFault, OnMemory};
@@ -9,7 +9,7 @@ ghost use Rattle.chw_bits.specs.Hex.{HasWidth, IsFaultOf, digits_at};
 use crate::bits::Bits;
 use crate::hex::digit_count;
 use crate::places::{bit_at, fits};
-use chw_base::{NoMemory, Or};
+use chw_base::Or;
 use std::alloc::Global;
 use thiserror::Error;
 
@@ -24,30 +24,30 @@ pub enum HexFault {
     Width,
 }
 
-/// Whether each byte is a hexadecimal digit of either case.
+// Whether each byte is a hexadecimal digit of either case.
+//
+// It goes on behind a byte that is none, so that the processor tests many at once.
 fn is_hex(text: &[u8]) -> bool
     ensures { IsTrue result ↔ AllDigits 16 text.now }
 {
+    let mut all = true;
     for byte in text {
-        if !char::from(*byte).is_digit(16) {
-            return false;
-        }
+        all &= char::from(*byte).is_digit(16);
     }
-    true
+    all
 }
 
-/// The number of a hexadecimal digit.
+// The number of a hexadecimal digit.
+//
+// The letters of both cases begin behind a multiple of 16, and behind 64, unlike 0 to 9.
 fn number_of_digit(byte: u8) -> u8
     requires { digit_value byte < 16 }
     ensures { result ≡ digit_value byte }
 {
-    match char::from(byte).to_digit(16) {
-        Some(digit) => digit as u8,
-        None => 0,
-    }
+    byte % 16 + byte / 64 * 9
 }
 
-/// Whether the number of a hexadecimal text, with the digits that a width takes, has no bit above that width.
+// Whether the number of a hexadecimal text, with the digits that a width takes, has no bit above that width.
 fn fits_width(text: &[u8], width: u32) -> bool
     requires hex { AllDigits 16 text.now }
     requires count { length text.now ≡ digits_at width }
@@ -59,45 +59,42 @@ fn fits_width(text: &[u8], width: u32) -> bool
     fits(u128::from(number_of_digit(text[0])), (width - 1) % 4 + 1)
 }
 
-/// Appends the lowest bits of a digit, as many as the count.
-fn put_few(bits: &mut Vec<bool>, digit: u8, count: u32) -> Result<(), NoMemory>
-    requires { count ≤ 4 }
-    ensures { OnOk result (bits.new.items ≡ bits.old.items ++ bits_of count digit) }
+// Puts the lowest bits of a digit first, as many as the count.
+fn put_few(bits: &mut [bool], digit: u8, count: usize)
+    requires few { count ≤ 4 }
+    requires enough { count ≤ length bits.old }
+    ensures { take count bits.new ≡ bits_of count digit }
 {
     for i in 0..count {
-        bits.push(bit_at(u128::from(digit), count - 1 - i))?;
+        bits[i] = bit_at(u128::from(digit), (count - 1 - i) as u32);
     }
-    Ok(())
 }
 
-/// Appends the four bits of a digit.
-fn put_digit(bits: &mut Vec<bool>, digit: u8) -> Result<(), NoMemory>
-    ensures { OnOk result (bits.new.items ≡ bits.old.items ++ bits_of 4 digit) }
+// Puts the four bits of a digit from this place on.
+fn put_digit(bits: &mut [bool], at: usize, digit: u8)
+    requires { at + 4 ≤ length bits.old }
+    ensures { take (at + 4) bits.new ≡ take at bits.old ++ bits_of 4 digit }
 {
-    let digit = u128::from(digit);
-    let four = [
-        bit_at(digit, 3),
-        bit_at(digit, 2),
-        bit_at(digit, 1),
-        bit_at(digit, 0),
-    ];
-    Ok(bits.extend_from_slice(&four)?)
+    bits[at] = digit / 8 % 2 == 1;
+    bits[at + 1] = digit / 4 % 2 == 1;
+    bits[at + 2] = digit / 2 % 2 == 1;
+    bits[at + 3] = digit % 2 == 1;
 }
 
-/// Appends the bits of a hexadecimal text, as many as the width, of which its digits have no bit above.
-fn put_text(bits: &mut Vec<bool>, text: &[u8], width: u32) -> Result<(), NoMemory>
+// Puts the bits of a hexadecimal text in place of as many others.
+fn put_text(bits: &mut [bool], text: &[u8])
     requires hex { AllDigits 16 text.now }
-    requires count { length text.now ≡ digits_at width }
-    ensures { OnOk result (bits.new.items ≡ bits.old.items ++ bits_of width (digits_value 16 text.now)) }
+    requires count { length text.now ≡ digits_at (length bits.old) }
+    ensures { bits.new ≡ bits_of (length bits.old) (digits_value 16 text.now) }
 {
-    if width == 0 {
-        return Ok(());
+    if bits.is_empty() {
+        return;
     }
-    put_few(bits, number_of_digit(text[0]), (width - 1) % 4 + 1)?;
+    let few = (bits.len() - 1) % 4 + 1;
+    put_few(bits, number_of_digit(text[0]), few);
     for i in 1..text.len() {
-        put_digit(bits, number_of_digit(text[i]))?;
+        put_digit(bits, few + 4 * (i - 1), number_of_digit(text[i]));
     }
-    Ok(())
 }
 
 impl Bits {
@@ -117,9 +114,8 @@ impl Bits {
         if text.len() != digit_count(width) as usize || !fits_width(text, width) {
             return Err(Or::Fault(HexFault::Width));
         }
-        let mut bits = Vec::new(alloc);
-        bits.reserve(width as usize)?;
-        put_text(&mut bits, text, width)?;
+        let mut bits = vec![in alloc; false; width as usize]?;
+        put_text(&mut bits, text);
         Ok(Bits { bits })
     }
 }

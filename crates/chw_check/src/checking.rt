@@ -20,10 +20,10 @@ use chw_base::{Name, NoMemory, Or};
 use chw_terms::Program;
 use chw_types::type_text;
 use con_places::Constructors;
-use named_types::laws::data_types_in_order;
 use std::alloc::Global;
 use std::marker::Model;
 use term_types::Signature;
+use typing_laws::named_laws::data_types_in_order;
 
 /// A program that is tidy and typed. Contracts see the program.
 #[derive(Drop)]

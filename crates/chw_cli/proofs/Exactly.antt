@@ -11,7 +11,7 @@ use Rattle.chw_base.specs.declared.shelf.ShelfFault.{ShelfFault}
 use Rattle.chw_base.specs.declared.sink.SinkFault.{SinkFault}
 use Rattle.chw_cli.specs.Answer.{Answer, CommandAnswer, LacksText}
 use Rattle.chw_cli.specs.Answer.Answer.{no_command, no_text, texts as of_texts}
-use Rattle.chw_cli.specs.Exact.{AreHeld, BreakNothing, Ends, IsExact, IsUsed, Misses}
+use Rattle.chw_cli.specs.Exact.{AreHeld, BreakNothing, Ends, IsExact, Misses}
 use Rattle.chw_cli.specs.Exact.AreHeld.{more}
 use Rattle.chw_cli.specs.Exact.Misses.{here, later}
 use Rattle.chw_cli.specs.Lines.{status_of}
@@ -213,29 +213,6 @@ module _ (told : Option Files) (words : List (List ℕ)) (ShelfRose OutRose : Ty
   unwritten_ends (write bytes c rose e) is = rose
   unwritten_ends (memory e) is = absurd (cc)
 
-  used_by : (r : Refusal) → IsUsed (status_of r)
-  used_by refusal.Words = tt
-  used_by (refusal.Read file) = tt
-  used_by refusal.LongText = tt
-  used_by (refusal.Lex at) = tt
-  used_by (refusal.Syntax at) = tt
-  used_by refusal.Depth = tt
-  used_by (refusal.Names fault) = tt
-  used_by (refusal.Types fault) = tt
-  used_by refusal.Form = tt
-  used_by (refusal.Verilog fault) = tt
-  used_by (refusal.Stimulus fault) = tt
-  used_by refusal.TooLarge = tt
-  used_by (refusal.Loop cycle) = tt
-  used_by refusal.Write = tt
-  used_by refusal.Memory = tt
-
-  used : Reason told words ShelfRose OutRose s → IsUsed s
-  used (ok bytes c e) = subst IsUsed (sym e) tt
-  used (refusal_ r c e) = subst IsUsed (sym e) (used_by r)
-  used (write bytes c rose e) = subst IsUsed (sym e) tt
-  used (memory e) = subst IsUsed (sym e) tt
-
   complete : Reason told words ShelfRose OutRose s → (files : Files) (command : Command) (texts : List (List ℕ)) → told ≡ Some files
       → IsCommand words command → AreHeld files (wants command) texts → BreakNothing command texts → (ShelfRose → ⊥) → (OutRose → ⊥) → Ends status.Ok s
   complete (ok bytes c e) files command texts t is has b shelf out = inl e
@@ -259,7 +236,6 @@ module _ (told : Option Files) (words : List (List ℕ)) (ShelfRose OutRose : Ty
     unread = unread r;
     absent = absent r;
     unwritten = unwritten_ends r;
-    used = used r;
     complete = complete r;
   }
 

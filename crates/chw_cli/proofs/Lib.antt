@@ -4,6 +4,7 @@ pub mod Descriptions
 pub mod Emitting
 pub mod Exactly
 pub mod Limits
+pub mod Normal
 pub mod OneText
 pub mod Progress
 pub mod Reasons

@@ -3,7 +3,7 @@ use Rattle.std.proofs.Common.{◌≡◌, [], ◌∷◌, ◌++◌, codes, ap, ◌
 use Rattle.std.specs.Prelude.{decimal}
 use Rattle.std.proofs.lemmas.Fmt.{decimal_digit, decimal_step}
 use Rattle.chw_cli.specs.Lines.{line_of}
-use Rattle.chw_cli.specs.declared.refusal.Refusal.TheVariants.{Depth, LongText, TooLarge}
+use Rattle.chw_cli.specs.declared.refusal.Refusal.TheVariants.{DeepBody, Depth, LongText, TooLarge}
 
 text_limit : decimal 4194304 ≡ codes "4194304"
 text_limit =
@@ -30,6 +30,13 @@ wires =
     ∙ ap (λ ds. ds ++ 48 ∷ []) (decimal_step 20 (omega arith) (omega arith)
     ∙ ap (λ ds. ds ++ 48 ∷ []) (decimal_digit 2 (omega arith))))))
 
+made_depth : decimal 2000 ≡ codes "2000"
+made_depth =
+    decimal_step 2000 (omega arith) (omega arith)
+    ∙ ap (λ ds. ds ++ 48 ∷ []) (decimal_step 200 (omega arith) (omega arith)
+    ∙ ap (λ ds. ds ++ 48 ∷ []) (decimal_step 20 (omega arith) (omega arith)
+    ∙ ap (λ ds. ds ++ 48 ∷ []) (decimal_digit 2 (omega arith))))
+
 pub long_text_line : line_of LongText ≡ codes "chw: E03 limit text 4194304\n"
 long_text_line = ap (λ ds. codes "chw: E03 limit text " ++ ds ++ codes "\n") text_limit
 
@@ -38,3 +45,6 @@ depth_line = ap (λ ds. codes "chw: E03 limit depth " ++ ds ++ codes "\n") nesti
 
 pub too_large_line : line_of TooLarge ≡ codes "chw: E17 size wires 200000\n"
 too_large_line = ap (λ ds. codes "chw: E17 size wires " ++ ds ++ codes "\n") wires
+
+pub deep_body_line : line_of DeepBody ≡ codes "chw: E12 depth 2000\n"
+deep_body_line = ap (λ ds. codes "chw: E12 depth " ++ ds ++ codes "\n") made_depth

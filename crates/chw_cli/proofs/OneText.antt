@@ -16,6 +16,7 @@ use Rattle.chw_cli.specs.Lines.{status_of}
 use Rattle.chw_cli.specs.Reads.{GoesOn, Read, Wanted}
 use Rattle.chw_cli.specs.declared.refusal.Refusal.{Refusal}
 use Rattle.chw_cli.specs.declared.refusal.Refusal.TheVariants as refusal
+use Rattle.chw_cli.specs.declared.status.Status.{Status}
 use Rattle.chw_cli.specs.declared.status.Status.TheVariants as status
 use Rattle.chw_cli.proofs.Asking.{AreWhole, Held}
 use Rattle.chw_cli.proofs.Asking.Held.{of_none, of_last, of_next}
@@ -79,7 +80,7 @@ typed_is_right sound same named alone typed_ text tree _ d (wrong_types t p faul
 -- the text of one file that breaks no restriction isn't refused
 pub one_text_is_answered : HasNoFault → OneDescription → HasNoNameFault → OneProgram → HasNoTypeFault → (Suits : List ℕ → Type 0)
     (TreeAnswer : List ℕ → Tree → Result (List ℕ) Refusal → Type 0)
-    → ((text : List ℕ) (tree : Tree) (r : Refusal) → Suits text → TreeAnswer text tree (Err r) → ⊥)
+    → ((text : List ℕ) (tree : Tree) (r : Refusal) → IsTypedText text tree → Suits text → TreeAnswer text tree (Err r) → ⊥)
     → (files : Files) (command : Command) (file : Wanted) (texts : List (List ℕ)) (reads : List Read) (r : Refusal)
     → AreHeld files (file ∷ []) texts → BreaksNone Suits texts → Held files command (file ∷ []) reads → TextAnswer TreeAnswer reads (Err r) → ⊥
 one_text_is_answered sound same named alone typed_ Suits TreeAnswer answers files command file texts reads r held_texts breaks held_reads a =
@@ -93,13 +94,13 @@ one_text_is_answered sound same named alone typed_ Suits TreeAnswer answers file
         typed_is_right sound same named alone typed_ text tree q d (subst (λ x. IsWrongText x q) same_texts w)
     by _ _ (more _ _ _ _ has rest) (typed_text text tree d suits) (of_last _ _ other has') e (typed _ t answer d' c) =
         let some = has'.0 in let some' = has.0 in let same_texts : other ≡ text = cc in
-        answers text t r suits (subst (λ x. TreeAnswer x t (Err r)) same_texts (subst (TreeAnswer other t) e c))
+        answers text t r (subst (λ x. IsTypedText x t) same_texts d') suits (subst (λ x. TreeAnswer x t (Err r)) same_texts (subst (TreeAnswer other t) e c))
     by _ _ (more _ _ _ _ has rest) (typed_text text tree d suits) (of_next _ _ other _ has' on (of_none _)) e (wrong _ q w) =
         let some = has'.0 in let some' = has.0 in let same_texts : other ≡ text = cc in
         typed_is_right sound same named alone typed_ text tree q d (subst (λ x. IsWrongText x q) same_texts w)
     by _ _ (more _ _ _ _ has rest) (typed_text text tree d suits) (of_next _ _ other _ has' on (of_none _)) e (typed _ t answer d' c) =
         let some = has'.0 in let some' = has.0 in let same_texts : other ≡ text = cc in
-        answers text t r suits (subst (λ x. TreeAnswer x t (Err r)) same_texts (subst (TreeAnswer other t) e c))
+        answers text t r (subst (λ x. IsTypedText x t) same_texts d') suits (subst (λ x. TreeAnswer x t (Err r)) same_texts (subst (TreeAnswer other t) e c))
 
 -- no command answers where one of its files is missing
 pub misses_one : (files : Files) (command : Command) (file : Wanted) (TreeAnswer : List ℕ → Tree → Result (List ℕ) Refusal → Type 0) (reads : List Read)
@@ -130,13 +131,14 @@ emit_status text r a = only refl a
     only e (loops f cycle is few l) = let is' : refusal.Loop cycle ≡ r = cc in sym (ap status_of is')
     only e (emitted f is can) = absurd (cc)
 
-pub text_status : (TreeAnswer : List ℕ → Tree → Result (List ℕ) Refusal → Type 0)
-    → ((text : List ℕ) (tree : Tree) (r : Refusal) → TreeAnswer text tree (Err r) → status_of r ≡ status.Refused)
-    → (reads : List Read) (r : Refusal) → TextAnswer TreeAnswer reads (Err r) → status_of r ≡ status.Refused
-text_status TreeAnswer tree_status reads r a = only reads refl a
+-- the status of a refusal of a text has this, where that of a wrong text has and those of its tree's answer have
+pub text_status : (P : Status → Type 0) → P status.Refused → (TreeAnswer : List ℕ → Tree → Result (List ℕ) Refusal → Type 0)
+    → ((text : List ℕ) (tree : Tree) (r : Refusal) → TreeAnswer text tree (Err r) → P (status_of r))
+    → (reads : List Read) (r : Refusal) → TextAnswer TreeAnswer reads (Err r) → P (status_of r)
+text_status P refused TreeAnswer tree_status reads r a = only reads refl a
   where
-    only : {answer : Result (List ℕ) Refusal} (reads : List Read) → answer ≡ Err r → TextAnswer TreeAnswer reads answer → status_of r ≡ status.Refused
-    only _ e (wrong text q w) = let is : q ≡ r = cc in subst (λ q. status_of q ≡ status.Refused) is (wrong_status text q w)
+    only : {answer : Result (List ℕ) Refusal} (reads : List Read) → answer ≡ Err r → TextAnswer TreeAnswer reads answer → P (status_of r)
+    only _ e (wrong text q w) = let is : q ≡ r = cc in subst (λ q. P (status_of q)) is (subst P (sym (wrong_status text q w)) refused)
     only _ e (typed text tree answer d c) = tree_status text tree r (subst (TreeAnswer text tree) e c)
 
 -- what is answered was read whole

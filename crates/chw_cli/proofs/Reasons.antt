@@ -28,7 +28,7 @@ use Rattle.chw_cli.specs.Reads.Read.{fetched}
 use Rattle.chw_cli.specs.Reads.ReadsFor.{last, next}
 use Rattle.chw_cli.specs.Refusals.RefusesStimulus.{memory as wanting_too, no_stimulus}
 use Rattle.chw_cli.specs.Refusals.RefusesVerilog.{memory as wanting, no_circuit}
-use Rattle.chw_cli.specs.Refusals.{RefusesEmit, RefusesReading, RefusesStimulus, RefusesText, RefusesVerilog, of_circuit_fault, of_lex_fault, of_name_fault, of_parse_fault, of_stim_fault, of_type_fault, of_words_fault}
+use Rattle.chw_cli.specs.Refusals.{RefusesEmit, RefusesNormalise, RefusesReading, RefusesStimulus, RefusesText, RefusesVerilog, of_circuit_fault, of_lex_fault, of_name_fault, of_parse_fault, of_stim_fault, of_type_fault, of_words_fault}
 use Rattle.chw_cli.specs.declared.refusal.Refusal.{Refusal}
 use Rattle.chw_cli.specs.declared.refusal.Refusal.TheVariants as refusal
 use Rattle.chw_check.specs.Faults.{IsTypeFault}
@@ -46,9 +46,9 @@ use Rattle.chw_resolve.specs.Written.{WasRead}
 use Rattle.chw_resolve.specs.declared.fault.NameFault.{NameFault}
 use Rattle.chw_terms.specs.declared.program.Program.{Program}
 use Rattle.chw_words.specs.Commands.{IsCommand, AreNoCommand}
-use Rattle.chw_words.specs.Commands.IsCommand.{emit, check, run}
+use Rattle.chw_words.specs.Commands.IsCommand.{emit, check, normalise, run}
 use Rattle.chw_words.specs.declared.command.Command.{Command}
-use Rattle.chw_words.specs.declared.command.Command.TheVariants.{Emit, Check, Run}
+use Rattle.chw_words.specs.declared.command.Command.TheVariants.{Emit, Check, Normalise, Run}
 use Rattle.chw_words.specs.declared.command.WordsFault.{WordsFault}
 use Rattle.netlist.specs.declared.net.Flat.{Flat}
 use Rattle.run_answer.specs.Circuits.{CanRun, IsCircuitFault}
@@ -103,6 +103,9 @@ without_value P Q (Some x) h p = absurd (h x refl)
 -- the file of a command is text
 pub emit_is_text : (words : List (List ℕ)) (file : List ℕ) (budget : ℕ) → IsCommand words (Emit file budget) → IsUtf8 file
 emit_is_text _ _ _ (emit words file budget is said) = is.text
+
+pub normalise_is_text : (words : List (List ℕ)) (file : List ℕ) (budget : ℕ) → IsCommand words (Normalise file budget) → IsUtf8 file
+normalise_is_text _ _ _ (normalise words file budget is said) = is.text
 
 pub check_is_text : (words : List (List ℕ)) (file : List ℕ) → IsCommand words (Check file) → IsUtf8 file
 check_is_text _ _ (check file is) = is.text
@@ -221,6 +224,17 @@ pub emit_refuses : (file text : List ℕ) (budget : ℕ) (tree : Tree) (r : Refu
     → (r ≡ refusal.Memory) ⊎ CommandAnswer (Emit file budget) (whole text ∷ []) (Err r)
 emit_refuses file text budget tree r w (inl e) = inl e
 emit_refuses file text budget tree r w (inr a) = inr (typed text tree (Err r) w a)
+
+-- and so is what `normalise` refuses
+pub normalise_answers : (file text : List ℕ) (budget : ℕ) (r : Refusal) → RefusesText text r
+    → (r ≡ refusal.Memory) ⊎ CommandAnswer (Normalise file budget) (whole text ∷ []) (Err r)
+normalise_answers file text budget r (inl e) = inl e
+normalise_answers file text budget r (inr w) = inr (wrong text r w)
+
+pub normalise_refuses : (file text : List ℕ) (budget : ℕ) (tree : Tree) (r : Refusal) → IsTypedText text tree → RefusesNormalise tree budget r
+    → (r ≡ refusal.Memory) ⊎ CommandAnswer (Normalise file budget) (whole text ∷ []) (Err r)
+normalise_refuses file text budget tree r w (inl e) = inl e
+normalise_refuses file text budget tree r w (inr a) = inr (typed text tree (Err r) w a)
 
 -- what refuses a Verilog text is the answer of `run`, and so is what refuses the stimulus
 pub verilog_answers : (verilog stimulus text : List ℕ) (r : Refusal) → RefusesVerilog text r

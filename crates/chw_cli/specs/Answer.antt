@@ -1,5 +1,5 @@
 -- What the program answers to words, by what was read: bytes for `out`, or a refusal.
-use Rattle.std.specs.Prelude.{◌≡◌, ℕ, ◌<◌, ◌≤◌, List, [], ◌∷◌, length, Result, Ok, Err, ◌⊎◌}
+use Rattle.std.specs.Prelude.{◌≡◌, ℕ, ◌<◌, ◌≤◌, List, [], ◌∷◌, length, map, Result, Ok, Err, ◌⊎◌}
 use Rattle.chw_base.specs.declared.limits.TheConstants.{FLAT_WIRES}
 use Rattle.chw_base.specs.declared.index.WireId.{WireId}
 use Rattle.chw_base.specs.declared.outcome.Or.{Or}
@@ -13,19 +13,23 @@ use Rattle.chw_cli.specs.Descriptions.{IsDescription, NoDescription}
 use Rattle.chw_cli.specs.Reads.{Read, Wanted, wants, whole}
 use Rattle.chw_cli.specs.Reads.Read.{fetched}
 use Rattle.chw_cli.specs.declared.refusal.Refusal.{Refusal}
-use Rattle.chw_cli.specs.declared.refusal.Refusal.TheVariants.{Words, Read as Unread, Names, Types, Form, TooLarge, Loop, Stimulus, Verilog}
+use Rattle.chw_cli.specs.declared.refusal.Refusal.TheVariants.{Words, Read as Unread, Names, Types, DeepBody, Spent, Form, TooLarge, Loop, Stimulus, Verilog}
 use Rattle.chw_check.specs.Faults.{IsTypeFault}
 use Rattle.chw_check.specs.declared.fault.TypeFault.{TypeFault}
 use Rattle.chw_grammar.specs.declared.program.Tree.{Tree}
 use Rattle.chw_grammar.specs.Text.{Text}
+use Rattle.chw_norm.specs.Running.{Ends}
+use Rattle.chw_norm.specs.declared.running.RunFault.{RunFault}
+use Rattle.chw_norm.specs.declared.running.RunFault.TheVariants as run
 use Rattle.chw_resolve.specs.Faults.{IsNameFault, IsWellNamed}
 use Rattle.chw_resolve.specs.declared.fault.NameFault.{NameFault}
 use Rattle.chw_terms.specs.Tidy.{IsTidy}
 use Rattle.chw_terms.specs.declared.program.Program.{Program}
+use Rattle.chw_terms.specs.declared.scene.Made.{Made}
 use Rattle.chw_typing.specs.Programs.{IsTyped}
 use Rattle.chw_words.specs.Commands.{IsCommand, AreNoCommand}
 use Rattle.chw_words.specs.declared.command.Command.{Command}
-use Rattle.chw_words.specs.declared.command.Command.TheVariants.{Emit, Check, Run}
+use Rattle.chw_words.specs.declared.command.Command.TheVariants.{Emit, Check, Normalise, Run}
 use Rattle.flat_form.specs.FlatNet.{net_of}
 use Rattle.flat_form.specs.Grammar.{IsFlatText}
 use Rattle.flat_form.specs.declared.flat.FlatText.{FlatText}
@@ -33,6 +37,9 @@ use Rattle.flat_form.specs.FlatNet.{flat_of}
 use Rattle.flat_law.specs.FlatOf.{SameBits}
 use Rattle.netlist.specs.Orders.{IsLoop}
 use Rattle.netlist.specs.declared.net.Flat.{Flat}
+use Rattle.norm_lines.specs.Lines.{normal_lines}
+use Rattle.rewriting.specs.Runs.{Step}
+use Rattle.chw_norm.specs.Rules.{built}
 use Rattle.run_answer.specs.Circuits.{CanRun, IsCircuitFault, IsRunBy}
 use Rattle.run_answer.specs.declared.fault.CircuitFault.{CircuitFault}
 use Rattle.run_answer.specs.declared.fault.CircuitFault.TheVariants as circuit
@@ -97,6 +104,21 @@ pub data TextAnswer (TreeAnswer : List ℕ → Tree → Result (List ℕ) Refusa
       → IsTypedText text tree
       → TreeAnswer text tree answer → TextAnswer TreeAnswer (whole text ∷ []) answer
 
+-- the refusal of a run of rewriting
+abbrev pub refusal_of_run : RunFault → Refusal
+refusal_of_run run.Depth = DeepBody
+refusal_of_run (run.Spent steps) = Spent steps
+
+-- the answer of `normalise` to a description: the lines of the run of its program, by so many steps
+-- at most, to a state in which none is left; or why the run is refused
+pub data NormaliseAnswer (tree : Tree) (budget : ℕ) : Result (List ℕ) Refusal → Type 0 where
+  normalised : (p : Program) (steps : List Step) (made : List Made) → HasProgram tree p
+      → length steps ≤ budget → Ends built p budget steps (Ok made)
+      → NormaliseAnswer tree budget (Ok (normal_lines (map (λ (s : Step). s.place) steps) made))
+  not_normalised : (p : Program) (steps : List Step) (fault : RunFault) → HasProgram tree p
+      → length steps ≤ budget → Ends built p budget steps (Err (Fault fault))
+      → NormaliseAnswer tree budget (Err (refusal_of_run fault))
+
 -- the refusal of a Verilog text that can't be run
 abbrev pub refusal_of : CircuitFault → Refusal
 refusal_of (circuit.Text fault) = Verilog fault
@@ -118,6 +140,8 @@ pub data RunAnswer : List Read → Result (List ℕ) Refusal → Type 0 where
 abbrev pub CommandAnswer : Command → List Read → Result (List ℕ) Refusal → Type 0
 CommandAnswer (Emit file budget) = TextAnswer (λ text tree answer. EmitAnswer text answer)
 CommandAnswer (Check file) = TextAnswer (λ text tree answer. answer ≡ Ok (Text tree))
+CommandAnswer (Normalise file budget) =
+    TextAnswer (λ text tree answer. NormaliseAnswer tree budget answer)
 CommandAnswer (Run verilog stimulus) = RunAnswer
 
 -- the file isn't held, or couldn't be read

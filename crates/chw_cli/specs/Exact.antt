@@ -2,28 +2,30 @@
 use Rattle.std.specs.Prelude.{◌≡◌, ◌≤◌, ℕ, List, [], ◌∷◌, length, Option, Some, None, ◌⊎◌, IsSomeAnd}
 use Rattle.chw_base.specs.Files.{Files, file_of}
 use Rattle.chw_clock.specs.declared.event.Event.{Event}
-use Rattle.chw_cli.specs.Answer.{HasFewWires, HasNoLoop, IsTypedText}
+use Rattle.chw_cli.specs.Answer.{HasFewWires, HasNoLoop, HasProgram, IsTypedText}
+use Rattle.chw_cli.specs.Descriptions.{IsDescription}
 use Rattle.chw_cli.specs.Reads.{GoesOn, Wanted, wants}
 use Rattle.chw_cli.specs.declared.status.Status.{Status}
 use Rattle.chw_cli.specs.declared.status.Status.TheVariants as status
 use Rattle.chw_grammar.specs.declared.program.Tree.{Tree}
+use Rattle.chw_norm.specs.Running.{ShallowRun}
+use Rattle.chw_terms.specs.declared.program.Program.{Program}
+use Rattle.chw_terms.specs.declared.scene.Made.{Made}
 use Rattle.chw_words.specs.Commands.{IsCommand, AreNoCommand}
 use Rattle.chw_words.specs.declared.command.Command.{Command}
-use Rattle.chw_words.specs.declared.command.Command.TheVariants.{Emit, Check, Run}
+use Rattle.chw_words.specs.declared.command.Command.TheVariants.{Emit, Check, Normalise, Run}
 use Rattle.flat_form.specs.Grammar.{IsFlatText}
 use Rattle.flat_form.specs.declared.flat.FlatText.{FlatText}
 use Rattle.netlist.specs.declared.net.Flat.{Flat}
+use Rattle.rewriting.specs.Runs.{Step}
+use Rattle.rewriting.specs.Steps.{HasNoStep}
+use Rattle.chw_norm.specs.Rules.{built}
 use Rattle.run_answer.specs.Circuits.{CanRun}
 use Rattle.stimulus.specs.Stimulus.{Stim}
 
 -- the status is this one, or memory was wanting
 abbrev pub Ends : Status → Status → Type 0
 Ends wanted s = (s ≡ wanted) ⊎ (s ≡ status.Memory)
-
--- a status that some command has so far
-abbrev pub IsUsed : Status → Type 0
-IsUsed status.Spent = ⊥
-IsUsed _ = Unit {0}
 
 -- the text of one file breaks no restriction: it is a description that is typed, and this suits
 pub data BreaksNone (Suits : List ℕ → Type 0) : List (List ℕ) → Type 0 where
@@ -34,6 +36,19 @@ pub data BreaksNone (Suits : List ℕ → Type 0) : List (List ℕ) → Type 0 w
 abbrev pub HasGoodNet : List ℕ → Type 0
 HasGoodNet text = (f : FlatText) × IsFlatText text f × HasFewWires f × HasNoLoop f
 
+-- the program of the text has a run of so many steps at most to a state in which no step is left, and
+-- no step leads to a body over the limit of depth
+pub record HasNormalRun (budget : ℕ) (text : List ℕ) : Type 0 where
+  pub tree : Tree
+  pub description : IsDescription text tree
+  pub program : Program
+  pub is : HasProgram tree program
+  pub steps : List Step
+  pub within : length steps ≤ budget
+  pub made : List Made
+  pub run : ShallowRun built program steps made
+  pub ended : HasNoStep built program made
+
 -- the first text can be run, and the second is a stimulus for the ports of its flat net
 pub data RunsWith : List (List ℕ) → Type 0 where
   runs : (text stimulus : List ℕ) (flat : Flat) (events : List Event) → CanRun text flat
@@ -43,6 +58,7 @@ pub data RunsWith : List (List ℕ) → Type 0 where
 abbrev pub BreakNothing : Command → List (List ℕ) → Type 0
 BreakNothing (Emit file budget) = BreaksNone HasGoodNet
 BreakNothing (Check file) = BreaksNone (λ text. Unit {0})
+BreakNothing (Normalise file budget) = BreaksNone (HasNormalRun budget)
 BreakNothing (Run verilog stimulus) = RunsWith
 
 -- the file is held with this text, which is within its limit
@@ -77,7 +93,6 @@ pub record IsExact (told : Option Files) (words : List (List ℕ)) (ShelfRose Ou
       → Misses files command (wants command) → Ends status.Read s
   -- the write is refused only where the faults of `out` rose
   pub unwritten : s ≡ status.Write → OutRose
-  pub used : IsUsed s
   -- files that break no restriction are answered where no fault rose
   pub complete : (files : Files) (command : Command) (texts : List (List ℕ)) → told ≡ Some files
       → IsCommand words command → AreHeld files (wants command) texts → BreakNothing command texts

@@ -1,10 +1,10 @@
 -- The statuses with their codes, and the refusals with their statuses and lines.
 use Rattle.std.specs.Prelude.{ℕ, List, ◌++◌, codes, decimal}
 use Rattle.std.specs.List.{flat_map}
-use Rattle.chw_base.specs.declared.limits.TheConstants.{DESCRIPTION_BYTES, FLAT_WIRES, NESTING}
+use Rattle.chw_base.specs.declared.limits.TheConstants.{DESCRIPTION_BYTES, FLAT_WIRES, MADE_DEPTH, NESTING}
 use Rattle.chw_base.specs.declared.index.WireId.{WireId}
 use Rattle.chw_cli.specs.declared.refusal.Refusal.{Refusal}
-use Rattle.chw_cli.specs.declared.refusal.Refusal.TheVariants.{Words, Read, LongText, Lex, Syntax, Depth, Names, Types, Form, Verilog, Stimulus, TooLarge, Loop, Write, Memory}
+use Rattle.chw_cli.specs.declared.refusal.Refusal.TheVariants.{Words, Read, LongText, Lex, Syntax, Depth, Names, Types, DeepBody, Spent, Form, Verilog, Stimulus, TooLarge, Loop, Write, Memory}
 use Rattle.chw_cli.specs.declared.status.Status.{Status}
 use Rattle.chw_check.specs.declared.fault.TypeFault.{TypeFault}
 use Rattle.chw_check.specs.declared.fault.TypeFault.TheVariants.{Kind, Typing, Missing, NoDefault, NotPorts}
@@ -37,6 +37,8 @@ status_of (Syntax at) = status.Refused
 status_of Depth = status.Refused
 status_of (Names fault) = status.Refused
 status_of (Types fault) = status.Refused
+status_of DeepBody = status.Refused
+status_of (Spent steps) = status.Spent
 status_of Form = status.Refused
 status_of (Verilog fault) = status.Verilog
 status_of (Stimulus fault) = status.Stimulus
@@ -107,6 +109,8 @@ line_of (Syntax at) = codes "chw: E02 syntax at " ++ decimal at ++ codes "\n"
 line_of Depth = codes "chw: E03 limit depth " ++ decimal NESTING ++ codes "\n"
 line_of (Names fault) = fault_line fault
 line_of (Types fault) = type_line fault
+line_of DeepBody = codes "chw: E12 depth " ++ decimal MADE_DEPTH ++ codes "\n"
+line_of (Spent steps) = codes "chw: E18 spent " ++ decimal steps ++ codes "\n"
 line_of Form = codes "chw: E20 form at 0\n"
 line_of (Verilog fault) = rule_words fault.code ++ decimal fault.at ++ codes "\n"
 line_of (Stimulus fault) = stim_words fault.code ++ decimal fault.line ++ codes "\n"
@@ -115,13 +119,15 @@ line_of (Loop cycle) = codes "chw: E16 loop" ++ wire_texts cycle ++ codes "\n"
 line_of Write = codes "chw: write\n"
 line_of Memory = codes "chw: memory\n"
 
--- the line of a refusal takes memory to make, if it shows a place, a file's name, names, a type or wires
+-- the line of a refusal takes memory to make, if it shows a place, a number of steps, a file's name,
+-- names, a type or wires
 abbrev pub TakesMemory : Refusal → Type 0
 TakesMemory (Read name) = Unit {0}
 TakesMemory (Lex at) = Unit {0}
 TakesMemory (Syntax at) = Unit {0}
 TakesMemory (Names fault) = Unit {0}
 TakesMemory (Types fault) = Unit {0}
+TakesMemory (Spent steps) = Unit {0}
 TakesMemory (Verilog fault) = Unit {0}
 TakesMemory (Stimulus fault) = Unit {0}
 TakesMemory (Loop cycle) = Unit {0}

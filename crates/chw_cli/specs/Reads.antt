@@ -11,7 +11,7 @@ use Rattle.chw_cli.specs.declared.refusal.Refusal.{Refusal}
 use Rattle.chw_cli.specs.declared.refusal.Refusal.TheVariants.{LongText, Stimulus, Verilog}
 use Rattle.chw_words.specs.Commands.{IsCommand}
 use Rattle.chw_words.specs.declared.command.Command.{Command}
-use Rattle.chw_words.specs.declared.command.Command.TheVariants.{Emit, Check, Run}
+use Rattle.chw_words.specs.declared.command.Command.TheVariants.{Emit, Check, Normalise, Run}
 use Rattle.netlist.specs.declared.net.Flat.{Flat}
 use Rattle.run_answer.specs.Circuits.{CanRun}
 use Rattle.stimulus.specs.declared.fault.StimCode.TheVariants.{S05}
@@ -44,6 +44,7 @@ stimulus_in file = record {
 abbrev pub wants : Command → List Wanted
 wants (Emit file budget) = description_in file ∷ []
 wants (Check file) = description_in file ∷ []
+wants (Normalise file budget) = description_in file ∷ []
 wants (Run verilog stimulus) = verilog_in verilog ∷ stimulus_in stimulus ∷ []
 
 -- after a file with this text the command goes on to the next one: never, if it wants a single file;
@@ -51,6 +52,7 @@ wants (Run verilog stimulus) = verilog_in verilog ∷ stimulus_in stimulus ∷ [
 abbrev pub GoesOn : Command → List ℕ → Type 0
 GoesOn (Emit file budget) text = ⊥
 GoesOn (Check file) text = ⊥
+GoesOn (Normalise file budget) text = ⊥
 GoesOn (Run verilog stimulus) text = (flat : Flat) × CanRun text flat
 
 -- one read: what a call of `fetch` answered, with the bytes

@@ -4,7 +4,7 @@ use Rattle.chw_base.specs.declared.index.WireId.{WireId}
 use Rattle.chw_base.specs.declared.limits.TheConstants.{FLAT_WIRES}
 use Rattle.chw_base.specs.declared.outcome.Or.{Or}
 use Rattle.chw_base.specs.declared.outcome.Or.TheVariants.{Memory, Fault}
-use Rattle.chw_cli.specs.Answer.{EmitAnswer, HasFewWires, IsWrongText, refusal_of}
+use Rattle.chw_cli.specs.Answer.{EmitAnswer, HasFewWires, IsWrongText, NormaliseAnswer, refusal_of, refusal_of_run}
 use Rattle.chw_cli.specs.Descriptions.{NoDescription}
 use Rattle.chw_cli.specs.declared.refusal.Refusal.{Refusal}
 use Rattle.chw_cli.specs.declared.refusal.Refusal.TheVariants as refusal
@@ -12,6 +12,8 @@ use Rattle.chw_check.specs.declared.fault.TypeFault.{TypeFault}
 use Rattle.chw_lexer.specs.declared.token.LexFault.{LexFault}
 use Rattle.chw_parser.specs.declared.parsing.ParseFault.{ParseFault}
 use Rattle.chw_parser.specs.declared.parsing.ParseFault.TheVariants.{Syntax, Depth}
+use Rattle.chw_grammar.specs.declared.program.Tree.{Tree}
+use Rattle.chw_norm.specs.declared.running.RunFault.{RunFault}
 use Rattle.chw_resolve.specs.declared.fault.NameFault.{NameFault}
 use Rattle.chw_words.specs.declared.command.WordsFault.{WordsFault}
 use Rattle.flat_form.specs.declared.flat.FlatText.{FlatText}
@@ -46,6 +48,10 @@ abbrev pub of_type_fault : Or TypeFault → Refusal
 of_type_fault Memory = refusal.Memory
 of_type_fault (Fault f) = refusal.Types f
 
+abbrev pub of_run_fault : Or RunFault → Refusal
+of_run_fault Memory = refusal.Memory
+of_run_fault (Fault f) = refusal_of_run f
+
 abbrev pub of_not_flat : Or NotFlat → Refusal
 of_not_flat Memory = refusal.Memory
 of_not_flat (Fault f) = refusal.Form
@@ -71,6 +77,10 @@ pub data RefusesNet (f : FlatText) : Refusal → Type 0 where
 -- why a description isn't emitted: want of memory, or the refusal is the answer
 abbrev pub RefusesEmit : List ℕ → Refusal → Type 0
 RefusesEmit text r = (r ≡ refusal.Memory) ⊎ EmitAnswer text (Err r)
+
+-- why a description isn't normalised: want of memory, or the refusal is the answer
+abbrev pub RefusesNormalise : Tree → ℕ → Refusal → Type 0
+RefusesNormalise tree budget r = (r ≡ refusal.Memory) ⊎ NormaliseAnswer tree budget (Err r)
 
 -- why a text is no description: want of memory, or its fault
 abbrev pub RefusesReading : List ℕ → Refusal → Type 0

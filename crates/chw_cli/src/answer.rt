@@ -3,10 +3,11 @@ ghost use Rattle.std.specs.Prelude.{◌≡◌, Ok, IfOk, IfErr};
 ghost use Rattle.chw_cli.specs.Outcome.{AnswersBy, Refuses};
 ghost use Rattle.chw_cli.specs.Reads.{Asks};
 ghost use Rattle.chw_words.specs.Commands.{IsCommand};
-ghost use Rattle.chw_words.specs.declared.command.Command.TheVariants.{Check, Emit, Run};
+ghost use Rattle.chw_words.specs.declared.command.Command.TheVariants.{Check, Emit, Normalise, Run};
 
 use crate::describe::read_description;
 use crate::emit::emitted;
+use crate::normalise::normalised;
 use crate::refusal::Refusal;
 use crate::run::{read_circuit, run_lines};
 use chw_base::{Name, Shelf};
@@ -26,6 +27,7 @@ pub(crate) fn answer<F: Shelf>(
     match read_words(alloc, words)? {
         Command::Emit { file, budget } => emit(alloc, words, &file, budget, shelf),
         Command::Check { file } => check(alloc, words, &file, shelf),
+        Command::Normalise { file, budget } => normalise(alloc, words, &file, budget, shelf),
         Command::Run { verilog, stimulus } => run(alloc, words, &verilog, &stimulus, shelf),
     }
 }
@@ -59,6 +61,22 @@ fn check<F: Shelf>(
 {
     let description = read_description(alloc, file, shelf)?;
     Ok(print(alloc, &description.tree)?)
+}
+
+/// The answer of `normalise` to the description in a file.
+fn normalise<F: Shelf>(
+    alloc: Global,
+    words: &[Name],
+    file: &Name,
+    budget: u32,
+    shelf: &mut F,
+) -> Result<Vec<u8>, Refusal>
+    requires { IsCommand words.now (Normalise file.now budget) }
+    ensures answers { IfOk result (λ bytes. AnswersBy (Asks F.fetch_gives F.told F.faults words.now shelf.old shelf.new) words.now (Ok bytes.items)) }
+    ensures refuses { IfErr result (Refuses (Asks F.fetch_gives F.told F.faults words.now shelf.old shelf.new) words.now) }
+{
+    let description = read_description(alloc, file, shelf)?;
+    normalised(alloc, &description, budget)
 }
 
 /// The answer of `run` to the Verilog text and the stimulus in two files.

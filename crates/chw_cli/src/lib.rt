@@ -7,6 +7,7 @@ mod describe;
 mod emit;
 mod fetch;
 mod lines;
+mod normalise;
 pub mod refusal;
 mod run;
 pub mod status;

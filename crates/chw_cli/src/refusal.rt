@@ -1,11 +1,12 @@
 //! Why the program gave no answer.
 ghost use Rattle.std.specs.Prelude.{◌≡◌};
-ghost use Rattle.chw_cli.specs.Refusals.{of_circuit_fault, of_lex_fault, of_loop, of_name_fault, of_not_flat, of_parse_fault, of_stim_fault, of_type_fault, of_words_fault};
+ghost use Rattle.chw_cli.specs.Refusals.{of_circuit_fault, of_lex_fault, of_loop, of_name_fault, of_not_flat, of_parse_fault, of_run_fault, of_stim_fault, of_type_fault, of_words_fault};
 ghost use Rattle.chw_cli.specs.declared.refusal.Refusal.TheVariants.{Memory};
 
 use chw_base::{Name, NoMemory, Or, Seq, WireId};
 use chw_check::TypeFault;
 use chw_lexer::LexFault;
+use chw_norm::RunFault;
 use chw_parser::ParseFault;
 use chw_resolve::NameFault;
 use chw_words::WordsFault;
@@ -34,6 +35,10 @@ pub enum Refusal {
     Names(NameFault),
     /// A type, a body, a case or the top of the description is at fault.
     Types(TypeFault),
+    /// A step of rewriting leads to a body that is deeper than the limit.
+    DeepBody,
+    /// So many steps, which is the budget, were made, and a step is left.
+    Spent(u32),
     /// The text isn't of the flat form.
     Form,
     /// The Verilog text denotes no net: the first rule that it breaks, and where.
@@ -110,6 +115,18 @@ impl From<Or<TypeFault>> for Refusal {
         match error {
             Or::Memory => Refusal::Memory,
             Or::Fault(fault) => Refusal::Types(fault),
+        }
+    }
+}
+
+impl From<Or<RunFault>> for Refusal {
+    ghost from_gives = { λ e r. r ≡ of_run_fault e };
+
+    fn from(error: Or<RunFault>) -> Refusal {
+        match error {
+            Or::Memory => Refusal::Memory,
+            Or::Fault(RunFault::Depth) => Refusal::DeepBody,
+            Or::Fault(RunFault::Spent { steps }) => Refusal::Spent(steps),
         }
     }
 }

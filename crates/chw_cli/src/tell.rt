@@ -15,7 +15,7 @@ use std::alloc::Global;
 
 /// Puts the line of the refusal, and says with which status the program ends.
 ///
-/// Only a line that shows a place, a file's name, names, a type or wires takes memory to make.
+/// Only a line that shows a place, a number of steps, a file's name, names, a type or wires takes memory to make.
 pub(crate) fn tell<E: Sink>(alloc: Global, refusal: &Refusal, err: &mut E) -> Status
     ensures { Told E.put_gives E.written E.faults refusal.now err.old err.new result }
 {
@@ -40,6 +40,14 @@ pub(crate) fn tell<E: Sink>(alloc: Global, refusal: &Refusal, err: &mut E) -> St
         Refusal::Depth => put_line(alloc, "chw: E03 limit depth 200\n", Status::Refused, err),
         Refusal::Names(fault) => tell_names(alloc, fault, err),
         Refusal::Types(fault) => tell_types(alloc, fault, err),
+        Refusal::DeepBody => put_line(alloc, "chw: E12 depth 2000\n", Status::Refused, err),
+        Refusal::Spent(steps) => tell_place(
+            alloc,
+            "chw: E18 spent ",
+            *steps as usize,
+            Status::Spent,
+            err,
+        ),
         Refusal::Verilog(fault) => tell_place(
             alloc,
             rule_words(fault.code),

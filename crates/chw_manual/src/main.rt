@@ -8,7 +8,7 @@ use chw_cli::top::top;
 use std::io;
 
 /// The commands, with their files.
-const ROWS: [[&str; 2]; 38] = [
+const ROWS: [[&str; 2]; 43] = [
     ["check", "bad/lex.chw"],
     ["check", "good/lex.chw"],
     ["check", "bad/syntax.chw"],
@@ -47,10 +47,17 @@ const ROWS: [[&str; 2]; 38] = [
     ["check", "worked/feedback.chw"],
     ["check", "worked/domains.chw"],
     ["check", "worked/signed.chw"],
+    ["normalise", "steps/constant.chw"],
+    ["normalise", "steps/call.chw"],
+    ["normalise", "steps/choice.chw"],
+    ["normalise", "steps/crossing.chw"],
+    ["normalise", "worked/memory.chw"],
 ];
 
-/// The Verilog texts that are run, with their stimuli.
-const RUNS: [[&str; 3]; 3] = [
+/// The commands of three words: budgets, and the Verilog texts that are run with their stimuli.
+const RUNS: [[&str; 3]; 5] = [
+    ["normalise", "steps/call.chw", "--budget=5"],
+    ["normalise", "steps/call.chw", "--budget=4"],
     ["run", "run/acc.v", "run/acc.stim"],
     ["run", "run/memory.v", "run/memory.stim"],
     ["run", "run/domains.v", "run/domains.stim"],

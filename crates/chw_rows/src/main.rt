@@ -1,6 +1,6 @@
 //! Rows of the whole program, each with the status, the line of a refusal and, below them, the text that is written.
 //!
-//! `check TEXT` and `emit TEXT` are these commands on a file of this text. `accepts TEXT` is `check`, of which the text isn't shown, and
+//! `check TEXT`, `emit TEXT` and `normalise TEXT` are these commands on a file of this text. `accepts TEXT` is `check`, of which the text isn't shown, and
 //! `both TEXT` is `check` and `emit`, which are to answer alike. `words "WORD" .. TEXT` has all words between quotation marks. `absent`,
 //! `unread`, `unwritten` and `untold` are `emit` where no file has the name, or where the file, the text or the line is at fault.
 //!
@@ -29,6 +29,7 @@ fn answer(alloc: Global, call: &str, text: &str, out: &mut Vec<u8>) -> Result<()
         "words" => put_words(alloc, text, out),
         "both" => put_both(alloc, text, out),
         "check" | "accepts" => put_command(alloc, "check", call, text, out),
+        "normalise" => put_command(alloc, "normalise", call, text, out),
         "run" => put_net(alloc, text, out),
         "fails" => put_failing(alloc, text, out),
         "files" => put_words_on_files(alloc, text, out),

@@ -61,6 +61,21 @@ check_fault_is words =
 pub check_matched : (words : List Text) → subcommand_of chw_app (codes "check" ∷ words) ≡ Some (codes "check", rows_after check_shape.rules [] words)
 check_matched words = ap (λ (end : Walk). entered (built chw_app) end.stopped) (check_walk words)
 
+-- and after `normalise`, which is read as `emit` is
+normalise_walk : (words : List Text) → walk top.rules names nothing_held (codes "normalise" ∷ words) ≡ met (codes "normalise") words
+unfolding walked
+normalise_walk words = stopped_walk top.rules names (walk_from nothing_held) (codes "normalise") [] words
+
+pub normalise_fault : (words : List Text) → fault_of chw_app (codes "normalise" ∷ words) ≡ rest_fault emit_shape start words
+unfolding walk_fault defaults_fault walked
+normalise_fault words =
+    ap (λ end. faults (walk_fault top names (walk_from nothing_held) (codes "normalise" ∷ words)) end) (normalise_walk words)
+    ∙ ap (λ ks. faults ks (met (codes "normalise") words)) (stopped_fault top names (walk_from nothing_held) (codes "normalise", []) words)
+    ∙ or_else_none (rest_fault emit_shape start words)
+
+pub normalise_matched : (words : List Text) → subcommand_of chw_app (codes "normalise" ∷ words) ≡ Some (codes "normalise", rows_after emit_shape.rules [] words)
+normalise_matched words = ap (λ (end : Walk). entered (built chw_app) end.stopped) (normalise_walk words)
+
 -- and after `run`
 run_walk : (words : List Text) → walk top.rules names nothing_held (codes "run" ∷ words) ≡ met (codes "run") words
 unfolding walked
@@ -90,29 +105,33 @@ is_or_not false = inr refl
 
 -- the first word is a command
 abbrev pub IsName : Text → Type 0
-IsName word = (word ≡ codes "emit") ⊎ (word ≡ codes "check") ⊎ (word ≡ codes "run")
+IsName word = (word ≡ codes "emit") ⊎ (word ≡ codes "check") ⊎ (word ≡ codes "normalise") ⊎ (word ≡ codes "run")
 
-abbrev named : Bool → Bool → Bool → Option Text
-named emit check run =
+abbrev named : Bool → Bool → Bool → Bool → Option Text
+named emit check normalise run =
     option_map (λ (s : Text × List Text). s.0)
     (if emit || false then Some (codes "emit", [])
-    else (if check || false then Some (codes "check", []) else (if run || false then Some (codes "run", []) else None)))
+    else (if check || false then Some (codes "check", [])
+    else (if normalise || false then Some (codes "normalise", []) else (if run || false then Some (codes "run", []) else None))))
 
-no_name : (word : Text) → bytes_eq (codes "emit") word ≡ false → bytes_eq (codes "check") word ≡ false → bytes_eq (codes "run") word ≡ false
-    → subcommand_met names idle word ≡ None
-no_name word e f g =
-    ap (λ b. named b (bytes_eq (codes "check") word) (bytes_eq (codes "run") word)) e ∙ ap (λ b. named false b (bytes_eq (codes "run") word)) f
-    ∙ ap (λ b. named false false b) g
+no_name : (word : Text) → bytes_eq (codes "emit") word ≡ false → bytes_eq (codes "check") word ≡ false → bytes_eq (codes "normalise") word ≡ false
+    → bytes_eq (codes "run") word ≡ false → subcommand_met names idle word ≡ None
+no_name word e f g h =
+    ap (λ b. named b (bytes_eq (codes "check") word) (bytes_eq (codes "normalise") word) (bytes_eq (codes "run") word)) e
+    ∙ ap (λ b. named false b (bytes_eq (codes "normalise") word) (bytes_eq (codes "run") word)) f
+    ∙ ap (λ b. named false false b (bytes_eq (codes "run") word)) g ∙ ap (λ b. named false false false b) h
 
 plain_first : (word : Text) (words : List Text) → IsPlain word → fault_of chw_app (word ∷ words) ≡ [] → IsName word
 plain_first word words p e =
     ⊎_elim (λ is. inl (sym ((bytes_eq-Decides (codes "emit") word).0 is)))
     (λ no_emit. ⊎_elim (λ is. inr (inl (sym ((bytes_eq-Decides (codes "check") word).0 is))))
-    (λ no_check. ⊎_elim (λ is. inr (inr (sym ((bytes_eq-Decides (codes "run") word).0 is))))
+    (λ no_check. ⊎_elim (λ is. inr (inr (inl (sym ((bytes_eq-Decides (codes "normalise") word).0 is)))))
+    (λ no_normalise. ⊎_elim (λ is. inr (inr (inr (sym ((bytes_eq-Decides (codes "run") word).0 is)))))
     (λ no_run.
-    let t = plain_turn top names nothing_held 1 word p (no_name word no_emit no_check no_run) in
+    let t = plain_turn top names nothing_held 1 word p (no_name word no_emit no_check no_normalise no_run) in
     absurd (first_fails word words (rw t tt) e))
     (is_or_not (bytes_eq (codes "run") word)))
+    (is_or_not (bytes_eq (codes "normalise") word)))
     (is_or_not (bytes_eq (codes "check") word)))
     (is_or_not (bytes_eq (codes "emit") word))
 

@@ -1,25 +1,25 @@
 -- The words that are a command are those of the form that `clap` reads as it.
-use Rattle.std.proofs.Common.{◌≡◌, ◌∙◌, sym, refl, ap, ℕ, ◌<◌, Bool, false, ◌==◌, List, [], ◌∷◌, ◌++◌, Option, Some, None, codes, inl, inr, ◌⊎◌, subst, ⊎_elim, ap₂, append-nil, zero, suc, true≢false, length, arith}
+use Rattle.std.proofs.Common.{◌≡◌, ◌∙◌, sym, refl, ap, ℕ, ◌<◌, false, ◌==◌, List, [], ◌∷◌, ◌++◌, Option, Some, None, codes, inl, inr, ◌⊎◌, subst, ⊎_elim, ap₂, append-nil, zero, suc, true≢false, length, arith}
 use Rattle.std.specs.Char.{digit_value, encode_utf8}
 use Rattle.std.specs.List.{All}
-use Rattle.std.specs.Option.{option_map_or}
 use Rattle.std.specs.Str.{IsUtf8, bytes_eq}
 use Rattle.std.proofs.lemmas.Bool.Decides.{Decides-eqb}
 use Rattle.std.proofs.lemmas.Fmt.{IsAscii-from_digits}
 use Rattle.std.proofs.lemmas.Option.{same_Some}
+use Rattle.std.proofs.lemmas.Slice.Eq.{bytes_eq-Decides}
 use Rattle.std.proofs.lemmas.Str.{IsUtf8-append, IsUtf8-from_ascii}
 use Rattle.clap.specs.Walk.{Row, Text, first_of, rows_after}
 use Rattle.clap.specs.Simple.{subcommand_of}
 use Rattle.clap.specs.Faults.{fault_of}
-use Rattle.chw_words.specs.Commands.{AreWithBudget, IsBudget, IsCommand, IsFile, SayBudget, apart, check, emit, is_option, joined, run, unsaid}
-use Rattle.chw_words.specs.Parsing.{BudgetIs, IsMatched, chw_app, emit as emit_matched, check as check_matched, run as run_matched}
+use Rattle.chw_words.specs.Commands.{AreWithBudget, IsBudget, IsCommand, IsFile, SayBudget, apart, check, emit, is_option, joined, normalise, run, unsaid}
+use Rattle.chw_words.specs.Parsing.{AreBudgeted, BudgetIs, IsMatched, chw_app, emit as emit_matched, check as check_matched, normalise as normalise_matched, run as run_matched}
 use Rattle.chw_words.specs.declared.command.Command.{Command}
-use Rattle.chw_words.specs.declared.command.Command.TheVariants.{Emit, Check, Run}
+use Rattle.chw_words.specs.declared.command.Command.TheVariants.{Emit, Check, Normalise, Run}
 use Rattle.chw_words.proofs.Shapes.{Form, IsBudgetWord, IsPlain, check_shape, emit_shape, run_shape}
 use Rattle.chw_words.proofs.EmitWords.{EmitWords, alone, apart_after, apart_before, emit_read, emit_words, joined_after, joined_before}
 use Rattle.chw_words.proofs.CheckWords.{check_read, check_words}
 use Rattle.chw_words.proofs.RunWords.{run_read, run_words}
-use Rattle.chw_words.proofs.Commands.{begins, check_fault_is, check_matched as check_subcommand, emit_fault, emit_matched as emit_subcommand, none_fails, run_fault, run_matched as run_subcommand}
+use Rattle.chw_words.proofs.Commands.{begins, check_fault_is, check_matched as check_subcommand, emit_fault, emit_matched as emit_subcommand, none_fails, normalise_fault, normalise_matched as normalise_subcommand, run_fault, run_matched as run_subcommand}
 use Rattle.chw_words.proofs.Forms.{is_or_not}
 
 -- ---- a budget's word is no option, and text
@@ -106,18 +106,33 @@ pub record Passes (words : List Text) (command : Command) : Type 0 where
   pub faultless : fault_of chw_app words ≡ []
   pub matched : IsMatched (subcommand_of chw_app words) command
 
+-- the rows of the words of a file and a budget have these
+are_budgeted : (words : List Text) (file : Text) (budget : ℕ) → Read words file budget → AreBudgeted (rows_after emit_shape.rules [] words) file budget
+are_budgeted words file budget r =
+    let read = emit_read words file (r.0) (r.1) in
+    record { is_file = read.1; is_budget = subst (λ o. BudgetIs o budget) (sym (read.2)) (r.2) }
+
 emit_passes : (words : List Text) (file : Text) (budget : ℕ) → Read words file budget → Passes (codes "emit" ∷ words) (Emit file budget)
 emit_passes words file budget r =
-    let read = emit_read words file (r.0) (r.1) in
     record {
       form = inl (refl, read_form words file (r.0) (r.1));
-      faultless = emit_fault words ∙ read.0;
+      faultless = emit_fault words ∙ (emit_read words file (r.0) (r.1)).0;
       matched = subst (λ m. IsMatched m (Emit file budget)) (sym (emit_subcommand words))
-          (emit_matched (rows_after emit_shape.rules [] words) file budget (read.1) (subst (λ o. BudgetIs o budget) (sym (read.2)) (r.2)));
+          (emit_matched (rows_after emit_shape.rules [] words) file budget (are_budgeted words file budget r));
+    }
+
+normalise_passes : (words : List Text) (file : Text) (budget : ℕ) → Read words file budget → Passes (codes "normalise" ∷ words) (Normalise file budget)
+normalise_passes words file budget r =
+    record {
+      form = inl (refl, read_form words file (r.0) (r.1));
+      faultless = normalise_fault words ∙ (emit_read words file (r.0) (r.1)).0;
+      matched = subst (λ m. IsMatched m (Normalise file budget)) (sym (normalise_subcommand words))
+          (normalise_matched (rows_after emit_shape.rules [] words) file budget (are_budgeted words file budget r));
     }
 
 pub passes : (words : List Text) (command : Command) → IsCommand words command → Passes words command
 passes _ _ (emit words file budget f w) = emit_passes words file budget (with_budget words file budget f.no_option w)
+passes _ _ (normalise words file budget f w) = normalise_passes words file budget (with_budget words file budget f.no_option w)
 passes _ _ (check file f) =
     let read = check_read file f.no_option in
     record {
@@ -141,33 +156,43 @@ same_budget : (said : Option Text) (m n : ℕ) → BudgetIs said m → BudgetIs 
 same_budget None m n a b = a ∙ sym b
 same_budget (Some word) m n a b = sym a.value ∙ b.value
 
-is_emit : Option (Text × List Row) → Bool
-is_emit o = option_map_or (λ p. bytes_eq (p.0) (codes "emit")) o false
+-- words that differ
+differ : (a b : Text) → bytes_eq a b ≡ false → a ≡ b → ⊥
+differ a b not e = true≢false (sym ((bytes_eq-Decides a b).1 e) ∙ not)
 
-is_check : Option (Text × List Row) → Bool
-is_check o = option_map_or (λ p. bytes_eq (p.0) (codes "check")) o false
+-- rows have one file and one budget
+one_budgeted : (rows : List Row) (f f' : Text) (n n' : ℕ) → AreBudgeted rows f n → AreBudgeted rows f' n' → (f ≡ f') × (n ≡ n')
+one_budgeted rows f f' n n' a b =
+    (same_Some _ _ (sym a.is_file ∙ b.is_file), same_budget (first_of (codes "budget") rows) n n' a.is_budget b.is_budget)
 
 one_matched : (m n : Option (Text × List Row)) (a b : Command) → m ≡ n → IsMatched m a → IsMatched n b → a ≡ b
-unfolding is_emit is_check
-one_matched _ _ _ _ e (emit_matched rows file budget f w) (emit_matched rows' file' budget' f' w') =
+one_matched _ _ _ _ e (emit_matched rows file budget b) (emit_matched rows' file' budget' b') =
     let same : rows ≡ rows' = ap (λ (p : Text × List Row). p.1) (same_Some _ _ e) in
-    let files : file ≡ file' = same_Some _ _ (sym f ∙ ap (first_of (codes "file")) same ∙ f') in
-    let budgets : budget ≡ budget' =
-    same_budget (first_of (codes "budget") rows') budget budget' (subst (λ rs. BudgetIs (first_of (codes "budget") rs) budget) same w) w' in
-    ap₂ (λ f n. Emit f n) files budgets
+    let one = one_budgeted rows' file file' budget budget' (subst (λ rs. AreBudgeted rs file budget) same b) b' in
+    ap₂ (λ f n. Emit f n) (one.0) (one.1)
+one_matched _ _ _ _ e (emit_matched rows file budget b) (check_matched rows' file' f') = absurd (differ (codes "emit") (codes "check") refl (ap (λ (p : Text × List Row). p.0) (same_Some _ _ e)))
+one_matched _ _ _ _ e (emit_matched rows file budget b) (normalise_matched rows' file' budget' b') = absurd (differ (codes "emit") (codes "normalise") refl (ap (λ (p : Text × List Row). p.0) (same_Some _ _ e)))
+one_matched _ _ _ _ e (emit_matched rows file budget b) (run_matched rows' f' g' p' q') = absurd (differ (codes "emit") (codes "run") refl (ap (λ (p : Text × List Row). p.0) (same_Some _ _ e)))
+one_matched _ _ _ _ e (check_matched rows file f) (emit_matched rows' file' budget' b') = absurd (differ (codes "check") (codes "emit") refl (ap (λ (p : Text × List Row). p.0) (same_Some _ _ e)))
 one_matched _ _ _ _ e (check_matched rows file f) (check_matched rows' file' f') =
     let same : rows ≡ rows' = ap (λ (p : Text × List Row). p.1) (same_Some _ _ e) in
     ap (λ f. Check f) (same_Some _ _ (sym f ∙ ap (first_of (codes "file")) same ∙ f'))
-one_matched _ _ _ _ e (emit_matched rows file budget f w) (check_matched rows' file' f') = absurd (true≢false (ap is_emit e))
-one_matched _ _ _ _ e (check_matched rows file f) (emit_matched rows' file' budget' f' w') = absurd (true≢false (sym (ap is_emit e)))
+one_matched _ _ _ _ e (check_matched rows file f) (normalise_matched rows' file' budget' b') = absurd (differ (codes "check") (codes "normalise") refl (ap (λ (p : Text × List Row). p.0) (same_Some _ _ e)))
+one_matched _ _ _ _ e (check_matched rows file f) (run_matched rows' f' g' p' q') = absurd (differ (codes "check") (codes "run") refl (ap (λ (p : Text × List Row). p.0) (same_Some _ _ e)))
+one_matched _ _ _ _ e (normalise_matched rows file budget b) (emit_matched rows' file' budget' b') = absurd (differ (codes "normalise") (codes "emit") refl (ap (λ (p : Text × List Row). p.0) (same_Some _ _ e)))
+one_matched _ _ _ _ e (normalise_matched rows file budget b) (check_matched rows' file' f') = absurd (differ (codes "normalise") (codes "check") refl (ap (λ (p : Text × List Row). p.0) (same_Some _ _ e)))
+one_matched _ _ _ _ e (normalise_matched rows file budget b) (normalise_matched rows' file' budget' b') =
+    let same : rows ≡ rows' = ap (λ (p : Text × List Row). p.1) (same_Some _ _ e) in
+    let one = one_budgeted rows' file file' budget budget' (subst (λ rs. AreBudgeted rs file budget) same b) b' in
+    ap₂ (λ f n. Normalise f n) (one.0) (one.1)
+one_matched _ _ _ _ e (normalise_matched rows file budget b) (run_matched rows' f' g' p' q') = absurd (differ (codes "normalise") (codes "run") refl (ap (λ (p : Text × List Row). p.0) (same_Some _ _ e)))
+one_matched _ _ _ _ e (run_matched rows f g p q) (emit_matched rows' file' budget' b') = absurd (differ (codes "run") (codes "emit") refl (ap (λ (p : Text × List Row). p.0) (same_Some _ _ e)))
+one_matched _ _ _ _ e (run_matched rows f g p q) (check_matched rows' file' f') = absurd (differ (codes "run") (codes "check") refl (ap (λ (p : Text × List Row). p.0) (same_Some _ _ e)))
+one_matched _ _ _ _ e (run_matched rows f g p q) (normalise_matched rows' file' budget' b') = absurd (differ (codes "run") (codes "normalise") refl (ap (λ (p : Text × List Row). p.0) (same_Some _ _ e)))
 one_matched _ _ _ _ e (run_matched rows f g p q) (run_matched rows' f' g' p' q') =
     let same : rows ≡ rows' = ap (λ (p : Text × List Row). p.1) (same_Some _ _ e) in
     ap₂ (λ f g. Run f g) (same_Some _ _ (sym p ∙ ap (first_of (codes "verilog")) same ∙ p'))
     (same_Some _ _ (sym q ∙ ap (first_of (codes "stimulus")) same ∙ q'))
-one_matched _ _ _ _ e (emit_matched rows file budget f w) (run_matched rows' f' g' p' q') = absurd (true≢false (ap is_emit e))
-one_matched _ _ _ _ e (run_matched rows f g p q) (emit_matched rows' file' budget' f' w') = absurd (true≢false (sym (ap is_emit e)))
-one_matched _ _ _ _ e (check_matched rows file f) (run_matched rows' f' g' p' q') = absurd (true≢false (ap is_check e))
-one_matched _ _ _ _ e (run_matched rows f g p q) (check_matched rows' file' f') = absurd (true≢false (sym (ap is_check e)))
 
 pub one_command : (words : List Text) (a b : Command) → IsCommand words a → IsCommand words b → a ≡ b
 one_command words a b x y =
@@ -175,37 +200,42 @@ one_command words a b x y =
 
 -- ---- words that are read are a command
 
+-- the command that is matched under a name is the one of that name, with what the rows have
 pub emit_only : (m : Option (Text × List Row)) (rows : List Row) (c : Command) → m ≡ Some (codes "emit", rows) → IsMatched m c
-    → (file : Text) × (budget : ℕ) × (first_of (codes "file") rows ≡ Some file) × BudgetIs (first_of (codes "budget") rows) budget × (c ≡ Emit file budget)
-unfolding is_emit
-emit_only _ rows _ e (emit_matched rows' file budget f w) =
-    let same : rows' ≡ rows = ap (λ (p : Text × List Row). p.1) (same_Some _ _ e) in (
-      file,
-      budget,
-      subst (λ rs. first_of (codes "file") rs ≡ Some file) same f,
-      subst (λ rs. BudgetIs (first_of (codes "budget") rs) budget) same w,
-      refl,
-    )
-emit_only _ rows _ e (check_matched rows' file f) = absurd (true≢false (sym (ap is_emit e)))
-emit_only _ rows _ e (run_matched rows' f g p q) = absurd (true≢false (sym (ap is_emit e)))
+    → (file : Text) × (budget : ℕ) × AreBudgeted rows file budget × (c ≡ Emit file budget)
+emit_only _ rows _ e (emit_matched rows' file budget b) =
+    let same : rows' ≡ rows = ap (λ (p : Text × List Row). p.1) (same_Some _ _ e) in
+    (file, budget, subst (λ rs. AreBudgeted rs file budget) same b, refl)
+emit_only _ rows _ e (check_matched rows' file f) = absurd (differ (codes "check") (codes "emit") refl (ap (λ (p : Text × List Row). p.0) (same_Some _ _ e)))
+emit_only _ rows _ e (normalise_matched rows' file budget b) = absurd (differ (codes "normalise") (codes "emit") refl (ap (λ (p : Text × List Row). p.0) (same_Some _ _ e)))
+emit_only _ rows _ e (run_matched rows' f g p q) = absurd (differ (codes "run") (codes "emit") refl (ap (λ (p : Text × List Row). p.0) (same_Some _ _ e)))
+
+pub normalise_only : (m : Option (Text × List Row)) (rows : List Row) (c : Command) → m ≡ Some (codes "normalise", rows) → IsMatched m c
+    → (file : Text) × (budget : ℕ) × AreBudgeted rows file budget × (c ≡ Normalise file budget)
+normalise_only _ rows _ e (normalise_matched rows' file budget b) =
+    let same : rows' ≡ rows = ap (λ (p : Text × List Row). p.1) (same_Some _ _ e) in
+    (file, budget, subst (λ rs. AreBudgeted rs file budget) same b, refl)
+normalise_only _ rows _ e (check_matched rows' file f) = absurd (differ (codes "check") (codes "normalise") refl (ap (λ (p : Text × List Row). p.0) (same_Some _ _ e)))
+normalise_only _ rows _ e (emit_matched rows' file budget b) = absurd (differ (codes "emit") (codes "normalise") refl (ap (λ (p : Text × List Row). p.0) (same_Some _ _ e)))
+normalise_only _ rows _ e (run_matched rows' f g p q) = absurd (differ (codes "run") (codes "normalise") refl (ap (λ (p : Text × List Row). p.0) (same_Some _ _ e)))
 
 pub check_only : (m : Option (Text × List Row)) (rows : List Row) (c : Command) → m ≡ Some (codes "check", rows) → IsMatched m c
     → (file : Text) × (first_of (codes "file") rows ≡ Some file) × (c ≡ Check file)
-unfolding is_emit is_check
 check_only _ rows _ e (check_matched rows' file f) =
     let same : rows' ≡ rows = ap (λ (p : Text × List Row). p.1) (same_Some _ _ e) in
     (file, subst (λ rs. first_of (codes "file") rs ≡ Some file) same f, refl)
-check_only _ rows _ e (emit_matched rows' file budget f w) = absurd (true≢false (ap is_emit e))
-check_only _ rows _ e (run_matched rows' f g p q) = absurd (true≢false (sym (ap is_check e)))
+check_only _ rows _ e (emit_matched rows' file budget b) = absurd (differ (codes "emit") (codes "check") refl (ap (λ (p : Text × List Row). p.0) (same_Some _ _ e)))
+check_only _ rows _ e (normalise_matched rows' file budget b) = absurd (differ (codes "normalise") (codes "check") refl (ap (λ (p : Text × List Row). p.0) (same_Some _ _ e)))
+check_only _ rows _ e (run_matched rows' f g p q) = absurd (differ (codes "run") (codes "check") refl (ap (λ (p : Text × List Row). p.0) (same_Some _ _ e)))
 
 pub run_only : (m : Option (Text × List Row)) (rows : List Row) (c : Command) → m ≡ Some (codes "run", rows) → IsMatched m c
     → (f : Text) × (g : Text) × (first_of (codes "verilog") rows ≡ Some f) × (first_of (codes "stimulus") rows ≡ Some g) × (c ≡ Run f g)
-unfolding is_emit is_check
 run_only _ rows _ e (run_matched rows' f g p q) =
     let same : rows' ≡ rows = ap (λ (p : Text × List Row). p.1) (same_Some _ _ e) in
     (f, g, subst (λ rs. first_of (codes "verilog") rs ≡ Some f) same p, subst (λ rs. first_of (codes "stimulus") rs ≡ Some g) same q, refl)
-run_only _ rows _ e (emit_matched rows' file budget f w) = absurd (true≢false (ap is_emit e))
-run_only _ rows _ e (check_matched rows' file f) = absurd (true≢false (ap is_check e))
+run_only _ rows _ e (emit_matched rows' file budget b) = absurd (differ (codes "emit") (codes "run") refl (ap (λ (p : Text × List Row). p.0) (same_Some _ _ e)))
+run_only _ rows _ e (normalise_matched rows' file budget b) = absurd (differ (codes "normalise") (codes "run") refl (ap (λ (p : Text × List Row). p.0) (same_Some _ _ e)))
+run_only _ rows _ e (check_matched rows' file f) = absurd (differ (codes "check") (codes "run") refl (ap (λ (p : Text × List Row). p.0) (same_Some _ _ e)))
 
 emit_file : (word : Text) (words : List Text) (f : Text) (said : Option Text) → All IsUtf8 (word ∷ words) → EmitWords words f said → IsFile f
 emit_file word _ _ _ h (alone f p) = record { text = h 1 [] (omega arith); no_option = p }
@@ -214,16 +244,31 @@ emit_file word _ _ _ h (joined_after f v p) = record { text = h 1 [] (omega arit
 emit_file word _ _ _ h (apart_before f v p q) = record { text = h 3 [] (omega arith); no_option = p }
 emit_file word _ _ _ h (joined_before f v p) = record { text = h 2 [] (omega arith); no_option = p }
 
+-- the file and the budget that were matched are those of the words
+are_read : (words : List Text) (file matched : Text) (said : Option Text) (budget : ℕ) → EmitWords words file said
+    → AreBudgeted (rows_after emit_shape.rules [] words) matched budget → (matched ≡ file) × AreWithBudget words (file ∷ []) budget
+are_read words file matched said budget is b =
+    let read = emit_read words file said is in
+    (same_Some _ _ (sym b.is_file ∙ read.1), from_read words file said budget is (subst (λ o. BudgetIs o budget) (read.2) b.is_budget))
+
 emit_command : (words : List Text) (c : Command) → Form words → All IsUtf8 (codes "emit" ∷ words) → fault_of chw_app (codes "emit" ∷ words) ≡ []
     → IsMatched (subcommand_of chw_app (codes "emit" ∷ words)) c → IsCommand (codes "emit" ∷ words) c
 emit_command words c form texts faultless matched =
     let shape = emit_words words form (sym (emit_fault words) ∙ faultless) in
-    let read = emit_read words (shape.0) (shape.1) (shape.2) in
     let found = emit_only _ (rows_after emit_shape.rules [] words) c (emit_subcommand words) matched in
-    let same : found.0 ≡ shape.0 = same_Some _ _ (sym (found.2) ∙ read.1) in
-    let budget : BudgetIs (shape.1) (found.1) = subst (λ o. BudgetIs o (found.1)) (read.2) (found.3) in
-    subst (λ x. IsCommand (codes "emit" ∷ words) x) (sym (found.4 ∙ ap (λ f. Emit f (found.1)) same))
-    (emit words (shape.0) (found.1) (emit_file (codes "emit") words (shape.0) (shape.1) texts (shape.2)) (from_read words (shape.0) (shape.1) (found.1) (shape.2) budget))
+    let had = are_read words (shape.0) (found.0) (shape.1) (found.1) (shape.2) (found.2) in
+    subst (λ x. IsCommand (codes "emit" ∷ words) x) (sym (found.3 ∙ ap (λ f. Emit f (found.1)) (had.0)))
+    (emit words (shape.0) (found.1) (emit_file (codes "emit") words (shape.0) (shape.1) texts (shape.2)) (had.1))
+
+normalise_command : (words : List Text) (c : Command) → Form words → All IsUtf8 (codes "normalise" ∷ words)
+    → fault_of chw_app (codes "normalise" ∷ words) ≡ [] → IsMatched (subcommand_of chw_app (codes "normalise" ∷ words)) c
+    → IsCommand (codes "normalise" ∷ words) c
+normalise_command words c form texts faultless matched =
+    let shape = emit_words words form (sym (normalise_fault words) ∙ faultless) in
+    let found = normalise_only _ (rows_after emit_shape.rules [] words) c (normalise_subcommand words) matched in
+    let had = are_read words (shape.0) (found.0) (shape.1) (found.1) (shape.2) (found.2) in
+    subst (λ x. IsCommand (codes "normalise" ∷ words) x) (sym (found.3 ∙ ap (λ f. Normalise f (found.1)) (had.0)))
+    (normalise words (shape.0) (found.1) (emit_file (codes "normalise") words (shape.0) (shape.1) texts (shape.2)) (had.1))
 
 check_command : (words : List Text) (c : Command) → Form words → All IsUtf8 (codes "check" ∷ words) → fault_of chw_app (codes "check" ∷ words) ≡ []
     → IsMatched (subcommand_of chw_app (codes "check" ∷ words)) c → IsCommand (codes "check" ∷ words) c
@@ -271,10 +316,16 @@ is_command (word ∷ words) c form texts faultless matched =
     subst (λ w. IsCommand (w ∷ words) c) (sym is)
     (check_command words c (b.1) (subst (λ w. All IsUtf8 (w ∷ words)) is texts) (subst (λ w. fault_of chw_app (w ∷ words) ≡ []) is faultless)
     (subst (λ w. IsMatched (subcommand_of chw_app (w ∷ words)) c) is matched)))
+    (λ last. ⊎_elim
+    (λ is.
+    subst (λ w. IsCommand (w ∷ words) c) (sym is)
+    (normalise_command words c (b.1) (subst (λ w. All IsUtf8 (w ∷ words)) is texts) (subst (λ w. fault_of chw_app (w ∷ words) ≡ []) is faultless)
+    (subst (λ w. IsMatched (subcommand_of chw_app (w ∷ words)) c) is matched)))
     (λ is.
     subst (λ w. IsCommand (w ∷ words) c) (sym is)
     (run_command words c (b.1) (subst (λ w. All IsUtf8 (w ∷ words)) is texts) (subst (λ w. fault_of chw_app (w ∷ words) ≡ []) is faultless)
     (subst (λ w. IsMatched (subcommand_of chw_app (w ∷ words)) c) is matched)))
+    last)
     later)
     (b.0)
 
@@ -290,6 +341,10 @@ none_left k d l = absurd (omega (arith, l))
 emit_text : IsUtf8 (codes "emit")
 unfolding encode_utf8
 emit_text = (codes "emit", (refl, refl))
+
+normalise_text : IsUtf8 (codes "normalise")
+unfolding encode_utf8
+normalise_text = (codes "normalise", (refl, refl))
 
 check_text : IsUtf8 (codes "check")
 unfolding encode_utf8
@@ -323,6 +378,9 @@ pub are_texts : (words : List Text) (command : Command) → IsCommand words comm
 are_texts _ _ (emit words file budget f w) =
     let r = with_budget words file budget f.no_option w in
     one_more (codes "emit") words emit_text (emit_texts words file (r.0) budget (r.1) (r.2) f.text)
+are_texts _ _ (normalise words file budget f w) =
+    let r = with_budget words file budget f.no_option w in
+    one_more (codes "normalise") words normalise_text (emit_texts words file (r.0) budget (r.1) (r.2) f.text)
 are_texts _ _ (check file f) = one_more (codes "check") (file ∷ []) check_text (one_more file [] f.text none_left)
 are_texts _ _ (run f g p q) =
     one_more (codes "run") (f ∷ g ∷ []) run_text (one_more f (g ∷ []) p.text (one_more g [] q.text none_left))

@@ -28,7 +28,7 @@ abbrev pub check_shape : Shape
 check_shape = slice_index_or (built chw_app).subs 1 (new_shape [])
 
 abbrev pub run_shape : Shape
-run_shape = slice_index_or (built chw_app).subs 2 (new_shape [])
+run_shape = slice_index_or (built chw_app).subs 3 (new_shape [])
 
 -- an argument with one value
 abbrev pub row : Text → Text → Row

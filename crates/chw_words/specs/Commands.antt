@@ -3,7 +3,7 @@ use Rattle.std.specs.Prelude.{◌≡◌, ◌≤◌, ℕ, Bool, false, ◌==◌, 
 use Rattle.std.specs.Str.{IsUtf8}
 use Rattle.std.specs.Str.Parse.{IsNumeral, digits_value}
 use Rattle.chw_words.specs.declared.command.Command.{Command}
-use Rattle.chw_words.specs.declared.command.Command.TheVariants.{Emit, Check, Run}
+use Rattle.chw_words.specs.declared.command.Command.TheVariants.{Emit, Check, Normalise, Run}
 use Rattle.chw_words.specs.declared.budget.TheConstants.{BUDGET_DIGITS, DEFAULT_BUDGET, MOST_BUDGET}
 
 -- the word begins with `-`
@@ -45,6 +45,10 @@ pub data IsCommand : List (List ℕ) → Command → Type 0 where
       → IsCommand (codes "emit" ∷ words) (Emit file budget)
   -- `check FILE`
   check : (file : List ℕ) → IsFile file → IsCommand (codes "check" ∷ file ∷ []) (Check file)
+  -- `normalise FILE`, with a budget
+  normalise : (words : List (List ℕ)) (file : List ℕ) (budget : ℕ) → IsFile file
+      → AreWithBudget words (file ∷ []) budget
+      → IsCommand (codes "normalise" ∷ words) (Normalise file budget)
   -- `run VERILOG STIM`
   run : (verilog stimulus : List ℕ) → IsFile verilog → IsFile stimulus
       → IsCommand (codes "run" ∷ verilog ∷ stimulus ∷ []) (Run verilog stimulus)

@@ -7,7 +7,7 @@ use Rattle.clap.specs.declared.parser.matches.ArgMatches.{ArgMatches}
 use Rattle.clap.specs.declared.builder.action.ArgAction.TheVariants.{Set}
 use Rattle.chw_words.specs.Commands.{IsBudget}
 use Rattle.chw_words.specs.declared.command.Command.{Command}
-use Rattle.chw_words.specs.declared.command.Command.TheVariants.{Emit, Check, Run}
+use Rattle.chw_words.specs.declared.command.Command.TheVariants.{Emit, Check, Normalise, Run}
 use Rattle.chw_words.specs.declared.budget.TheConstants.{DEFAULT_BUDGET}
 
 -- a file's name, at its place among the words
@@ -18,8 +18,9 @@ file_rule name = record (new_rule name) { required = true; action = Some Set }
 abbrev pub budget_rule : Rule
 budget_rule = record (new_rule (codes "budget")) { long = Some (codes "budget"); action = Some Set }
 
-abbrev pub emit_app : App
-emit_app = with_rule (with_rule (new_app (codes "emit")) (file_rule (codes "file"))) budget_rule
+-- a command of this name on a file, with a budget
+abbrev pub budgeted_app : Text → App
+budgeted_app name = with_rule (with_rule (new_app name) (file_rule (codes "file"))) budget_rule
 
 abbrev pub check_app : App
 check_app = with_rule (new_app (codes "check")) (file_rule (codes "file"))
@@ -37,22 +38,31 @@ descriptions_app =
     (on_top
     (λ s. record s { no_binary_name = true; disable_help_flag = true; disable_help_subcommand = true; subcommand_required = true })
     (new_app (codes "chw")))
-    emit_app.top)
+    (budgeted_app (codes "emit")).top)
     check_app.top
 
--- these and the command on nets
+-- these, the command that rewrites, and the command on nets
 abbrev pub chw_app : App
-chw_app = with_subcommand descriptions_app run_app.top
+chw_app =
+    with_subcommand (with_subcommand descriptions_app (budgeted_app (codes "normalise")).top)
+    run_app.top
 
 -- the budget that was matched, or the default
 abbrev pub BudgetIs : Option Text → ℕ → Type 0
 BudgetIs (Some word) budget = IsBudget word budget
 BudgetIs None budget = budget ≡ DEFAULT_BUDGET
 
+-- the rows have a file, and this budget
+pub record AreBudgeted (rows : List Row) (file : Text) (budget : ℕ) : Type 0 where
+  pub is_file : first_of (codes "file") rows ≡ Some file
+  pub is_budget : BudgetIs (first_of (codes "budget") rows) budget
+
 -- the subcommand that was matched, with its rows, is this command
 pub data IsMatched : Option (Text × List Row) → Command → Type 0 where
-  emit : (rows : List Row) (file : Text) (budget : ℕ) → first_of (codes "file") rows ≡ Some file → BudgetIs (first_of (codes "budget") rows) budget
+  emit : (rows : List Row) (file : Text) (budget : ℕ) → AreBudgeted rows file budget
       → IsMatched (Some (codes "emit", rows)) (Emit file budget)
+  normalise : (rows : List Row) (file : Text) (budget : ℕ) → AreBudgeted rows file budget
+      → IsMatched (Some (codes "normalise", rows)) (Normalise file budget)
   check : (rows : List Row) (file : Text) → first_of (codes "file") rows ≡ Some file → IsMatched (Some (codes "check", rows)) (Check file)
   run : (rows : List Row) (verilog stimulus : Text) → first_of (codes "verilog") rows ≡ Some verilog
       → first_of (codes "stimulus") rows ≡ Some stimulus

@@ -10,6 +10,8 @@ pub enum Command {
     Emit { file: Name, budget: u32 },
     /// To write the canonical text of the description in a file.
     Check { file: Name },
+    /// To write the steps by which the description in a file is rewritten, at most so many, and the definitions that they make.
+    Normalise { file: Name, budget: u32 },
     /// To step the net of a Verilog text by a stimulus, and to write its outputs at each event.
     Run { verilog: Name, stimulus: Name },
 }

@@ -1,11 +1,13 @@
 //! The command that the words are.
 ghost use Rattle.std.specs.Prelude.{◌≡◌, ℕ, false, IfOk, MatchOption, codes, option_map};
 ghost use Rattle.chw_base.specs.Outcome.{IfFault, OfFault};
+ghost use Rattle.clap.specs.Matches.{found_of};
+ghost use Rattle.clap.specs.Walk.{Text, rows_of};
 ghost use Rattle.clap.specs.Words.{app_of, kind_of, rule_of, subcommand_rows_of};
 ghost use Rattle.clap.specs.declared.builder.command.Command.TheViews.{out-Command as fields_of};
 ghost use Rattle.clap.specs.declared.error.kind.ErrorKind.TheVariants.{OutOfMemory};
 ghost use Rattle.chw_words.specs.Commands.{AreNoCommand, IsCommand};
-ghost use Rattle.chw_words.specs.Parsing.{BudgetIs, IsMatched, IsNoneMatched, budget_rule, check_app, chw_app, descriptions_app, emit_app, file_rule, matched_under, run_app};
+ghost use Rattle.chw_words.specs.Parsing.{AreBudgeted, BudgetIs, IsMatched, IsNoneMatched, budget_rule, budgeted_app, check_app, chw_app, descriptions_app, file_rule, matched_under, run_app};
 
 use crate::budget::{DEFAULT_BUDGET, read_budget};
 use crate::command::{Command, WordsFault};
@@ -33,12 +35,12 @@ fn budget_arg<'a>(alloc: Global) -> Arg<'a>
         .action(ArgAction::Set)
 }
 
-// `emit FILE`, with a budget.
-fn emit_parser<'a>(alloc: Global) -> Result<clap::Command<'a>, AllocError>
-    ensures app { IfOk result (λ c. app_of c ≡ emit_app) }
+// A command of this name on a file, with a budget.
+fn budgeted_parser<'a>(alloc: Global, name: &'a str) -> Result<clap::Command<'a>, AllocError>
+    ensures app { IfOk result (λ c. app_of c ≡ budgeted_app name.now) }
     ensures local { IfOk result (λ c. (fields_of c).has_globals ≡ false) }
 {
-    clap::Command::new(alloc, "emit")
+    clap::Command::new(alloc, name)
         .arg(file_arg(alloc, "file"))?
         .arg(budget_arg(alloc))
 }
@@ -70,7 +72,7 @@ fn descriptions_parser<'a>(alloc: Global) -> Result<clap::Command<'a>, AllocErro
         .disable_help_flag(true)
         .disable_help_subcommand(true)
         .subcommand_required(true);
-    chw.subcommand(emit_parser(alloc)?)?
+    chw.subcommand(budgeted_parser(alloc, "emit")?)?
         .subcommand(check_parser(alloc)?)
 }
 
@@ -78,7 +80,9 @@ fn descriptions_parser<'a>(alloc: Global) -> Result<clap::Command<'a>, AllocErro
 fn parser<'a>(alloc: Global) -> Result<clap::Command<'a>, AllocError>
     ensures { IfOk result (λ c. app_of c ≡ chw_app) }
 {
-    descriptions_parser(alloc)?.subcommand(run_parser(alloc)?)
+    descriptions_parser(alloc)?
+        .subcommand(budgeted_parser(alloc, "normalise")?)?
+        .subcommand(run_parser(alloc)?)
 }
 
 // A name of its own.
@@ -108,10 +112,10 @@ fn refusal(error: &Error) -> Or<WordsFault>
     }
 }
 
-// What was matched under `emit`, in its digits too.
-fn emit(alloc: Global, matches: &ArgMatches) -> Result<Command, Or<WordsFault>>
-    ensures command { IfOk result (IsMatched (matched_under (codes "emit") matches.now)) }
-    ensures fault { IfFault result (λ _. IsNoneMatched (matched_under (codes "emit") matches.now)) }
+// The file and the budget that were matched, in its digits too.
+fn budgeted(alloc: Global, matches: &ArgMatches) -> Result<(Name, u32), Or<WordsFault>>
+    ensures budgeted { IfOk result (λ it. AreBudgeted (rows_of (found_of matches.now)) it.0 it.1) }
+    ensures fault { IfFault result (λ _. (file : Text) (n : ℕ) → AreBudgeted (rows_of (found_of matches.now)) file n → ⊥) }
 {
     let Some(file) = matches.get_str("file") else {
         return Err(Or::Fault(WordsFault));
@@ -119,10 +123,25 @@ fn emit(alloc: Global, matches: &ArgMatches) -> Result<Command, Or<WordsFault>>
     let Some(budget) = budget(matches.get_str("budget")) else {
         return Err(Or::Fault(WordsFault));
     };
-    Ok(Command::Emit {
-        file: name(alloc, file)?,
-        budget,
-    })
+    Ok((name(alloc, file)?, budget))
+}
+
+// What was matched under `emit`.
+fn emit(alloc: Global, matches: &ArgMatches) -> Result<Command, Or<WordsFault>>
+    ensures command { IfOk result (IsMatched (matched_under (codes "emit") matches.now)) }
+    ensures fault { IfFault result (λ _. IsNoneMatched (matched_under (codes "emit") matches.now)) }
+{
+    let (file, budget) = budgeted(alloc, matches)?;
+    Ok(Command::Emit { file, budget })
+}
+
+// What was matched under `normalise`.
+fn normalise(alloc: Global, matches: &ArgMatches) -> Result<Command, Or<WordsFault>>
+    ensures command { IfOk result (IsMatched (matched_under (codes "normalise") matches.now)) }
+    ensures fault { IfFault result (λ _. IsNoneMatched (matched_under (codes "normalise") matches.now)) }
+{
+    let (file, budget) = budgeted(alloc, matches)?;
+    Ok(Command::Normalise { file, budget })
 }
 
 // What was matched under `check`.
@@ -166,6 +185,7 @@ fn reading(alloc: Global, matches: &ArgMatches) -> Result<Command, Or<WordsFault
     match command {
         "emit" => emit(alloc, matches),
         "check" => check(alloc, matches),
+        "normalise" => normalise(alloc, matches),
         "run" => run(alloc, matches),
         _ => Err(Or::Fault(WordsFault)),
     }

@@ -15,11 +15,11 @@ use Rattle.chw_terms.specs.TermTree.{TermTree, var, letrec, con, lit, case_of, G
 use Rattle.chw_terms.specs.TermView.{tree_of, applied}
 use Rattle.chw_typing.specs.HeadTypes.{PatternOf}
 use Rattle.chw_typing.specs.Typing.{HasType}
-use Rattle.spine_types.specs.Given.{types_then}
-use Rattle.term_paths.specs.Paths.{Branch}
-use Rattle.scenes.specs.Named.{IsNamed}
-use Rattle.scenes.specs.Origins.{Origins, setting_at}
-use Rattle.active_places.specs.Spots.{Spot}
+use Rattle.typing_laws.specs.Given.{types_then}
+use Rattle.typing_laws.specs.Paths.{Branch}
+use Rattle.rewriting.specs.Named.{IsNamed}
+use Rattle.rewriting.specs.Origins.{Origins, setting_at}
+use Rattle.rewriting.specs.Spots.{Spot}
 use Rattle.rewriting.specs.Cases.{OfCases, case_con, case_lit, case_any, case_let, case_case, proj}
 use Rattle.rewriting.specs.Shapes.{IsTakenBy}
 use Rattle.rewriting.proofs.Spines.{head_of, head_applied, head_is, args_are}

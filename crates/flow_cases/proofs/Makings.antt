@@ -17,12 +17,12 @@ use Rattle.chw_terms.specs.TermView.{applied, group_of}
 use Rattle.chw_terms.specs.Unrolled.{named}
 use Rattle.chw_typing.specs.HeadTypes.{PatternOf, of_con, fields_at}
 use Rattle.chw_typing.specs.Typing.{HasType}
-use Rattle.group_laws.specs.Groups.{each_body}
-use Rattle.spine_types.specs.Given.{types_then}
-use Rattle.term_paths.specs.Paths.{Branch}
-use Rattle.scenes.specs.Named.{IsNamed}
-use Rattle.scenes.specs.Origins.{Origins, setting_at}
-use Rattle.active_places.specs.Spots.{Spot}
+use Rattle.typing_laws.specs.Groups.{each_body}
+use Rattle.typing_laws.specs.Given.{types_then}
+use Rattle.typing_laws.specs.Paths.{Branch}
+use Rattle.rewriting.specs.Named.{IsNamed}
+use Rattle.rewriting.specs.Origins.{Origins, setting_at}
+use Rattle.rewriting.specs.Spots.{Spot}
 use Rattle.rewriting.specs.Cases.{OfCases, case_con, case_lit, case_any, case_let, case_case, proj}
 use Rattle.rewriting.specs.Shapes.{IsTakenBy, with_fields, or_body, projections, shift_alts}
 use Rattle.flow_cases.specs.Given.{types_in, terms_in, AreJust}

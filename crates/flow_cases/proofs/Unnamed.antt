@@ -7,8 +7,8 @@ use Rattle.chw_typing.specs.Laws.{OneType, TypesAreTermTypes}
 use Rattle.chw_typing.specs.Programs.{IsSound}
 use Rattle.chw_typing.specs.Scopes.{Setting, AreTermTypes}
 use Rattle.chw_typing.specs.Typing.{HasType}
-use Rattle.scenes.specs.Laws.{SameKeepsNamed}
-use Rattle.scenes.specs.Named.{IsNamed}
+use Rattle.rewriting.specs.SceneLaws.{SameKeepsNamed}
+use Rattle.rewriting.specs.Named.{IsNamed}
 
 pub named_again : OneType → TypesAreTermTypes → SameKeepsNamed → (s : Setting) (vars : List TypeTree) (mode : Mode) (e : TermTree) (t u : TypeTree) → IsSound s → AreTermTypes s [] vars → HasType s [] vars e t → HasType s [] vars e u → IsNamed s.datas mode t → IsNamed s.datas mode u
 named_again one kinds kept s vars mode e t u sound scope h g n =

@@ -5,8 +5,8 @@ use Rattle.chw_terms.specs.declared.rule.Rule.{Rule}
 use Rattle.chw_terms.specs.declared.term.Alt.{Alt}
 use Rattle.chw_terms.specs.TermTree.{TermTree, case_of}
 use Rattle.chw_terms.specs.TermView.{alts_of}
-use Rattle.scenes.specs.Origins.{Origins}
-use Rattle.active_places.specs.Spots.{Spot}
+use Rattle.rewriting.specs.Origins.{Origins}
+use Rattle.rewriting.specs.Spots.{Spot}
 use Rattle.rule_parts.specs.Cores.{AnswersCore}
 
 -- the answer is what the rule makes of the case on this term with these alternatives, or nothing

@@ -5,9 +5,9 @@ ghost use Rattle.chw_terms.specs.declared.rule.Rule.TheVariants.{CaseCase};
 ghost use Rattle.chw_terms.specs.TermTree.{case_of};
 ghost use Rattle.chw_terms.specs.TermView.{alts_of};
 ghost use Rattle.chw_typing.specs.Scopes.{setting_in};
-ghost use Rattle.group_laws.specs.Groups.{each_body};
-ghost use Rattle.scenes.specs.Origins.{origins_of};
-ghost use Rattle.active_places.specs.Spots.{spot_of};
+ghost use Rattle.typing_laws.specs.Groups.{each_body};
+ghost use Rattle.rewriting.specs.Origins.{origins_of};
+ghost use Rattle.rewriting.specs.Spots.{spot_of};
 ghost use Rattle.rewriting.specs.Shapes.{shift_alts};
 ghost use Rattle.term_types.specs.Answers.{IsReady};
 ghost use Rattle.term_types.specs.Signatures.{IsSignature};
@@ -19,11 +19,11 @@ use crate::parts::bare_head;
 use chw_base::NoMemory;
 use chw_terms::{Alt, Head, Place, Scene, Term};
 use chw_typing::laws::{one_type, types_are_term_types};
-use found_types::laws::found_is_type;
+use rewriting::scene_laws::{names_of_modes, settings_of_scenes};
 use rule_parts::named::is_named;
-use scenes::laws::{names_of_modes, settings_of_scenes};
 use std::alloc::Global;
 use term_types::{Signature, type_of_in};
+use typing_laws::found_laws::found_is_type;
 
 // An alternative whose body is looked at by a case with these alternatives.
 fn looked_at(alloc: Global, alt: &Alt, outer: &[Alt]) -> Result<Alt, NoMemory>

@@ -7,10 +7,10 @@ use Rattle.chw_terms.specs.declared.rule.Rule.TheVariants.{PrimLet, PrimCase}
 use Rattle.chw_terms.specs.declared.term.Arg.{Arg}
 use Rattle.chw_terms.specs.TermTree.{TermTree, letrec, prim, case_of, Group, size_of, Alts}
 use Rattle.chw_terms.specs.TermView.{applied}
-use Rattle.group_laws.specs.Groups.{each_body}
-use Rattle.scenes.specs.Origins.{Origins}
-use Rattle.active_places.specs.Spots.{Spot, asked_for}
-use Rattle.active_places.specs.Active.{Demands}
+use Rattle.typing_laws.specs.Groups.{each_body}
+use Rattle.rewriting.specs.Origins.{Origins}
+use Rattle.rewriting.specs.Spots.{Spot, asked_for}
+use Rattle.rewriting.specs.Active.{Demands}
 use Rattle.rewriting.specs.Demanded.{OfDemanded, prim_let, prim_case, DemandsLet, DemandsCase}
 use Rattle.rewriting.proofs.Spines.{head_is, args_are}
 use Rattle.rule_parts.specs.Cores.{AnswersCore}

@@ -6,8 +6,8 @@ use Rattle.chw_prims.specs.declared.prim.Primitive.{Primitive as Prim}
 use Rattle.chw_terms.specs.declared.term.Arg.{Arg}
 use Rattle.chw_terms.specs.declared.term.Arg.TheVariants.{OfTerm}
 use Rattle.chw_terms.specs.TermTree.{TermTree}
-use Rattle.scenes.specs.Origins.{Origins}
-use Rattle.active_places.specs.Spots.{Spot, LooksAt}
+use Rattle.rewriting.specs.Origins.{Origins}
+use Rattle.rewriting.specs.Spots.{Spot, LooksAt}
 use Rattle.flow_demanded.specs.declared.forms.Form.{Form}
 use Rattle.flow_demanded.specs.Demanding.{IsUnnamed, DemandsForm, IsFirstOfForm, NoneOfForm}
 use Rattle.flow_demanded.specs.Forms.{HasForm}

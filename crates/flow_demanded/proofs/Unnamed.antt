@@ -7,10 +7,10 @@ use Rattle.chw_terms.specs.TermTree.{TermTree}
 use Rattle.chw_typing.specs.Laws.{OneType, TypesAreTermTypes}
 use Rattle.chw_typing.specs.Scopes.{Setting}
 use Rattle.chw_typing.specs.Typing.{HasType}
-use Rattle.scenes.specs.Laws.{SameKeepsNamed}
-use Rattle.scenes.specs.Named.{IsNamed}
-use Rattle.scenes.specs.Origins.{Origins, setting_at}
-use Rattle.active_places.specs.Spots.{Spot}
+use Rattle.rewriting.specs.SceneLaws.{SameKeepsNamed}
+use Rattle.rewriting.specs.Named.{IsNamed}
+use Rattle.rewriting.specs.Origins.{Origins, setting_at}
+use Rattle.rewriting.specs.Spots.{Spot}
 use Rattle.term_types.specs.Answers.{IsReady}
 use Rattle.flow_demanded.specs.Demanding.{IsUnnamed}
 use Rattle.flow_demanded.proofs.Parts.{false_is_no_truth}

@@ -9,8 +9,8 @@ use Rattle.chw_terms.specs.declared.term.Head.TheVariants.{Var, Global, Made, La
 use Rattle.chw_terms.specs.TermTree.{TermTree, prim}
 use Rattle.chw_terms.specs.TermView.{tree_of, applied}
 use Rattle.chw_terms.proofs.Spines.{applied_more}
-use Rattle.scenes.specs.Origins.{Origins}
-use Rattle.active_places.specs.Spots.{Spot, LooksAt}
+use Rattle.rewriting.specs.Origins.{Origins}
+use Rattle.rewriting.specs.Spots.{Spot, LooksAt}
 use Rattle.rewriting.specs.Demanded.{OfDemanded, prim_let, prim_case}
 use Rattle.rewriting.specs.Instances.{Makes}
 use Rattle.rule_parts.specs.Cores.{MakesOf, of_core, Answers}

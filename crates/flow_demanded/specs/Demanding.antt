@@ -6,10 +6,10 @@ use Rattle.chw_terms.specs.declared.scene.Mode.TheVariants.{K}
 use Rattle.chw_terms.specs.declared.term.Arg.{Arg}
 use Rattle.chw_terms.specs.TermTree.{TermTree}
 use Rattle.chw_typing.specs.Typing.{HasType}
-use Rattle.scenes.specs.Named.{IsNamed}
-use Rattle.scenes.specs.Origins.{Origins, setting_at}
-use Rattle.active_places.specs.Active.{Demands}
-use Rattle.active_places.specs.Spots.{Spot}
+use Rattle.rewriting.specs.Named.{IsNamed}
+use Rattle.rewriting.specs.Origins.{Origins, setting_at}
+use Rattle.rewriting.specs.Active.{Demands}
+use Rattle.rewriting.specs.Spots.{Spot}
 use Rattle.flow_demanded.specs.Forms.{HasForm}
 use Rattle.flow_demanded.specs.declared.forms.Form.{Form}
 

@@ -4,8 +4,8 @@ ghost use Rattle.chw_types.specs.References.{HasNoCycle};
 ghost use Rattle.chw_terms.specs.declared.term.Arg.TheVariants.{OfTerm};
 ghost use Rattle.chw_terms.specs.TermTree.{TermTree};
 ghost use Rattle.chw_typing.specs.Scopes.{setting_in};
-ghost use Rattle.scenes.specs.Origins.{origins_of};
-ghost use Rattle.active_places.specs.Spots.{spot_of, LooksAt};
+ghost use Rattle.rewriting.specs.Origins.{origins_of};
+ghost use Rattle.rewriting.specs.Spots.{spot_of, LooksAt};
 ghost use Rattle.term_types.specs.Answers.{IsReady};
 ghost use Rattle.term_types.specs.Signatures.{IsSignature};
 ghost use Rattle.flow_demanded.specs.Demanding.{IsUnnamed, IsFirstOfForm, NoneOfForm};
@@ -17,11 +17,11 @@ use chw_base::NoMemory;
 use chw_prims::Prim;
 use chw_terms::{Arg, Mode, Place, Scene, Term};
 use chw_typing::laws::{one_type, types_are_term_types};
-use found_types::laws::found_is_type;
+use rewriting::scene_laws::{names_of_modes, settings_of_scenes};
 use rule_parts::named::is_named;
-use scenes::laws::{names_of_modes, settings_of_scenes};
 use std::alloc::Global;
 use term_types::{Signature, type_of_in};
+use typing_laws::found_laws::found_is_type;
 
 // Whether a term at a place that isn't one of a constant has a type, and none that is named there.
 fn is_unnamed(

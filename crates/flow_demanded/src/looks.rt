@@ -1,7 +1,7 @@
 //! The arguments at which primitives look.
 ghost use Rattle.std.specs.Prelude.{◌≡◌, ◌↔◌, ℕ, IfSome, IfNone, IsTrue};
 ghost use Rattle.chw_prims.specs.Schemas.{schema_type};
-ghost use Rattle.active_places.specs.Spots.{LooksAt, asked_for};
+ghost use Rattle.rewriting.specs.Spots.{LooksAt, asked_for};
 
 use chw_prims::Prim;
 

@@ -6,8 +6,8 @@ ghost use Rattle.chw_terms.specs.declared.rule.Rule.TheVariants.{PrimLet, PrimCa
 ghost use Rattle.chw_terms.specs.TermTree.{prim};
 ghost use Rattle.chw_terms.specs.TermView.{applied};
 ghost use Rattle.chw_typing.specs.Scopes.{setting_in};
-ghost use Rattle.scenes.specs.Origins.{origins_of};
-ghost use Rattle.active_places.specs.Spots.{spot_of, asked_for};
+ghost use Rattle.rewriting.specs.Origins.{origins_of};
+ghost use Rattle.rewriting.specs.Spots.{spot_of, asked_for};
 ghost use Rattle.rule_parts.specs.Cores.{Answers, AnswersCore};
 ghost use Rattle.term_types.specs.Answers.{IsReady};
 ghost use Rattle.term_types.specs.Signatures.{IsSignature};

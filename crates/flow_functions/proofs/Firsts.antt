@@ -8,8 +8,8 @@ use Rattle.chw_terms.specs.declared.term.Arg.TheVariants.{OfTerm, OfType}
 use Rattle.chw_terms.specs.declared.term.Head.{Head}
 use Rattle.chw_terms.specs.TermTree.{TermTree, lam, ty_lam, letrec, case_of}
 use Rattle.chw_terms.specs.TermView.{tree_of, applied_to, applied}
-use Rattle.scenes.specs.Origins.{Origins}
-use Rattle.active_places.specs.Spots.{Spot}
+use Rattle.rewriting.specs.Origins.{Origins}
+use Rattle.rewriting.specs.Spots.{Spot}
 use Rattle.rewriting.specs.Functions.{OfFunctions, ty_beta, beta, app_let, app_let_type, app_case, app_case_type}
 use Rattle.rewriting.specs.Instances.{Makes}
 use Rattle.rewriting.proofs.Spines.{IsBare, head_is, args_are}

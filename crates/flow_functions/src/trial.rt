@@ -1,8 +1,8 @@
 //! The rules on functions, tried on a term at a place.
 ghost use Rattle.std.specs.Prelude.{[], reverse, IfOk};
 ghost use Rattle.chw_typing.specs.Scopes.{setting_in};
-ghost use Rattle.scenes.specs.Origins.{origins_of};
-ghost use Rattle.active_places.specs.Spots.{spot_of};
+ghost use Rattle.rewriting.specs.Origins.{origins_of};
+ghost use Rattle.rewriting.specs.Spots.{spot_of};
 ghost use Rattle.term_types.specs.Answers.{IsReady};
 ghost use Rattle.term_types.specs.Signatures.{IsSignature};
 ghost use Rattle.flow_functions.specs.AtFirst.{AnswersAt};

@@ -2,8 +2,8 @@
 use Rattle.std.specs.Prelude.{Option}
 use Rattle.chw_terms.specs.declared.rule.Rule.TheVariants.{Flat}
 use Rattle.chw_terms.specs.TermTree.{TermTree}
-use Rattle.scenes.specs.Origins.{Origins}
-use Rattle.active_places.specs.Spots.{Spot}
+use Rattle.rewriting.specs.Origins.{Origins}
+use Rattle.rewriting.specs.Spots.{Spot}
 use Rattle.rewriting.specs.Shapes.{IsOfHead}
 use Rattle.rule_parts.specs.Cores.{Answers, AnswersCore}
 

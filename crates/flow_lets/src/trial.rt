@@ -2,7 +2,7 @@
 ghost use Rattle.std.specs.Prelude.{◌↔◌, IfOk, IsTrue};
 ghost use Rattle.chw_terms.specs.TermTree.{letrec};
 ghost use Rattle.chw_terms.specs.TermView.{group_of};
-ghost use Rattle.active_places.specs.Spots.{spot_of};
+ghost use Rattle.rewriting.specs.Spots.{spot_of};
 ghost use Rattle.rewriting.specs.Shapes.{IsOfHead};
 ghost use Rattle.flow_lets.specs.Flat.{AnswersFlat, AnswersLetrec};
 

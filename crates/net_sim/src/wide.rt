@@ -1,4 +1,4 @@
-//! The operators on words of any width, bit by bit.
+//! The operators on wide words, bit by bit.
 ghost use Rattle.std.specs.Prelude.{◌≡◌, ◌+◌, ◌<◌, ◌≤◌, ◌++◌, ◌==◌, nat_lt, int_lt, length, take, drop, map, min, not, count_by, ◌%◌, ◌*◌, replicate, false};
 ghost use Rattle.std.specs.List.{list_all, list_any};
 ghost use Rattle.chw_bits.specs.Bits.{number_of};

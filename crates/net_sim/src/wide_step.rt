@@ -1,4 +1,4 @@
-//! What a cell makes of words of any width.
+//! What a cell makes of wide words.
 ghost use Rattle.std.specs.Prelude.{◌≡◌, ℕ, ◌+◌, ◌*◌, ◌<◌, ◌≤◌, length, map, flat_map, slice_index_or};
 ghost use Rattle.std.specs.List.{AllByRecursion};
 ghost use Rattle.chw_bits.specs.Bits.{cut_of};

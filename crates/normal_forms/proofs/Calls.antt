@@ -11,12 +11,12 @@ use Rattle.chw_terms.specs.declared.scene.Sort.TheVariants.{Value, Circuit}
 use Rattle.chw_terms.specs.declared.term.Arg.TheVariants.{OfTerm}
 use Rattle.chw_terms.specs.TermTree.{TermTree, var, made, lam, app, ty_app, letrec, con, prim, lit, vec_lit, case_of, Group, no_bindings, bind, Alts, no_alts, alt}
 use Rattle.chw_terms.specs.TermView.{applied, terms_of}
-use Rattle.spine_types.specs.Given.{types_then}
-use Rattle.term_paths.specs.Paths.{child, element_at, part_of_group, branch_at, part_at}
-use Rattle.term_paths.proofs.Parts.{way_to, part_below}
-use Rattle.scenes.specs.Named.{UnderLambdas, under_none, under_one}
-use Rattle.scenes.specs.Origins.{MadeOf, Origins}
-use Rattle.active_places.specs.Spots.{asked_for}
+use Rattle.typing_laws.specs.Given.{types_then}
+use Rattle.typing_laws.specs.Paths.{child, element_at, part_of_group, branch_at, part_at}
+use Rattle.typing_laws.proofs.PathParts.{way_to, part_below}
+use Rattle.rewriting.specs.Named.{UnderLambdas, under_none, under_one}
+use Rattle.rewriting.specs.Origins.{MadeOf, Origins}
+use Rattle.rewriting.specs.Spots.{asked_for}
 use Rattle.rewriting.specs.Shapes.{IsMade, fmap_of}
 use Rattle.normal_forms.specs.Calls.{IsCalled, as_head, as_function, HoldsOnlyCalls}
 use Rattle.normal_forms.specs.Circuits.{IsConstant, constant_literal, constant_constructor, constant_vector, AreConstants, no_constants, constant_and, IsLiftedCall, lifted_on_one, lifted_on_more}

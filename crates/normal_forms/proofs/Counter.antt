@@ -20,8 +20,8 @@ use Rattle.chw_terms.specs.TypesMoved.{rename_types}
 use Rattle.chw_typing.specs.Scopes.{HasKind}
 use Rattle.chw_typing.specs.Typing.{HasType, h_var, h_made, h_app, h_ty_app, h_letrec, h_prim, h_lit, none_bound, bound_and}
 use Rattle.chw_layout.specs.Measured.{HasWidth, measured_scalar}
-use Rattle.scenes.specs.Named.{under_none}
-use Rattle.scenes.specs.Origins.{setting_at}
+use Rattle.rewriting.specs.Named.{under_none}
+use Rattle.rewriting.specs.Origins.{setting_at}
 use Rattle.normal_forms.specs.Examples.{byte, bytes, zeros, here, counter, register_of, lifted, CounterIsNormal}
 use Rattle.normal_forms.specs.Normal.{HoldsWidths}
 use Rattle.normal_forms.specs.Parts.{declared_by}

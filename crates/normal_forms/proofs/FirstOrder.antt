@@ -8,8 +8,8 @@ use Rattle.chw_terms.specs.declared.scene.Sort.{Sort}
 use Rattle.chw_terms.specs.declared.scene.Sort.TheVariants.{Value, Circuit}
 use Rattle.chw_terms.specs.TermTree.{TermTree, var, made, con, prim, Group, Alts}
 use Rattle.chw_typing.specs.Scopes.{declared}
-use Rattle.scenes.specs.Named.{IsNamed, mode_of, UnderLambdas, under_none, under_one}
-use Rattle.scenes.specs.Origins.{MadeOf, Origins}
+use Rattle.rewriting.specs.Named.{IsNamed, mode_of, UnderLambdas, under_none, under_one}
+use Rattle.rewriting.specs.Origins.{MadeOf, Origins}
 use Rattle.normal_forms.specs.Circuits.{IsConstant, constant_literal, constant_constructor, constant_vector, AreConstants, no_constants, constant_and, IsLiftedCall, lifted_on_one, lifted_on_more}
 use Rattle.normal_forms.specs.Circuits.{IsCircuitSide, of_variable, of_register, of_block_ram, of_synchronizer, of_pure, of_lifted, of_call, of_constructor, of_projection}
 use Rattle.normal_forms.specs.Circuits.{AreCircuitSides, no_circuit_sides, circuit_side_and, IsCircuitBody, circuit_variable, circuit_letrec}

@@ -20,12 +20,12 @@ use Rattle.chw_typing.specs.Typing.{HasType, h_var}
 use Rattle.chw_typing.proofs.Heads.{is_constructor}
 use Rattle.chw_typing.proofs.Kinded.{typed_at}
 use Rattle.chw_typing.proofs.Patterns.{constructor_arguments}
-use Rattle.named_types.proofs.FieldKinds.{field_kind}
-use Rattle.named_types.proofs.NamedParts.{fields_representable, fields_ports}
-use Rattle.term_contexts.specs.Around.{Around, here, in_lam, in_ty_lam, in_function, in_argument, in_ty_app, in_letrec, in_vector, in_scrutinee, in_branch}
-use Rattle.term_contexts.proofs.Typed.{part_typed}
-use Rattle.scenes.specs.Laws.{SameKeepsNamed}
-use Rattle.scenes.specs.Origins.{MadeOf, Origins, setting_at}
+use Rattle.typing_laws.proofs.FieldKinds.{field_kind}
+use Rattle.typing_laws.proofs.NamedParts.{fields_representable, fields_ports}
+use Rattle.typing_laws.specs.Around.{Around, here, in_lam, in_ty_lam, in_function, in_argument, in_ty_app, in_letrec, in_vector, in_scrutinee, in_branch}
+use Rattle.typing_laws.proofs.Typed.{part_typed}
+use Rattle.rewriting.specs.SceneLaws.{SameKeepsNamed}
+use Rattle.rewriting.specs.Origins.{MadeOf, Origins, setting_at}
 use Rattle.rewriting.specs.Shapes.{IsVariable}
 use Rattle.normal_forms.specs.Normal.{IsNormalBody}
 use Rattle.normal_forms.proofs.FirstOrder.{body_plain}

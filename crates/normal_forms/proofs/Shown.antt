@@ -17,12 +17,12 @@ use Rattle.chw_terms.specs.TermView.{applied}
 use Rattle.chw_typing.specs.HeadTypes.{of_con}
 use Rattle.chw_layout.specs.Measured.{Measure, Measured, measured_scalar, measured_vector, measured_data, fits, scalar_measure, closed_value}
 use Rattle.graph_order.specs.References.{Leads, step, step_and, HasNoCycle}
-use Rattle.spine_types.specs.Given.{types_then}
-use Rattle.active_places.proofs.OneStep.{head_of, head_applied}
-use Rattle.active_places.specs.Spots.{asked_for}
+use Rattle.typing_laws.specs.Given.{types_then}
+use Rattle.rewriting.proofs.OneStep.{head_of, head_applied}
+use Rattle.rewriting.specs.Spots.{asked_for}
 use Rattle.rewriting.specs.Shapes.{fmap_of}
 use Rattle.std.specs.List.{slice_get}
-use Rattle.scenes.specs.Origins.{MadeOf, Origins, with_origins}
+use Rattle.rewriting.specs.Origins.{MadeOf, Origins, with_origins}
 use Rattle.normal_forms.specs.Circuits.{IsConstant, constant_literal, constant_constructor, constant_vector, no_constants, constant_and, IsLiftedCall, lifted_on_one, lifted_on_more}
 use Rattle.normal_forms.specs.Circuits.{IsCircuitSide, of_variable, of_register, of_block_ram, of_synchronizer, of_pure, of_lifted, of_call, of_constructor, of_projection}
 use Rattle.normal_forms.specs.Circuits.{no_circuit_sides, circuit_side_and, circuit_letrec}

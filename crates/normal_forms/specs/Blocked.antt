@@ -27,12 +27,12 @@ use Rattle.chw_layout.specs.declared.outcome.NoLayout.{NoLayout}
 use Rattle.chw_layout.specs.declared.outcome.NoLayout.TheVariants.{Scalar as OverScalar}
 use Rattle.chw_layout.specs.declared.outcome.NoLayout.TheVariants.{Length as OverLength}
 use Rattle.chw_layout.specs.Measured.{Measured, too_wide, HasWidth}
-use Rattle.group_laws.specs.Groups.{binding_at}
-use Rattle.term_paths.specs.Paths.{part_at, IsEarlier}
-use Rattle.scenes.specs.Named.{IsNamed, UnderLambdas}
-use Rattle.scenes.specs.Origins.{MadeOf, Origins, made_of}
-use Rattle.active_places.specs.Active.{IsPlaceOf}
-use Rattle.active_places.specs.Spots.{Spot, IsOnWords}
+use Rattle.typing_laws.specs.Groups.{binding_at}
+use Rattle.typing_laws.specs.Paths.{part_at, IsEarlier}
+use Rattle.rewriting.specs.Named.{IsNamed, UnderLambdas}
+use Rattle.rewriting.specs.Origins.{MadeOf, Origins, made_of}
+use Rattle.rewriting.specs.Active.{IsPlaceOf}
+use Rattle.rewriting.specs.Spots.{Spot, IsOnWords}
 use Rattle.rewriting.specs.Lifted.{FindsAt}
 use Rattle.rewriting.specs.Steps.{origins_in, HasNoStep}
 use Rattle.normal_forms.specs.Normal.{all_rules}

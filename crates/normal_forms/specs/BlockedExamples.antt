@@ -9,8 +9,8 @@ use Rattle.chw_terms.specs.TermTree.{var, letrec, prim, no_bindings, bind}
 use Rattle.chw_terms.specs.TermView.{applied}
 use Rattle.chw_layout.specs.declared.outcome.NoLayout.TheVariants.{Scalar as OverScalar}
 use Rattle.chw_layout.specs.declared.outcome.NoLayout.TheVariants.{Length as OverLength}
-use Rattle.spine_types.specs.Given.{types_then}
-use Rattle.active_places.specs.Spots.{Spot, spot}
+use Rattle.typing_laws.specs.Given.{types_then}
+use Rattle.rewriting.specs.Spots.{Spot, spot}
 use Rattle.normal_forms.specs.Blocked.{recursion, payload, PassesAt, BlocksAt}
 use Rattle.normal_forms.specs.Examples.{byte, here, counter, cyclic}
 

@@ -16,9 +16,9 @@ use Rattle.chw_terms.specs.TermTree.{TermTree, var, made, letrec, con, prim, lit
 use Rattle.chw_terms.specs.TermTree.{Group, no_bindings, bind, no_alts, alt}
 use Rattle.chw_terms.specs.TermView.{applied, terms_of}
 use Rattle.chw_typing.specs.HeadTypes.{con_type}
-use Rattle.spine_types.specs.Given.{types_then}
-use Rattle.scenes.specs.Origins.{MadeOf, Origins}
-use Rattle.active_places.specs.Spots.{asked_for}
+use Rattle.typing_laws.specs.Given.{types_then}
+use Rattle.rewriting.specs.Origins.{MadeOf, Origins}
+use Rattle.rewriting.specs.Spots.{asked_for}
 use Rattle.rewriting.specs.Shapes.{fmap_of, ap_of, pure_of}
 use Rattle.normal_forms.specs.Values.{on_names}
 

@@ -21,8 +21,8 @@ use Rattle.chw_typing.specs.HeadTypes.{from_each}
 use Rattle.chw_typing.specs.Programs.{IsComplete}
 use Rattle.chw_typing.specs.Typing.{HasTypeUpTo}
 use Rattle.chw_layout.specs.Measured.{HasWidth}
-use Rattle.scenes.specs.Named.{IsNamed, mode_of, UnderLambdas}
-use Rattle.scenes.specs.Origins.{MadeOf, Origins, setting_at, made_of}
+use Rattle.rewriting.specs.Named.{IsNamed, mode_of, UnderLambdas}
+use Rattle.rewriting.specs.Origins.{MadeOf, Origins, setting_at, made_of}
 use Rattle.rewriting.specs.Steps.{origins_in, HasNoStep}
 use Rattle.normal_forms.specs.Circuits.{IsCircuitBody}
 use Rattle.normal_forms.specs.Parts.{EachDeclared, HasClosedTypes}

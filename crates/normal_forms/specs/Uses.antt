@@ -6,7 +6,7 @@ use Rattle.chw_terms.specs.TermTree.{TermTree, var, global, made, lam, app, ty_l
 use Rattle.chw_terms.specs.TermTree.{letrec, con, prim, lit, vec_lit, case_of, Terms, no_terms}
 use Rattle.chw_terms.specs.TermTree.{term_and, Group, no_bindings, bind, Alts, no_alts, alt}
 use Rattle.graph_order.specs.References.{HasNoCycle}
-use Rattle.scenes.specs.Origins.{with_origins}
+use Rattle.rewriting.specs.Origins.{with_origins}
 
 abbrev mutual
   -- whether a made definition stands in a term

@@ -16,10 +16,10 @@ use Rattle.chw_terms.specs.TermView.{applied, terms_of}
 use Rattle.chw_typing.specs.HeadTypes.{con_type, PatternOf}
 use Rattle.chw_typing.specs.Scopes.{with_more, declared}
 use Rattle.graph_order.specs.References.{HasNoCycle}
-use Rattle.group_laws.specs.Groups.{binding_at}
-use Rattle.spine_types.specs.Given.{types_then}
-use Rattle.scenes.specs.Origins.{MadeOf, Origins}
-use Rattle.active_places.specs.Spots.{asked_for, IsOnWords, TakesElement}
+use Rattle.typing_laws.specs.Groups.{binding_at}
+use Rattle.typing_laws.specs.Given.{types_then}
+use Rattle.rewriting.specs.Origins.{MadeOf, Origins}
+use Rattle.rewriting.specs.Spots.{asked_for, IsOnWords, TakesElement}
 
 -- a head on these types, and then on these variables
 abbrev pub on_names : TermTree → List TypeTree → List ℕ → TermTree

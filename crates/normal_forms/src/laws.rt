@@ -1,7 +1,7 @@
 //! The laws, each as the contract of a call that does nothing.
 ghost use Rattle.normal_forms.specs.Laws.{NormalIsFirstOrder, NamesAreWires, NormalHoldsOnlyCalls, OneWhole, WholeIsThere, OneFirstBlocked};
 
-use scenes::laws::names_of_modes;
+use rewriting::scene_laws::names_of_modes;
 
 /// Each body of a normal state is monomorphic and first-order.
 pub fn normal_is_first_order()

@@ -3,7 +3,7 @@ use Rattle.std.proofs.Common.{◌≡◌, ◌∙◌, ap, refl, sym, arith}
 use Rattle.std.proofs.Common.{ℕ, zero, suc, ◌+◌, ◌-◌, ◌≤◌, List, [], ◌∷◌, ◌++◌}
 use Rattle.chw_types.specs.TypeTree.{TypeTree}
 use Rattle.chw_terms.specs.TermTree.{TermTree, var, lam, app}
-use Rattle.scenes.specs.Origins.{on_variables, under_each}
+use Rattle.rewriting.specs.Origins.{on_variables, under_each}
 
 -- the outermost variable is the first argument
 outermost_first : (e : TermTree) (j n : ℕ)

@@ -16,11 +16,11 @@ use Rattle.chw_typing.specs.HeadTypes.{from_each}
 use Rattle.chw_typing.specs.Programs.{IsTyped, LeadsToPort}
 use Rattle.chw_typing.specs.Scopes.{HasKind, Setting}
 use Rattle.chw_typing.specs.Typing.{HasType, HasTypeUpTo, h_global}
-use Rattle.typed_parts.proofs.MoreMade.{typed_with_made}
-use Rattle.scenes.specs.Named.{HasLeadingLambdas}
-use Rattle.scenes.specs.Origins.{HoldsNoMade, MadeOf, Origins, eta_expanded, made_of, on_variables}
-use Rattle.scenes.specs.Origins.{origin_at, origin_of, setting_at, under_each}
-use Rattle.scenes.specs.Typed.{IsTypedMade, IsTypedScene}
+use Rattle.typing_laws.proofs.MoreMade.{typed_with_made}
+use Rattle.rewriting.specs.Named.{HasLeadingLambdas}
+use Rattle.rewriting.specs.Origins.{HoldsNoMade, MadeOf, Origins, eta_expanded, made_of, on_variables}
+use Rattle.rewriting.specs.Origins.{origin_at, origin_of, setting_at, under_each}
+use Rattle.rewriting.specs.Typed.{IsTypedMade, IsTypedScene}
 use Rattle.rewriting.specs.Runs.{IsOpening, first_body, opened, top_of}
 use Rattle.rewriting.specs.Steps.{origins_in}
 use Rattle.rule_types.proofs.Made.{made_typed}

@@ -6,7 +6,7 @@ use Rattle.chw_terms.specs.declared.scene.Made.{Made}
 use Rattle.chw_terms.specs.declared.scene.Sort.TheVariants.{Circuit}
 use Rattle.chw_terms.specs.TermTree.{TermTree, global}
 use Rattle.chw_terms.specs.Unrolled.{parameters}
-use Rattle.scenes.specs.Origins.{on_variables, under_each}
+use Rattle.rewriting.specs.Origins.{on_variables, under_each}
 
 -- a closed term on a variable for each parameter of the type, below a lambda for each
 abbrev pub on_parameters : TypeTree → TermTree → TermTree

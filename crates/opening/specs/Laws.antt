@@ -5,7 +5,7 @@ use Rattle.chw_terms.specs.declared.scene.Made.{Made}
 use Rattle.chw_terms.specs.declared.scene.Scene.{Scene}
 use Rattle.chw_terms.specs.Tidy.{IsTidy}
 use Rattle.chw_typing.specs.Programs.{IsTyped}
-use Rattle.scenes.specs.Typed.{IsTypedScene}
+use Rattle.rewriting.specs.Typed.{IsTypedScene}
 use Rattle.rewriting.specs.Runs.{IsOpening}
 use Rattle.rule_types.specs.States.{IsTypedState}
 

@@ -2,7 +2,7 @@
 ghost use Rattle.std.specs.Prelude.{◌≡◌, IfOk};
 ghost use Rattle.chw_terms.specs.Tidy.{IsTidy};
 ghost use Rattle.chw_terms.specs.Unrolled.{parameters};
-ghost use Rattle.scenes.specs.Origins.{on_variables, under_each};
+ghost use Rattle.rewriting.specs.Origins.{on_variables, under_each};
 ghost use Rattle.rewriting.specs.Runs.{IsOpening};
 ghost use Rattle.opening.specs.Expanded.{call_of, on_parameters};
 

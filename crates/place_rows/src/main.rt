@@ -6,7 +6,7 @@ use row_notation::{Parts, put_term, read};
 use row_tables::{Unread, print_rows};
 use std::alloc::Global;
 use std::io;
-use term_parts::{part, set_part};
+use typing_laws::{part, set_part};
 
 fn main(rt: HostRuntime) -> io::Result<()> {
     print_rows(&rt, answer)

@@ -16,13 +16,13 @@ use Rattle.chw_typing.specs.Alternatives.{Hides}
 use Rattle.chw_typing.specs.HeadTypes.{fields_at}
 use Rattle.chw_typing.specs.Scopes.{Setting}
 use Rattle.chw_typing.proofs.Patterns.{one_pattern}
-use Rattle.found_types.specs.Finding.{Finds}
-use Rattle.found_types.proofs.FoundOnce.{one_found}
-use Rattle.group_laws.specs.Groups.{each_body}
-use Rattle.spine_types.specs.Given.{types_then}
-use Rattle.term_paths.specs.Paths.{Branch}
-use Rattle.scenes.specs.Origins.{Origins}
-use Rattle.active_places.specs.Spots.{Spot}
+use Rattle.typing_laws.specs.Finding.{Finds}
+use Rattle.typing_laws.proofs.FoundOnce.{one_found}
+use Rattle.typing_laws.specs.Groups.{each_body}
+use Rattle.typing_laws.specs.Given.{types_then}
+use Rattle.typing_laws.specs.Paths.{Branch}
+use Rattle.rewriting.specs.Origins.{Origins}
+use Rattle.rewriting.specs.Spots.{Spot}
 use Rattle.rewriting.specs.Cases.{OfCases, case_con, case_lit, case_any, case_let, case_case, proj}
 use Rattle.rewriting.specs.Functions.{OfFunctions, ty_beta, beta, app_let, app_let_type, app_case, app_case_type}
 use Rattle.rewriting.specs.Shapes.{IsTakenBy, by_first, by_later, with_fields, or_body, projections, shift_alts}

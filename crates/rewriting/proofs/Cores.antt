@@ -15,9 +15,9 @@ use Rattle.chw_terms.specs.TermTree.{TermTree, lam, ty_lam, letrec, con, prim, l
 use Rattle.chw_terms.specs.TermView.{applied}
 use Rattle.chw_terms.proofs.Spines.{applied_more}
 use Rattle.chw_typing.specs.HeadTypes.{con_type}
-use Rattle.spine_types.specs.Given.{types_then}
-use Rattle.scenes.specs.Origins.{Origins}
-use Rattle.active_places.specs.Spots.{Spot, asked_for}
+use Rattle.typing_laws.specs.Given.{types_then}
+use Rattle.rewriting.specs.Origins.{Origins}
+use Rattle.rewriting.specs.Spots.{Spot, asked_for}
 use Rattle.rewriting.specs.Cases.{OfCases, case_con, case_lit, case_any, case_let, case_case, proj}
 use Rattle.rewriting.specs.Demanded.{OfDemanded, prim_let, prim_case}
 use Rattle.rewriting.specs.Functions.{OfFunctions, ty_beta, beta, app_let, app_let_type, app_case, app_case_type}
@@ -126,14 +126,14 @@ of_names (unfold_made m i) = alone _ (record { itself = refl; alone = refl }) re
 
 of_primitives : {o : Origins} {at : Spot} {r : Rule} {e e' : TermTree} → OfPrimitives o at r e e' → IsCore o r e
 unfolding asked asks
-of_primitives (unroll {p = p} {types = types} {es = es} c v u) =
+of_primitives (unroll {p = p} {types = types} {es = es} c r v u) =
     core (prim p) (types_then types es) (record { itself = refl; alone = refl })
     (given_length types es ∙ ap (λ n. n + length es) (sym (length-map types evaluated)) ∙ counted (row_of p) (map evaluated types) (length es) c.on_types c.on_terms)
-of_primitives (elem {p = p} {i = i} {n = n} {a = a} {t = t} {es = es} (inl q) j e) =
+of_primitives (elem {p = p} {i = i} {n = n} {a = a} {t = t} {es = es} (inl q) j l e) =
     core (prim p) (types_then (i ∷ n ∷ a ∷ []) (vec_lit t es ∷ [])) (record { itself = refl; alone = refl }) (ap (λ p. asked_for (schema_type p)) (sym q))
-of_primitives (elem {p = p} {i = i} {n = n} {a = a} {t = t} {es = es} (inr q) j e) =
+of_primitives (elem {p = p} {i = i} {n = n} {a = a} {t = t} {es = es} (inr q) j l e) =
     core (prim p) (types_then (i ∷ n ∷ a ∷ []) (vec_lit t es ∷ [])) (record { itself = refl; alone = refl }) (ap (λ p. asked_for (schema_type p)) (sym q))
-of_primitives (elem_at {n = n} {k = k} {a = a} {t = t} {es = es} {bits = bits} m i e) =
+of_primitives (elem_at {n = n} {k = k} {a = a} {t = t} {es = es} {bits = bits} m i l e) =
     core (prim VAt) (types_then (n ∷ k ∷ a ∷ []) (vec_lit t es ∷ lit U bits ∷ [])) (record { itself = refl; alone = refl }) refl
 of_primitives (delta {p = p} {types = types} {words = words} m v) =
     core (prim p) (types_then types (map literal words)) (record { itself = refl; alone = refl }) v.whole

@@ -6,7 +6,7 @@ use Rattle.chw_prims.specs.declared.row.Row.{Row}
 use Rattle.chw_prims.specs.declared.row.Row.TheVariants.{Binary, WideSum, WideProduct, Unary, Shift, Compare, Extend, Truncate, Cut, Joined, Reduce, Packed, Unpacked, Mapping, Applying, Constant, Delay, Memory, Crossing, Element, ElementAt, Replaced, Mapped, Zipped, FoldedLeft, FoldedRight, Generated, Replicated, Appended, Concatenated, Taken, Dropped, Reversed, Rotated}
 use Rattle.chw_terms.specs.TermTree.{TermTree}
 use Rattle.chw_terms.specs.Unrolled.{body_of, parameters, sized_1, sized_2, sized_3, twice_sized}
-use Rattle.active_places.specs.Spots.{asked_for}
+use Rattle.rewriting.specs.Spots.{asked_for}
 
 -- a body for a number and one, two or three types, or for two numbers and a type, has so many types
 for_two : (ts : List TypeTree) (f : ℕ → TypeTree → TermTree) → IsSome (sized_1 ts f) → length ts ≡ 2

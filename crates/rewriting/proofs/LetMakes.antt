@@ -7,11 +7,11 @@ use Rattle.chw_terms.specs.declared.scene.Mode.{Mode}
 use Rattle.chw_terms.specs.Occurs.{occurs}
 use Rattle.chw_terms.specs.TermMoves.{shift}
 use Rattle.chw_terms.specs.TermTree.{TermTree, letrec, Group, no_bindings, bind, size_of}
-use Rattle.group_laws.specs.Groups.{joined, Reached}
-use Rattle.group_laws.proofs.Parts.{size_joined}
-use Rattle.scenes.specs.Named.{IsNamed}
-use Rattle.scenes.specs.Origins.{Origins}
-use Rattle.active_places.specs.Spots.{Spot}
+use Rattle.typing_laws.specs.Groups.{joined, Reached}
+use Rattle.typing_laws.proofs.GroupParts.{size_joined}
+use Rattle.rewriting.specs.Named.{IsNamed}
+use Rattle.rewriting.specs.Origins.{Origins}
+use Rattle.rewriting.specs.Spots.{Spot}
 use Rattle.rewriting.specs.Lets.{OfLets, flat_side, flat_body, dead, inline, side_joined, inlined, kept, MarksReached, EachStays}
 use Rattle.rewriting.specs.Shapes.{IsLet, NoLetIn}
 use Rattle.rewriting.proofs.Lists.{marks_same}

@@ -8,7 +8,7 @@ use Rattle.chw_types.specs.declared.declarations.Data.{Data}
 use Rattle.chw_types.specs.TypeTree.{TypeTree, nat_lit, fun}
 use Rattle.chw_terms.specs.TermTree.{TermTree}
 use Rattle.chw_typing.specs.HeadTypes.{from_each}
-use Rattle.scenes.specs.Origins.{Origins}
+use Rattle.rewriting.specs.Origins.{Origins}
 use Rattle.rewriting.specs.Numbers.{HasOrigin, IsNumberOf}
 use Rattle.rewriting.specs.Primitives.{literal}
 

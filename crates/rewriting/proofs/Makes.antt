@@ -9,8 +9,8 @@ use Rattle.chw_terms.specs.FreeVariables.{free_in}
 use Rattle.chw_terms.specs.TermMoves.{shift}
 use Rattle.chw_terms.specs.TermTree.{TermTree, var, global, made, letrec, prim, no_bindings, bind}
 use Rattle.chw_terms.specs.TermView.{applied}
-use Rattle.scenes.specs.Origins.{Origins}
-use Rattle.active_places.specs.Spots.{Spot}
+use Rattle.rewriting.specs.Origins.{Origins}
+use Rattle.rewriting.specs.Spots.{Spot}
 use Rattle.rewriting.specs.Calls.{OfWhole, spec_call, anf_call, anf_result, call_origin}
 use Rattle.rewriting.specs.Instances.{Makes, HasInstance, on_core, on_whole}
 use Rattle.rewriting.specs.Numbers.{IsNumberOf}

@@ -5,11 +5,11 @@ use Rattle.chw_terms.specs.declared.rule.Rule.{Rule}
 use Rattle.chw_terms.specs.declared.term.Arg.{Arg}
 use Rattle.chw_terms.specs.TermTree.{TermTree, global, made, con, prim, vec_lit, case_of}
 use Rattle.chw_terms.specs.TermView.{applied}
-use Rattle.term_paths.specs.Paths.{part_at, IsEarlier}
-use Rattle.term_paths.proofs.Order.{one_is_earlier}
-use Rattle.term_paths.proofs.Spines.{spine_argument}
-use Rattle.scenes.specs.Origins.{Origins}
-use Rattle.active_places.specs.Spots.{Spot}
+use Rattle.typing_laws.specs.Paths.{part_at, IsEarlier}
+use Rattle.typing_laws.proofs.Order.{one_is_earlier}
+use Rattle.typing_laws.proofs.PathSpines.{spine_argument}
+use Rattle.rewriting.specs.Origins.{Origins}
+use Rattle.rewriting.specs.Spots.{Spot}
 use Rattle.rewriting.specs.Operands.{OfOperands, anf, StandsAt, of_prim, of_case, of_con, of_vector, StandsInCall, of_global, of_made, IsOperand, IsOperandOfCall, IsFirstOperand, IsFirstOfCall, with_name}
 use Rattle.rewriting.proofs.CaseMakes.{one_type_found}
 use Rattle.rewriting.proofs.Spines.{head_of, head_applied}

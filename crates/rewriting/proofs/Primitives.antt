@@ -13,11 +13,11 @@ use Rattle.chw_terms.specs.Evaluated.{evaluated}
 use Rattle.chw_terms.specs.TermTree.{TermTree, letrec, prim, case_of, size_of}
 use Rattle.chw_terms.specs.TermView.{applied}
 use Rattle.chw_terms.specs.Unrolled.{unrolled}
-use Rattle.group_laws.specs.Groups.{each_body}
-use Rattle.spine_types.specs.Given.{types_then}
-use Rattle.scenes.specs.Origins.{Origins}
-use Rattle.active_places.specs.Spots.{Spot}
-use Rattle.active_places.specs.Active.{Demands}
+use Rattle.typing_laws.specs.Groups.{each_body}
+use Rattle.typing_laws.specs.Given.{types_then}
+use Rattle.rewriting.specs.Origins.{Origins}
+use Rattle.rewriting.specs.Spots.{Spot}
+use Rattle.rewriting.specs.Active.{Demands}
 use Rattle.rewriting.specs.Demanded.{OfDemanded, prim_let, prim_case, DemandsLet, DemandsCase}
 use Rattle.rewriting.specs.Primitives.{OfPrimitives, unroll, elem, elem_at, delta, literal, word_given, HasValue}
 use Rattle.rewriting.specs.Shapes.{shift_args}
@@ -98,28 +98,28 @@ one_value p p' types types' words words' b b' h g x y z =
     cc
 
 pub one_primitive : {o : Origins} {at : Spot} {r r' : Rule} {e f a b : TermTree} → OfPrimitives o at r e a → OfPrimitives o at r' f b → r ≡ r' → e ≡ f → a ≡ b
-one_primitive (unroll {p = p} {types = types} {es = es} {e = e} c v u) (unroll {p = p'} {types = types'} {es = es'} {e = e'} c' v' u') k q =
+one_primitive (unroll {p = p} {types = types} {es = es} {e = e} c r v u) (unroll {p = p'} {types = types'} {es = es'} {e = e'} c' r' v' u') k q =
     let call = same_call p p' (types_then types es) (types_then types' es') q in
     let args = given_same types types' es es' call.given in
     let is : Some e ≡ Some e' = sym u ∙ (λ i. unrolled (call.prims i) (args.on_types i) (args.on_terms i)) ∙ u' in
     cc
-one_primitive (elem {j = j} w x y) (elem {j = j'} w' x' y') k q = let number : nat_lit j ≡ nat_lit j' = cc in cc
-one_primitive (elem w x y) (elem_at m x' y') k q = absurd cc
-one_primitive (elem_at m x y) (elem w x' y') k q = absurd cc
-one_primitive (elem_at m x y) (elem_at m' x' y') k q = cc
+one_primitive (elem {j = j} w x l y) (elem {j = j'} w' x' l' y') k q = let number : nat_lit j ≡ nat_lit j' = cc in cc
+one_primitive (elem w x l y) (elem_at m x' l' y') k q = absurd cc
+one_primitive (elem_at m x l y) (elem w x' l' y') k q = absurd cc
+one_primitive (elem_at m x l y) (elem_at m' x' l' y') k q = cc
 one_primitive (delta {p = p} {types = types} {words = words} {b = b} m v) (delta {p = p'} {types = types'} {words = words'} {b = b'} m' v') k q =
     let call = same_call p p' (types_then types (map literal words)) (types_then types' (map literal words')) q in
     let args = given_same types types' (map literal words) (map literal words') call.given in
     let words_are = words_same words words' args.on_terms in
     let value = one_value p p' types types' words words' b b' v v' call.prims args.on_types words_are in
     λ i. word_given (schema_type (call.prims i)) (value i)
-one_primitive (unroll c v u) (elem w' x' y') k q = absurd cc
-one_primitive (unroll c v u) (elem_at m' x' y') k q = absurd cc
-one_primitive (unroll c v u) (delta m' v') k q = absurd cc
-one_primitive (elem w x y) (unroll c' v' u') k q = absurd cc
-one_primitive (elem_at m x y) (unroll c' v' u') k q = absurd cc
-one_primitive (elem w x y) (delta m' v') k q = absurd cc
-one_primitive (elem_at m x y) (delta m' v') k q = absurd cc
-one_primitive (delta m v) (unroll c' v' u') k q = absurd cc
-one_primitive (delta m v) (elem w' x' y') k q = absurd cc
-one_primitive (delta m v) (elem_at m' x' y') k q = absurd cc
+one_primitive (unroll c r v u) (elem w' x' l' y') k q = absurd cc
+one_primitive (unroll c r v u) (elem_at m' x' l' y') k q = absurd cc
+one_primitive (unroll c r v u) (delta m' v') k q = absurd cc
+one_primitive (elem w x l y) (unroll c' r' v' u') k q = absurd cc
+one_primitive (elem_at m x l y) (unroll c' r' v' u') k q = absurd cc
+one_primitive (elem w x l y) (delta m' v') k q = absurd cc
+one_primitive (elem_at m x l y) (delta m' v') k q = absurd cc
+one_primitive (delta m v) (unroll c' r' v' u') k q = absurd cc
+one_primitive (delta m v) (elem w' x' l' y') k q = absurd cc
+one_primitive (delta m v) (elem_at m' x' l' y') k q = absurd cc

@@ -14,10 +14,10 @@ use Rattle.chw_terms.specs.FreeVariables.{free_in}
 use Rattle.chw_terms.specs.TermTree.{TermTree, global, prim}
 use Rattle.chw_terms.specs.TermView.{applied}
 use Rattle.chw_typing.specs.HeadTypes.{from_each}
-use Rattle.term_paths.specs.Paths.{with_part}
-use Rattle.scenes.specs.Origins.{MadeOf, Origins, origin_of}
-use Rattle.active_places.specs.Laws.{OnePlace}
-use Rattle.active_places.specs.Spots.{Spot}
+use Rattle.typing_laws.specs.Paths.{with_part}
+use Rattle.rewriting.specs.Origins.{MadeOf, Origins, origin_of}
+use Rattle.rewriting.specs.PlaceLaws.{OnePlace}
+use Rattle.rewriting.specs.Spots.{Spot}
 use Rattle.rewriting.specs.Calls.{call_origin}
 use Rattle.rewriting.specs.Numbers.{HasOrigin, IsNumberOf}
 use Rattle.rewriting.specs.Runs.{BecomesMade, of_call, of_lifted, After, no_call, known, one_more, opened, top_of, sort_at, IsOpening, Step, StepsTo, RunsTo, no_more, none_left, step_and, Run}
@@ -27,7 +27,7 @@ use Rattle.rewriting.specs.Calls.{OfWhole, spec_call}
 use Rattle.rewriting.specs.Instances.{HasInstance, on_core, on_whole}
 use Rattle.rewriting.specs.Signals.{OfSignals, spec_function}
 use Rattle.rewriting.specs.Steps.{Where, IsFirst}
-use Rattle.scenes.specs.Origins.{made_of}
+use Rattle.rewriting.specs.Origins.{made_of}
 use Rattle.std.proofs.Common.{arith, zero, suc, length}
 use Rattle.rewriting.proofs.CaseMakes.{one_type_found}
 use Rattle.rewriting.proofs.Lists.{somes_same, origin_within}

@@ -3,8 +3,8 @@ use Rattle.std.proofs.Common.{◌≡◌, sym, subst, List, ◌∷◌}
 use Rattle.chw_types.specs.TypeTree.{TypeTree, fun, signal}
 use Rattle.chw_terms.specs.declared.rule.Rule.{Rule}
 use Rattle.chw_terms.specs.TermTree.{TermTree, made}
-use Rattle.scenes.specs.Origins.{Origins, origin_of, eta_expanded}
-use Rattle.active_places.specs.Spots.{Spot}
+use Rattle.rewriting.specs.Origins.{Origins, origin_of, eta_expanded}
+use Rattle.rewriting.specs.Spots.{Spot}
 use Rattle.rewriting.specs.Lifted.{Joins, ap_pure, fmap_pure, fmap_fmap, fmap_ap, ap_value, ap_fmap, ap_ap}
 use Rattle.rewriting.specs.Numbers.{IsNumberOf}
 use Rattle.rewriting.specs.Shapes.{fmap_of, pure_of}

@@ -6,12 +6,12 @@ use Rattle.chw_terms.specs.declared.rule.Rule.{Rule}
 use Rattle.chw_terms.specs.declared.rule.Rule.TheVariants.{TyBeta, Beta, AppLet, AppCase, CaseCon, CaseLet, CaseCase, Proj, PrimLet, PrimCase, Flat, Dead, Inline, Unfold, Unroll, Elem, Delta, ApPure, Eta, Spec, Anf}
 use Rattle.chw_terms.specs.declared.scene.Made.{Made}
 use Rattle.chw_terms.specs.TermTree.{TermTree}
-use Rattle.term_paths.specs.Paths.{IsEarlier}
-use Rattle.term_paths.proofs.Order.{one_is_earlier}
-use Rattle.scenes.specs.Origins.{made_of}
-use Rattle.active_places.specs.Active.{IsPlaceOf}
-use Rattle.active_places.specs.Laws.{OnePlace}
-use Rattle.active_places.specs.Spots.{Spot}
+use Rattle.typing_laws.specs.Paths.{IsEarlier}
+use Rattle.typing_laws.proofs.Order.{one_is_earlier}
+use Rattle.rewriting.specs.Origins.{made_of}
+use Rattle.rewriting.specs.Active.{IsPlaceOf}
+use Rattle.rewriting.specs.PlaceLaws.{OnePlace}
+use Rattle.rewriting.specs.Spots.{Spot}
 use Rattle.rewriting.specs.Instances.{HasInstance}
 use Rattle.rewriting.specs.Steps.{number_of, origins_in, Where, IsBefore, HasStep, IsFirst}
 use Rattle.rewriting.proofs.Makes.{one_instance}

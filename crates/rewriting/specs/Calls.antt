@@ -13,10 +13,10 @@ use Rattle.chw_terms.specs.TermMoves.{rename, shift}
 use Rattle.chw_terms.specs.TermTree.{TermTree, var, global, made, letrec, no_bindings, bind}
 use Rattle.chw_terms.specs.TermView.{applied}
 use Rattle.chw_typing.specs.Typing.{HasType}
-use Rattle.found_types.specs.Finding.{Finds}
-use Rattle.scenes.specs.Named.{IsNamed}
-use Rattle.scenes.specs.Origins.{Origins, setting_at, origin_of, under_each}
-use Rattle.active_places.specs.Spots.{Spot, HasLets}
+use Rattle.typing_laws.specs.Finding.{Finds}
+use Rattle.rewriting.specs.Named.{IsNamed}
+use Rattle.rewriting.specs.Origins.{Origins, setting_at, origin_of, under_each}
+use Rattle.rewriting.specs.Spots.{Spot, HasLets}
 use Rattle.rewriting.specs.Numbers.{IsNumberOf}
 use Rattle.rewriting.specs.Operands.{IsFirstOfCall, NoneNeedsName, with_name}
 use Rattle.rewriting.specs.Shapes.{IsVariable, IsLet}

@@ -8,10 +8,10 @@ use Rattle.chw_terms.specs.declared.term.Arg.{Arg}
 use Rattle.chw_terms.specs.declared.term.Arg.TheVariants.{OfTerm}
 use Rattle.chw_terms.specs.TermTree.{TermTree, letrec, prim, case_of, Group, size_of, Alts}
 use Rattle.chw_terms.specs.TermView.{applied}
-use Rattle.group_laws.specs.Groups.{each_body}
-use Rattle.scenes.specs.Origins.{Origins}
-use Rattle.active_places.specs.Spots.{Spot, asked_for}
-use Rattle.active_places.specs.Active.{Demands}
+use Rattle.typing_laws.specs.Groups.{each_body}
+use Rattle.rewriting.specs.Origins.{Origins}
+use Rattle.rewriting.specs.Spots.{Spot, asked_for}
+use Rattle.rewriting.specs.Active.{Demands}
 use Rattle.rewriting.specs.Shapes.{shift_args}
 
 -- the primitive's demanded argument of this number is a letrec; or a case

@@ -11,8 +11,8 @@ use Rattle.chw_terms.specs.declared.term.Arg.{Arg}
 use Rattle.chw_terms.specs.TermTree.{TermTree}
 use Rattle.chw_terms.specs.TermView.{applied}
 use Rattle.chw_typing.specs.Typing.{HasType}
-use Rattle.scenes.specs.Origins.{Origins, setting_at}
-use Rattle.active_places.specs.Spots.{Spot}
+use Rattle.rewriting.specs.Origins.{Origins, setting_at}
+use Rattle.rewriting.specs.Spots.{Spot}
 use Rattle.rewriting.specs.Calls.{OfWhole}
 use Rattle.rewriting.specs.Cases.{OfCases}
 use Rattle.rewriting.specs.Demanded.{OfDemanded}

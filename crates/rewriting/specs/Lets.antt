@@ -11,10 +11,10 @@ use Rattle.chw_terms.specs.Occurs.{occurs}
 use Rattle.chw_terms.specs.TermMoves.{rename, rename_group, shift, sub, sub_group}
 use Rattle.chw_terms.specs.TermMoves.{in_place_of, lowered, exchanged}
 use Rattle.chw_terms.specs.TermTree.{TermTree, letrec, Group, no_bindings, bind, size_of}
-use Rattle.group_laws.specs.Groups.{joined, Reached}
-use Rattle.scenes.specs.Named.{IsNamed}
-use Rattle.scenes.specs.Origins.{Origins}
-use Rattle.active_places.specs.Spots.{Spot}
+use Rattle.typing_laws.specs.Groups.{joined, Reached}
+use Rattle.rewriting.specs.Named.{IsNamed}
+use Rattle.rewriting.specs.Origins.{Origins}
+use Rattle.rewriting.specs.Spots.{Spot}
 use Rattle.rewriting.specs.Shapes.{IsOfHead, NoLetIn, or_body, shift_group, marked, closed_up}
 
 -- the letrec `cs` in x, which is a right side with the type t, has joined the bindings around it:

@@ -4,9 +4,9 @@ use Rattle.chw_types.specs.Representable.{Representable}
 use Rattle.chw_types.specs.TypeTree.{TypeTree, fun, signal}
 use Rattle.chw_terms.specs.TermMoves.{shift}
 use Rattle.chw_terms.specs.TermTree.{TermTree, var, lam, app}
-use Rattle.found_types.specs.Finding.{Finds}
-use Rattle.scenes.specs.Origins.{Origins, setting_at}
-use Rattle.active_places.specs.Spots.{Spot}
+use Rattle.typing_laws.specs.Finding.{Finds}
+use Rattle.rewriting.specs.Origins.{Origins, setting_at}
+use Rattle.rewriting.specs.Spots.{Spot}
 use Rattle.rewriting.specs.Shapes.{fmap_of, ap_of, pure_of}
 
 -- this type is found for the term at the place

@@ -5,8 +5,8 @@ use Rattle.chw_terms.specs.declared.program.Def.{Def}
 use Rattle.chw_terms.specs.declared.rule.Rule.{Rule}
 use Rattle.chw_terms.specs.declared.rule.Rule.TheVariants.{Unfold}
 use Rattle.chw_terms.specs.TermTree.{TermTree, global, made}
-use Rattle.scenes.specs.Origins.{MadeOf, Origins}
-use Rattle.active_places.specs.Spots.{Spot, HasLets}
+use Rattle.rewriting.specs.Origins.{MadeOf, Origins}
+use Rattle.rewriting.specs.Spots.{Spot, HasLets}
 
 -- not where the definition may be called
 pub data OfNames (o : Origins) (at : Spot) : Rule → TermTree → TermTree → Type 0 where

@@ -3,7 +3,7 @@ use Rattle.std.specs.Prelude.{◌≡◌, ◌⊎◌, ℕ, ◌<◌, length, Some}
 use Rattle.std.specs.List.{slice_get}
 use Rattle.chw_terms.specs.Evaluated.{evaluated_in}
 use Rattle.chw_terms.specs.TermTree.{TermTree}
-use Rattle.scenes.specs.Origins.{MadeOf, Origins}
+use Rattle.rewriting.specs.Origins.{MadeOf, Origins}
 
 -- the made definition of this number has this origin, with closed naturals as numbers
 abbrev pub HasOrigin : Origins → TermTree → ℕ → Type 0

@@ -1,10 +1,11 @@
 -- What rules make of a primitive on vectors, and of one on words, with what it needs.
-use Rattle.std.specs.Prelude.{◌≡◌, ◌⊎◌, ℕ, min, Bool, true, List, [], ◌∷◌, map, length, Some}
+use Rattle.std.specs.Prelude.{◌≡◌, ◌⊎◌, ℕ, ◌≤◌, min, Bool, true, List, [], ◌∷◌, map, length, Some}
 use Rattle.std.specs.List.{slice_get, AllByRecursion}
 use Rattle.chw_base.specs.declared.limits.TheConstants.{SCALAR_BITS}
 use Rattle.chw_bits.specs.Bits.{number_of}
 use Rattle.chw_types.specs.declared.kind.Scalar.{Scalar}
 use Rattle.chw_types.specs.declared.kind.Scalar.TheVariants.{U}
+use Rattle.chw_types.specs.Polynomials.{greatest}
 use Rattle.chw_types.specs.TypeTree.{TypeTree, nat_lit, scalar, fun, for_all}
 use Rattle.chw_prims.specs.declared.prim.Primitive.{Primitive as Prim}
 use Rattle.chw_prims.specs.declared.prim.Primitive.TheVariants.{VGet, VGetC, VAt}
@@ -18,11 +19,11 @@ use Rattle.chw_terms.specs.TermTree.{TermTree, con, prim, lit, vec_lit, Terms}
 use Rattle.chw_terms.specs.TermView.{applied}
 use Rattle.chw_terms.specs.Unrolled.{CanUnroll, unrolled, at_types, widths_in, IsUpTo}
 use Rattle.chw_typing.specs.Typing.{HasType}
-use Rattle.spine_types.specs.Given.{types_then}
-use Rattle.term_paths.specs.Paths.{element_at}
-use Rattle.scenes.specs.Named.{IsNamed}
-use Rattle.scenes.specs.Origins.{Origins, setting_at}
-use Rattle.active_places.specs.Spots.{Spot, asked_for}
+use Rattle.typing_laws.specs.Given.{types_then}
+use Rattle.typing_laws.specs.Paths.{element_at}
+use Rattle.rewriting.specs.Named.{IsNamed}
+use Rattle.rewriting.specs.Origins.{Origins, setting_at}
+use Rattle.rewriting.specs.Spots.{Spot, asked_for}
 
 -- no constant, and the first of these, a vector, is of a type that isn't named
 pub record HasUnnamedVector (o : Origins) (at : Spot) (es : List TermTree) : Type 0 where
@@ -58,21 +59,30 @@ pub record HasValue
     pub closed : map evaluated types ≡ map (λ n. nat_lit n) nats
     pub gives : value_of p nats (map (λ w. w.1) words) ≡ Some b
 
+-- each of these types that is a number is one that naturals have
+abbrev pub AreInRange : List TypeTree → Type 0
+AreInRange types =
+    AllByRecursion (λ t. (n : ℕ) → evaluated t ≡ nat_lit n → n ≤ greatest) types
+
 pub data OfPrimitives (o : Origins) (at : Spot) : Rule → TermTree → TermTree → Type 0 where
   -- a primitive on vectors, with all its arguments and within the limits, is written out; an
-  -- element by a word only where the vector can't be named, and never in constants
+  -- element by a word only where the vector can't be named, and never in constants. No limit bounds
+  -- the number of places of a rotation, so that the range of naturals does
   unroll : {p : Prim} {types : List TypeTree} {es : List TermTree} {e : TermTree}
-      → CanUnroll p types es → (p ≡ VAt → HasUnnamedVector o at es)
+      → CanUnroll p types es → AreInRange types → (p ≡ VAt → HasUnnamedVector o at es)
       → unrolled p types es ≡ Some e
       → OfPrimitives o at Unroll (applied (prim p) (types_then types es)) e
-  -- the element of a written vector
+  -- the element of a written vector, by a number that naturals have
   elem : {p : Prim} {i n a t : TypeTree} {es : Terms} {j : ℕ} {e : TermTree}
-      → ((p ≡ VGet) ⊎ (p ≡ VGetC)) → evaluated i ≡ nat_lit j → element_at es j ≡ Some e
+      → ((p ≡ VGet) ⊎ (p ≡ VGetC))
+      → evaluated i ≡ nat_lit j → j ≤ greatest → element_at es j ≡ Some e
       → OfPrimitives o at Elem
       (applied (prim p) (types_then (i ∷ n ∷ a ∷ []) (vec_lit t es ∷ []))) e
-  -- in constants also by a literal; a place behind the last one is the last one
+  -- in constants also by a literal; a place behind the last one, whose number is such a one too, is
+  -- the last one
   elem_at : {n k a t : TypeTree} {es : Terms} {bits : List Bool} {m : ℕ} {e : TermTree}
-      → at.mode ≡ K → evaluated n ≡ nat_lit m → element_at es (min (number_of bits) m) ≡ Some e
+      → at.mode ≡ K
+      → evaluated n ≡ nat_lit m → m ≤ greatest → element_at es (min (number_of bits) m) ≡ Some e
       → OfPrimitives o at Elem
       (applied (prim VAt) (types_then (n ∷ k ∷ a ∷ []) (vec_lit t es ∷ lit U bits ∷ []))) e
   -- in constants a primitive on literals becomes its value

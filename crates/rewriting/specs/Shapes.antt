@@ -18,9 +18,9 @@ use Rattle.chw_terms.specs.TermTree.{Group, no_bindings, bind, Alts, no_alts, al
 use Rattle.chw_terms.specs.TermView.{applied}
 use Rattle.chw_terms.specs.Unrolled.{each, named}
 use Rattle.chw_typing.specs.Alternatives.{Hides}
-use Rattle.group_laws.specs.Groups.{rename_arg}
-use Rattle.spine_types.specs.Given.{types_then}
-use Rattle.term_paths.specs.Paths.{Branch}
+use Rattle.typing_laws.specs.Groups.{rename_arg}
+use Rattle.typing_laws.specs.Given.{types_then}
+use Rattle.typing_laws.specs.Paths.{Branch}
 
 -- the place is the head of a value or of a circuit
 abbrev pub IsOfHead : Mode → Type 0

@@ -7,9 +7,9 @@ use Rattle.chw_terms.specs.declared.rule.Rule.{Rule}
 use Rattle.chw_terms.specs.declared.rule.Rule.TheVariants.{ApPure, Eta, Spec}
 use Rattle.chw_terms.specs.TermTree.{TermTree, made}
 use Rattle.chw_typing.specs.HeadTypes.{from_each}
-use Rattle.found_types.specs.Finding.{Finds}
-use Rattle.scenes.specs.Origins.{Origins, setting_at, origin_of, eta_expanded}
-use Rattle.active_places.specs.Spots.{Spot}
+use Rattle.typing_laws.specs.Finding.{Finds}
+use Rattle.rewriting.specs.Origins.{Origins, setting_at, origin_of, eta_expanded}
+use Rattle.rewriting.specs.Spots.{Spot}
 use Rattle.rewriting.specs.Lifted.{Joins}
 use Rattle.rewriting.specs.Numbers.{IsNumberOf}
 use Rattle.rewriting.specs.Shapes.{IsOfCircuit, IsClosed, IsMade, leading_lambdas, fmap_of}

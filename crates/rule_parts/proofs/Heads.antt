@@ -10,8 +10,8 @@ use Rattle.chw_terms.specs.declared.term.Head.{Head}
 use Rattle.chw_terms.specs.declared.term.Head.TheVariants.{Var, Global, Made, Lam, TyLam, LetRec, Con, PrimOf, Lit, VecLit, Case}
 use Rattle.chw_terms.specs.TermTree.{TermTree, app, ty_app, prim}
 use Rattle.chw_terms.specs.TermView.{tree_of, applied}
-use Rattle.scenes.specs.Origins.{Origins}
-use Rattle.active_places.specs.Spots.{Spot, asked_for}
+use Rattle.rewriting.specs.Origins.{Origins}
+use Rattle.rewriting.specs.Spots.{Spot, asked_for}
 use Rattle.rewriting.specs.Instances.{Makes}
 use Rattle.rewriting.proofs.Spines.{IsBare, head_is, args_are, fronts_same}
 use Rattle.rule_parts.specs.Cores.{MakesOf, of_core, Answers, AnswersCore}

@@ -6,8 +6,8 @@ use Rattle.chw_terms.specs.declared.term.Arg.{Arg}
 use Rattle.chw_terms.specs.TermTree.{TermTree}
 use Rattle.chw_terms.specs.TermView.{applied}
 use Rattle.chw_typing.specs.Typing.{HasType}
-use Rattle.scenes.specs.Origins.{Origins, setting_at}
-use Rattle.active_places.specs.Spots.{Spot}
+use Rattle.rewriting.specs.Origins.{Origins, setting_at}
+use Rattle.rewriting.specs.Spots.{Spot}
 use Rattle.rewriting.specs.Instances.{Makes, HasInstance}
 
 -- the rule makes this of the term: of a core of it, and the arguments that are left stay behind

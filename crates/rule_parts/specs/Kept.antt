@@ -6,9 +6,9 @@ use Rattle.chw_terms.specs.TermTree.{TermTree}
 use Rattle.chw_typing.specs.Programs.{IsComplete}
 use Rattle.chw_typing.specs.Scopes.{AreTermTypes}
 use Rattle.chw_typing.specs.Typing.{HasType, HasTypeUpTo}
-use Rattle.scenes.specs.Origins.{origins_of, setting_at}
-use Rattle.scenes.specs.Typed.{IsTypedScene}
-use Rattle.active_places.specs.Spots.{Spot}
+use Rattle.rewriting.specs.Origins.{origins_of, setting_at}
+use Rattle.rewriting.specs.Typed.{IsTypedScene}
+use Rattle.rewriting.specs.Spots.{Spot}
 
 -- in a typed scene the new term has each type of the old one, up to naturals, and is complete where
 -- that is

@@ -1,7 +1,7 @@
 //! Whether a type is named in a mode.
 ghost use Rattle.std.specs.Prelude.{◌↔◌, IfOk, IsTrue};
 ghost use Rattle.chw_types.specs.References.{HasNoCycle};
-ghost use Rattle.scenes.specs.Named.{IsNamed};
+ghost use Rattle.rewriting.specs.Named.{IsNamed};
 
 use chw_base::NoMemory;
 use chw_terms::Mode;

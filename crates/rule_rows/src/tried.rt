@@ -12,10 +12,10 @@ use crate::scopes::{VARIABLES, below_lambdas};
 use chw_base::{Or, Seq};
 use chw_terms::{Mode, Place, Program, Rule, Scene, Term};
 use looks::LookCount;
-use named_types::laws::data_types_in_order;
 use row_notation::put_term;
 use row_tables::{Unread, put};
 use std::alloc::Global;
+use typing_laws::named_laws::data_types_in_order;
 
 // The body of the definition of this name.
 fn body_of<'p>(program: &'p Program, name: &[u8]) -> Option<&'p Term> {

@@ -4,8 +4,8 @@ ghost use Rattle.chw_types.specs.References.{HasNoCycle};
 ghost use Rattle.chw_terms.specs.Tidy.{IsTidy};
 ghost use Rattle.chw_typing.specs.Programs.{IsSound, setting_of};
 ghost use Rattle.chw_typing.specs.Scopes.{setting_in};
-ghost use Rattle.scenes.specs.Origins.{origins_of};
-ghost use Rattle.active_places.specs.Spots.{spot_of};
+ghost use Rattle.rewriting.specs.Origins.{origins_of};
+ghost use Rattle.rewriting.specs.Spots.{spot_of};
 ghost use Rattle.rule_parts.specs.Cores.{HasTypeAt};
 ghost use Rattle.rules_flow.specs.Rules.{IsOfFlow};
 ghost use Rattle.term_types.specs.Answers.{IsReady};
@@ -20,11 +20,11 @@ use chw_parser::parse;
 use chw_resolve::resolve;
 use chw_terms::{Mode, Place, Program, Rule, Scene, Term};
 use looks::LookCount;
-use named_types::laws::data_types_in_order;
 use rules_flow::try_typed;
 use std::alloc::Global;
 use term_types::Signature;
 use typed_places::is_typed;
+use typing_laws::named_laws::data_types_in_order;
 
 // The description of the scene.
 const DESCRIPTION: &[u8] = b"domain A; def one : Unsigned 8 = 1u8; top one () (o);";

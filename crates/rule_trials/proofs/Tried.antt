@@ -4,8 +4,8 @@ use Rattle.std.specs.List.{slice_index_or}
 use Rattle.std.proofs.lemmas.List.{get_or_default}
 use Rattle.chw_terms.specs.declared.rule.Rule.{Rule}
 use Rattle.chw_terms.specs.TermTree.{TermTree}
-use Rattle.scenes.specs.Origins.{Origins}
-use Rattle.active_places.specs.Spots.{Spot}
+use Rattle.rewriting.specs.Origins.{Origins}
+use Rattle.rewriting.specs.Spots.{Spot}
 use Rattle.rewriting.specs.Instances.{HasInstance}
 use Rattle.rule_parts.specs.Cores.{IsInstanceAnswer}
 use Rattle.rule_trials.specs.Trials.{built, HasNoInstance, IsTrial}

@@ -10,8 +10,8 @@ use Rattle.chw_terms.specs.declared.rule.Rule.TheVariants.{Eta, Anf}
 use Rattle.chw_terms.specs.TermTree.{TermTree}
 use Rattle.chw_typing.specs.Scopes.{Setting}
 use Rattle.chw_typing.specs.Typing.{HasType}
-use Rattle.scenes.specs.Origins.{Origins}
-use Rattle.active_places.specs.Spots.{Spot}
+use Rattle.rewriting.specs.Origins.{Origins}
+use Rattle.rewriting.specs.Spots.{Spot}
 use Rattle.rewriting.specs.Instances.{HasInstance}
 use Rattle.rewriting.specs.Steps.{number_of}
 use Rattle.rule_trials.specs.declared.trial.Trial.{Trial}

@@ -2,8 +2,8 @@
 ghost use Rattle.std.specs.Prelude.{◌≡◌, [], reverse, IfOk, Contains};
 ghost use Rattle.chw_types.specs.References.{HasNoCycle};
 ghost use Rattle.chw_typing.specs.Scopes.{setting_in};
-ghost use Rattle.scenes.specs.Origins.{origins_of};
-ghost use Rattle.active_places.specs.Spots.{spot_of};
+ghost use Rattle.rewriting.specs.Origins.{origins_of};
+ghost use Rattle.rewriting.specs.Spots.{spot_of};
 ghost use Rattle.term_types.specs.Answers.{IsReady};
 ghost use Rattle.term_types.specs.Signatures.{IsSignature};
 ghost use Rattle.rule_parts.specs.Cores.{HasTypeAt, IsInstanceAnswer};
@@ -12,7 +12,7 @@ ghost use Rattle.rule_trials.specs.Trials.{built, HasSomeType, IsFirstRule};
 use chw_base::NoMemory;
 use chw_terms::{Place, Rule, Scene, Term};
 use looks::Looks;
-use scenes::laws::settings_of_scenes;
+use rewriting::scene_laws::settings_of_scenes;
 use std::alloc::Global;
 use term_types::Signature;
 

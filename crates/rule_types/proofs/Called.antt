@@ -16,15 +16,15 @@ use Rattle.chw_terms.specs.declared.scene.Sort.TheVariants.{Value}
 use Rattle.chw_typing.specs.HeadTypes.{from_each}
 use Rattle.chw_typing.specs.Programs.{IsComplete}
 use Rattle.chw_typing.specs.Scopes.{Setting}
-use Rattle.typed_parts.proofs.Lowered.{moved_typed}
-use Rattle.spine_types.specs.Given.{AsksForNone}
-use Rattle.found_types.proofs.FoundTyped.{found_is_type}
-use Rattle.found_types.specs.Finding.{Finds, f_lam}
-use Rattle.scenes.specs.Laws.{NamedIsTermKind}
-use Rattle.scenes.specs.Named.{IsNamed, LeadsToNamed, UnderLambdas, from_named, mode_of, to_named, under_none, under_one}
-use Rattle.scenes.specs.Origins.{HoldsNoMade, MadeOf, Origins, origin_at, origin_of, setting_at, under_each, with_origins}
-use Rattle.scenes.specs.Typed.{IsTypedMade}
-use Rattle.active_places.specs.Spots.{HasLets, Spot}
+use Rattle.typing_laws.proofs.Lowered.{moved_typed}
+use Rattle.typing_laws.specs.Given.{AsksForNone}
+use Rattle.typing_laws.proofs.FoundTyped.{found_is_type}
+use Rattle.typing_laws.specs.Finding.{Finds, f_lam}
+use Rattle.rewriting.specs.SceneLaws.{NamedIsTermKind}
+use Rattle.rewriting.specs.Named.{IsNamed, LeadsToNamed, UnderLambdas, from_named, mode_of, to_named, under_none, under_one}
+use Rattle.rewriting.specs.Origins.{HoldsNoMade, MadeOf, Origins, origin_at, origin_of, setting_at, under_each, with_origins}
+use Rattle.rewriting.specs.Typed.{IsTypedMade}
+use Rattle.rewriting.specs.Spots.{HasLets, Spot}
 use Rattle.rewriting.specs.Calls.{IsCall, call_origin, to_lambdas}
 use Rattle.rewriting.specs.Runs.{first_body, sort_at}
 use Rattle.rewriting.specs.Shapes.{leading_lambdas}

@@ -19,14 +19,14 @@ use Rattle.chw_typing.specs.HeadTypes.{from_each}
 use Rattle.chw_typing.specs.Programs.{IsComplete, IsSound}
 use Rattle.chw_typing.specs.Scopes.{AreTermTypes, HasKind, Setting}
 use Rattle.chw_typing.specs.Typing.{HasType, HasTypeUpTo}
-use Rattle.group_laws.proofs.Free.{free_occur}
-use Rattle.typed_parts.proofs.Where.{renamed_where}
-use Rattle.found_types.proofs.FoundTyped.{found_is_type}
-use Rattle.scenes.proofs.PutMade.{made_put}
-use Rattle.scenes.specs.Laws.{IsKindOf, NamedIsTermKind}
-use Rattle.scenes.specs.Named.{IsNamed}
-use Rattle.scenes.specs.Origins.{MadeOf, Origins, origin_at, setting_at, under_each}
-use Rattle.active_places.specs.Spots.{Spot}
+use Rattle.typing_laws.proofs.Free.{free_occur}
+use Rattle.typing_laws.proofs.Where.{renamed_where}
+use Rattle.typing_laws.proofs.FoundTyped.{found_is_type}
+use Rattle.rewriting.proofs.PutMade.{made_put}
+use Rattle.rewriting.specs.SceneLaws.{IsKindOf, NamedIsTermKind}
+use Rattle.rewriting.specs.Named.{IsNamed}
+use Rattle.rewriting.specs.Origins.{MadeOf, Origins, origin_at, setting_at, under_each}
+use Rattle.rewriting.specs.Spots.{Spot}
 use Rattle.rewriting.specs.Calls.{IsCall, call_origin, to_lambdas}
 use Rattle.rule_types.proofs.Complete.{renamed_complete}
 use Rattle.rule_types.proofs.Made.{origins_put, origins_put_complete, put_complete}

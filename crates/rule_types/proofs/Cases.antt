@@ -37,16 +37,16 @@ use Rattle.chw_typing.specs.HeadTypes.{IsLookedAt, PatternOf, fields_at, of_any,
 use Rattle.chw_typing.specs.Programs.{IsSound}
 use Rattle.chw_typing.specs.Scopes.{AreSame, AreTermTypes, HasKind, Setting, declared, with_more}
 use Rattle.chw_typing.specs.Typing.{Binds, HasType, HasTypeUpTo, h_case, h_letrec, h_var}
-use Rattle.group_laws.specs.Groups.{each_body}
-use Rattle.term_paths.specs.Paths.{Branch}
-use Rattle.typed_parts.proofs.Applied.{functions_compose}
-use Rattle.spine_types.proofs.Lets.{let_typed}
-use Rattle.spine_types.proofs.Saturated.{con_at_arguments}
-use Rattle.spine_types.specs.Given.{AllAllow, AreGiven, types_then}
-use Rattle.named_types.proofs.NamedKinds.{port_cir}
-use Rattle.named_types.proofs.NamedParts.{fields_ports}
-use Rattle.scenes.specs.Origins.{Origins}
-use Rattle.active_places.specs.Spots.{Spot}
+use Rattle.typing_laws.specs.Groups.{each_body}
+use Rattle.typing_laws.specs.Paths.{Branch}
+use Rattle.typing_laws.proofs.Applied.{functions_compose}
+use Rattle.typing_laws.proofs.Lets.{let_typed}
+use Rattle.typing_laws.proofs.Saturated.{con_at_arguments}
+use Rattle.typing_laws.specs.Given.{AllAllow, AreGiven, types_then}
+use Rattle.typing_laws.proofs.NamedKinds.{port_cir}
+use Rattle.typing_laws.proofs.NamedParts.{fields_ports}
+use Rattle.rewriting.specs.Origins.{Origins}
+use Rattle.rewriting.specs.Spots.{Spot}
 use Rattle.rewriting.specs.Cases.{OfCases, case_any, case_case, case_con, case_let, case_lit, proj}
 use Rattle.rewriting.specs.Shapes.{IsTakenBy, or_body, projections, shift_alts, with_fields}
 use Rattle.rule_types.proofs.Bodies.{BodiesBecome, KindsBecome, each_case, or_body_typed, up_to}

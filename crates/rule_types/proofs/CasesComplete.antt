@@ -21,11 +21,11 @@ use Rattle.chw_typing.proofs.Heads.{is_constructor}
 use Rattle.chw_typing.specs.Alternatives.{IsCovered}
 use Rattle.chw_typing.specs.HeadTypes.{PatternOf, fields_at, of_any, of_con, of_lit}
 use Rattle.chw_typing.specs.Programs.{AltsAreComplete, GroupIsComplete, IsComplete}
-use Rattle.group_laws.proofs.Parts.{covered_by, patterns_renamed}
-use Rattle.term_paths.specs.Paths.{Branch}
-use Rattle.spine_types.specs.Given.{types_then}
-use Rattle.scenes.specs.Origins.{Origins}
-use Rattle.active_places.specs.Spots.{Spot}
+use Rattle.typing_laws.proofs.GroupParts.{covered_by, patterns_renamed}
+use Rattle.typing_laws.specs.Paths.{Branch}
+use Rattle.typing_laws.specs.Given.{types_then}
+use Rattle.rewriting.specs.Origins.{Origins}
+use Rattle.rewriting.specs.Spots.{Spot}
 use Rattle.rewriting.specs.Cases.{OfCases, case_any, case_case, case_con, case_let, case_lit, proj}
 use Rattle.rewriting.specs.Shapes.{IsTakenBy, by_first, by_later, projections, shift_alts, with_fields}
 use Rattle.rule_types.proofs.Complete.{ArgsComplete, each_complete, or_body_complete, renamed_alts_complete, renamed_complete, spine_complete}

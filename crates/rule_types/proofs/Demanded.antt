@@ -15,10 +15,10 @@ use Rattle.chw_typing.proofs.SameScopes.{are_same_self}
 use Rattle.chw_typing.specs.Programs.{IsComplete, IsSound}
 use Rattle.chw_typing.specs.Scopes.{AreTermTypes, Setting, declared}
 use Rattle.chw_typing.specs.Typing.{HasType, HasTypeUpTo, h_letrec}
-use Rattle.group_laws.specs.Groups.{each_body}
-use Rattle.typed_parts.proofs.Applied.{functions_compose}
-use Rattle.scenes.specs.Origins.{Origins}
-use Rattle.active_places.specs.Spots.{Spot}
+use Rattle.typing_laws.specs.Groups.{each_body}
+use Rattle.typing_laws.proofs.Applied.{functions_compose}
+use Rattle.rewriting.specs.Origins.{Origins}
+use Rattle.rewriting.specs.Spots.{Spot}
 use Rattle.rewriting.specs.Demanded.{OfDemanded, prim_case, prim_let}
 use Rattle.rewriting.specs.Shapes.{shift_args}
 use Rattle.rule_types.proofs.Bodies.{BodiesBecome, KindsBecome, each_case, up_to}

@@ -26,11 +26,11 @@ use Rattle.chw_typing.proofs.TypesRenamed.{closed_put_typed, closed_type_put}
 use Rattle.chw_typing.specs.Programs.{IsComplete, IsSound}
 use Rattle.chw_typing.specs.Scopes.{AreSame, AreTermTypes, HasKind, IsTermType, Setting, declared, under_binder, with_more}
 use Rattle.chw_typing.specs.Typing.{HasType, HasTypeUpTo, bound_and, h_app, h_lam, h_letrec, h_ty_app, h_ty_lam, h_var, none_bound}
-use Rattle.group_laws.specs.Groups.{each_body}
-use Rattle.typed_parts.proofs.Applied.{type_applied_kind}
-use Rattle.found_types.proofs.FoundTyped.{found_is_type}
-use Rattle.scenes.specs.Origins.{Origins}
-use Rattle.active_places.specs.Spots.{Spot}
+use Rattle.typing_laws.specs.Groups.{each_body}
+use Rattle.typing_laws.proofs.Applied.{type_applied_kind}
+use Rattle.typing_laws.proofs.FoundTyped.{found_is_type}
+use Rattle.rewriting.specs.Origins.{Origins}
+use Rattle.rewriting.specs.Spots.{Spot}
 use Rattle.rewriting.specs.Functions.{OfFunctions, app_case, app_case_type, app_let, app_let_type, beta, ty_beta}
 use Rattle.rewriting.specs.Shapes.{shift_alts}
 use Rattle.rule_types.proofs.Bodies.{BodiesBecome, KindsBecome, each_case, renames_past, shifted_more, up_to, up_to_same}

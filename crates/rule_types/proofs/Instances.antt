@@ -7,9 +7,9 @@ use Rattle.chw_terms.specs.declared.term.Arg.TheVariants.{OfTerm}
 use Rattle.chw_terms.specs.declared.rule.Rule.{Rule}
 use Rattle.chw_terms.specs.declared.rule.Rule.TheVariants.{Anf, ApPure, AppCase, AppLet, Beta, CaseCase, CaseCon, CaseLet, Dead, Delta, Elem, Eta, Flat, Inline, PrimCase, PrimLet, Proj, Spec, TyBeta, Unfold, Unroll}
 use Rattle.chw_typing.specs.Programs.{IsComplete}
-use Rattle.spine_types.proofs.Spines.{head_changed}
-use Rattle.scenes.specs.Origins.{Origins, setting_at}
-use Rattle.active_places.specs.Spots.{Spot}
+use Rattle.typing_laws.proofs.TypedSpines.{head_changed}
+use Rattle.rewriting.specs.Origins.{Origins, setting_at}
+use Rattle.rewriting.specs.Spots.{Spot}
 use Rattle.rewriting.specs.Calls.{OfWhole, anf_call, anf_result, spec_call}
 use Rattle.rewriting.specs.Instances.{HasInstance, Makes, on_core, on_whole}
 use Rattle.rule_types.proofs.Cases.{cases_keep}

@@ -21,13 +21,13 @@ use Rattle.chw_typing.specs.Laws.{PutsTerms, Renames}
 use Rattle.chw_typing.specs.Programs.{IsSound}
 use Rattle.chw_typing.specs.Scopes.{AreTermTypes, HasKind, Setting, declared, with_more}
 use Rattle.chw_typing.specs.Typing.{AreBound, HasType, HasTypeUpTo, bound_and}
-use Rattle.group_laws.specs.Groups.{Reached, binding_at, from_body, from_side, joined}
-use Rattle.typed_parts.proofs.Joined.{first_bound, join_bound, second_bound}
-use Rattle.typed_parts.proofs.Lowered.{in_place_puts, lowered_typed}
-use Rattle.typed_parts.proofs.Where.{renamed_where}
-use Rattle.typed_parts.specs.Laws.{RenamesWhere}
-use Rattle.scenes.specs.Origins.{Origins}
-use Rattle.active_places.specs.Spots.{Spot}
+use Rattle.typing_laws.specs.Groups.{Reached, binding_at, from_body, from_side, joined}
+use Rattle.typing_laws.proofs.Joined.{first_bound, join_bound, second_bound}
+use Rattle.typing_laws.proofs.Lowered.{in_place_puts, lowered_typed}
+use Rattle.typing_laws.proofs.Where.{renamed_where}
+use Rattle.typing_laws.specs.TypedPartLaws.{RenamesWhere}
+use Rattle.rewriting.specs.Origins.{Origins}
+use Rattle.rewriting.specs.Spots.{Spot}
 use Rattle.rewriting.specs.Lets.{MarksReached, OfLets, dead, flat_body, flat_side, inline, inlined, kept, side_joined}
 use Rattle.rewriting.specs.Shapes.{closed_up, marked, shift_group}
 use Rattle.rule_types.proofs.Bodies.{or_body_typed, renames_past, up_to}

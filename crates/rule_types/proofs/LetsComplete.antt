@@ -8,9 +8,9 @@ use Rattle.chw_terms.specs.TermMoves.{exchanged, in_place_of, lowered, rename, r
 use Rattle.chw_terms.specs.TermTree.{Group, TermTree, bind, letrec, no_bindings, size_of}
 use Rattle.chw_terms.specs.declared.rule.Rule.{Rule}
 use Rattle.chw_typing.specs.Programs.{GroupIsComplete, IsComplete}
-use Rattle.group_laws.specs.Groups.{joined}
-use Rattle.scenes.specs.Origins.{Origins}
-use Rattle.active_places.specs.Spots.{Spot}
+use Rattle.typing_laws.specs.Groups.{joined}
+use Rattle.rewriting.specs.Origins.{Origins}
+use Rattle.rewriting.specs.Spots.{Spot}
 use Rattle.rewriting.specs.Lets.{OfLets, dead, flat_body, flat_side, inline}
 use Rattle.rewriting.specs.Shapes.{closed_up, marked, shift_group}
 use Rattle.rule_types.proofs.Complete.{EachComplete, first_complete, joined_complete, or_body_complete, put_complete, put_group_complete, renamed_complete, renamed_group_complete, second_complete}

@@ -16,16 +16,16 @@ use Rattle.chw_typing.proofs.Lists.{found_before_map}
 use Rattle.chw_typing.specs.Programs.{AllAreComplete, AltsAreComplete, GroupIsComplete, IsComplete}
 use Rattle.chw_typing.specs.Scopes.{AreTermTypes, IsTermType, Setting}
 use Rattle.chw_typing.specs.Typing.{AllGive, AllHave, AreBound, HasType, HasTypeUpTo, bound_and, give_and, h_app, h_case, h_con, h_global, h_lam, h_letrec, h_lit, h_made, h_prim, h_ty_app, h_ty_lam, h_var, h_vec, have_and, none_bound, none_give, none_have}
-use Rattle.group_laws.proofs.Parts.{covered_by}
-use Rattle.group_laws.specs.Groups.{patterns}
-use Rattle.term_contexts.proofs.Plugged.{plugged}
-use Rattle.term_contexts.specs.Around.{here, in_function, in_lam, in_ty_app}
-use Rattle.typed_parts.proofs.Lowered.{closed_typed}
-use Rattle.scenes.proofs.PutMade.{made_put}
-use Rattle.scenes.specs.Laws.{AreOfMade}
-use Rattle.scenes.specs.Named.{HasLeadingLambdas, LeadsToNamed, UnderLambdas, mode_of, under_none, under_one}
-use Rattle.scenes.specs.Origins.{HoldsNoMade, MadeOf, Origins, origin_at, origin_of, setting_at, with_origins, with_origins_all, with_origins_alts, with_origins_group}
-use Rattle.scenes.specs.Typed.{IsTypedMade}
+use Rattle.typing_laws.proofs.GroupParts.{covered_by}
+use Rattle.typing_laws.specs.Groups.{patterns}
+use Rattle.typing_laws.proofs.Plugged.{plugged}
+use Rattle.typing_laws.specs.Around.{here, in_function, in_lam, in_ty_app}
+use Rattle.typing_laws.proofs.Lowered.{closed_typed}
+use Rattle.rewriting.proofs.PutMade.{made_put}
+use Rattle.rewriting.specs.SceneLaws.{AreOfMade}
+use Rattle.rewriting.specs.Named.{HasLeadingLambdas, LeadsToNamed, UnderLambdas, mode_of, under_none, under_one}
+use Rattle.rewriting.specs.Origins.{HoldsNoMade, MadeOf, Origins, origin_at, origin_of, setting_at, with_origins, with_origins_all, with_origins_alts, with_origins_group}
+use Rattle.rewriting.specs.Typed.{IsTypedMade}
 use Rattle.rewriting.specs.Runs.{first_body, with_definition}
 use Rattle.rule_types.proofs.Bodies.{up_to}
 use Rattle.rule_types.specs.Laws.{AreTypedOrigins}

@@ -11,13 +11,13 @@ use Rattle.chw_typing.proofs.Lists.{found_before_map, found_in_map}
 use Rattle.chw_typing.specs.Programs.{IsComplete, IsSound}
 use Rattle.chw_typing.specs.Scopes.{Setting}
 use Rattle.chw_typing.specs.Typing.{HasTypeUpTo, h_global, h_made}
-use Rattle.typed_parts.proofs.Lowered.{closed_typed}
-use Rattle.typed_parts.proofs.MoreMade.{typed_with_made}
-use Rattle.scenes.proofs.Settings.{setting_of_scene}
-use Rattle.scenes.specs.Laws.{TypedSceneIsSound}
-use Rattle.scenes.specs.Origins.{MadeOf, Origins, made_of, origins_of, setting_at}
-use Rattle.scenes.specs.Typed.{IsTypedScene}
-use Rattle.active_places.specs.Spots.{Spot}
+use Rattle.typing_laws.proofs.Lowered.{closed_typed}
+use Rattle.typing_laws.proofs.MoreMade.{typed_with_made}
+use Rattle.rewriting.proofs.Settings.{setting_of_scene}
+use Rattle.rewriting.specs.SceneLaws.{TypedSceneIsSound}
+use Rattle.rewriting.specs.Origins.{MadeOf, Origins, made_of, origins_of, setting_at}
+use Rattle.rewriting.specs.Typed.{IsTypedScene}
+use Rattle.rewriting.specs.Spots.{Spot}
 use Rattle.rewriting.specs.Names.{OfNames, unfold_global, unfold_made}
 use Rattle.rule_types.specs.Laws.{AreTypedOrigins, IsTypedPlace, KeepsType}
 

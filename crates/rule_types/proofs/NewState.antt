@@ -14,11 +14,11 @@ use Rattle.chw_typing.proofs.Lists.{found_before_map}
 use Rattle.chw_typing.specs.Laws.{TypedIsSound}
 use Rattle.chw_typing.specs.Programs.{IsComplete}
 use Rattle.chw_typing.specs.Typing.{HasTypeUpTo}
-use Rattle.typed_parts.proofs.MoreMade.{typed_with_made}
-use Rattle.scenes.specs.Laws.{NamedIsTermKind}
-use Rattle.scenes.specs.Origins.{HoldsNoMade, MadeOf, Origins, made_of, setting_at}
-use Rattle.scenes.specs.Typed.{IsTypedMade}
-use Rattle.active_places.specs.Spots.{HasLets, Spot}
+use Rattle.typing_laws.proofs.MoreMade.{typed_with_made}
+use Rattle.rewriting.specs.SceneLaws.{NamedIsTermKind}
+use Rattle.rewriting.specs.Origins.{HoldsNoMade, MadeOf, Origins, made_of, setting_at}
+use Rattle.rewriting.specs.Typed.{IsTypedMade}
+use Rattle.rewriting.specs.Spots.{HasLets, Spot}
 use Rattle.rewriting.proofs.Spines.{head_applied, head_of}
 use Rattle.rewriting.specs.Calls.{spec_call}
 use Rattle.rewriting.specs.Instances.{HasInstance, Makes, on_core, on_whole}

@@ -8,7 +8,7 @@ use Rattle.chw_terms.specs.TermTree.{TermTree, made}
 use Rattle.chw_typing.proofs.OneType.{one_type}
 use Rattle.chw_typing.proofs.TermsEvaluated.{type_evaluated}
 use Rattle.chw_typing.specs.Typing.{HasTypeUpTo, h_made}
-use Rattle.scenes.specs.Origins.{MadeOf, Origins, setting_at}
+use Rattle.rewriting.specs.Origins.{MadeOf, Origins, setting_at}
 use Rattle.rewriting.proofs.Lists.{origin_within}
 use Rattle.rewriting.specs.Numbers.{HasOrigin, IsNumberOf}
 use Rattle.rule_types.specs.Laws.{AreTypedOrigins}

@@ -26,17 +26,17 @@ use Rattle.chw_typing.proofs.TermsPut.{kind_same}
 use Rattle.chw_typing.specs.Programs.{IsComplete, IsSound}
 use Rattle.chw_typing.specs.Scopes.{AreTermTypes, HasKind, IsTermType, Setting}
 use Rattle.chw_typing.specs.Typing.{AllHave, HasType, HasTypeUpTo, bound_and, h_letrec, h_var, h_vec, have_and, none_bound, none_have}
-use Rattle.group_laws.proofs.Exchanged.{spine_renamed}
-use Rattle.group_laws.specs.Groups.{rename_arg}
-use Rattle.term_paths.proofs.Parts.{part_below}
-use Rattle.term_paths.proofs.Spines.{spine_argument, with_spine_argument}
-use Rattle.term_paths.specs.Paths.{argument_path, element_at, part_at, with_part}
-use Rattle.term_contexts.proofs.Complete.{part_complete, plug_complete}
-use Rattle.term_contexts.proofs.Plugged.{plugged}
-use Rattle.term_contexts.specs.Around.{here, in_scrutinee, in_vector}
-use Rattle.found_types.proofs.FoundTyped.{found_is_type}
-use Rattle.scenes.specs.Origins.{Origins}
-use Rattle.active_places.specs.Spots.{Spot}
+use Rattle.typing_laws.proofs.Exchanged.{spine_renamed}
+use Rattle.typing_laws.specs.Groups.{rename_arg}
+use Rattle.typing_laws.proofs.PathParts.{part_below}
+use Rattle.typing_laws.proofs.PathSpines.{spine_argument, with_spine_argument}
+use Rattle.typing_laws.specs.Paths.{argument_path, element_at, part_at, with_part}
+use Rattle.typing_laws.proofs.Complete.{part_complete, plug_complete}
+use Rattle.typing_laws.proofs.Plugged.{plugged}
+use Rattle.typing_laws.specs.Around.{here, in_scrutinee, in_vector}
+use Rattle.typing_laws.proofs.FoundTyped.{found_is_type}
+use Rattle.rewriting.specs.Origins.{Origins}
+use Rattle.rewriting.specs.Spots.{Spot}
 use Rattle.rewriting.specs.Calls.{OfWhole, anf_call, anf_result}
 use Rattle.rewriting.specs.Operands.{OfOperands, StandsAt, StandsInCall, anf, of_case, of_con, of_global, of_made, of_prim, of_vector, with_name}
 use Rattle.rewriting.specs.Shapes.{shift_args}

@@ -24,12 +24,12 @@ use Rattle.chw_terms.specs.declared.term.Arg.TheVariants.{OfTerm}
 use Rattle.chw_typing.specs.Programs.{IsSound}
 use Rattle.chw_typing.specs.Scopes.{AreTermTypes, Setting}
 use Rattle.chw_typing.specs.Typing.{HasType, HasTypeUpTo, h_vec}
-use Rattle.term_paths.specs.Paths.{element_at}
-use Rattle.spine_types.proofs.Saturated.{prim_at_arguments}
-use Rattle.spine_types.specs.Given.{types_then}
+use Rattle.typing_laws.specs.Paths.{element_at}
+use Rattle.typing_laws.proofs.Saturated.{prim_at_arguments}
+use Rattle.typing_laws.specs.Given.{types_then}
 use Rattle.unroll_laws.proofs.Unrolls.{unrolling_keeps}
-use Rattle.scenes.specs.Origins.{Origins, setting_at}
-use Rattle.active_places.specs.Spots.{Spot}
+use Rattle.rewriting.specs.Origins.{Origins, setting_at}
+use Rattle.rewriting.specs.Spots.{Spot}
 use Rattle.rewriting.specs.Primitives.{HasValue, OfPrimitives, delta, elem, elem_at, literal, unroll, word_given}
 use Rattle.rule_types.proofs.Applied.{up_to_as}
 use Rattle.rule_types.proofs.Operands.{element_kind}
@@ -80,11 +80,11 @@ delta_typed {s} {vars} p types words b t h g v d =
     })
 
 pub primitives_keep : (o : Origins) (at : Spot) → IsTypedPlace o at → {r : Rule} {e e' : TermTree} → OfPrimitives o at r e e' → KeepsType o at e e'
-primitives_keep o at h (unroll {p = p} {types = types} {es = es} {e = e} can unnamed is) t d = unrolling_keeps (setting_at o) [] at.vars p types es e t h.sound h.vars can is d
-primitives_keep o at h (elem {p = p} {i = i} {n = n} {a = a} {t = w} {es = es} {j = j} {e = e} (inl is) number element) t d =
+primitives_keep o at h (unroll {p = p} {types = types} {es = es} {e = e} can range unnamed is) t d = unrolling_keeps (setting_at o) [] at.vars p types es e t h.sound h.vars can is d
+primitives_keep o at h (elem {p = p} {i = i} {n = n} {a = a} {t = w} {es = es} {j = j} {e = e} (inl is) number least element) t d =
     elem_typed p Val i n a w es j e t h.sound h.vars (ap row_of is) element d
-primitives_keep o at h (elem {p = p} {i = i} {n = n} {a = a} {t = w} {es = es} {j = j} {e = e} (inr is) number element) t d =
+primitives_keep o at h (elem {p = p} {i = i} {n = n} {a = a} {t = w} {es = es} {j = j} {e = e} (inr is) number least element) t d =
     elem_typed p Cir i n a w es j e t h.sound h.vars (ap row_of is) element d
-primitives_keep o at h (elem_at {n = n} {k = k} {a = a} {t = w} {es = es} {bits = bits} {m = m} {e = e} constant number element) t d =
+primitives_keep o at h (elem_at {n = n} {k = k} {a = a} {t = w} {es = es} {bits = bits} {m = m} {e = e} constant number least element) t d =
     elem_at_typed n k a w es (min (number_of bits) m) bits e t h.sound h.vars element d
 primitives_keep o at h (delta {p = p} {types = types} {words = words} {b = b} constant value) t d = delta_typed p types words b t h.sound h.vars value d

@@ -26,10 +26,10 @@ use Rattle.chw_terms.specs.declared.term.Pattern.{Pattern}
 use Rattle.chw_terms.specs.declared.term.Pattern.TheVariants.{Default, OfCon, OfLit}
 use Rattle.chw_typing.specs.Alternatives.{HasDefault, IsCovered, IsFor}
 use Rattle.chw_typing.specs.Programs.{AllAreComplete, AltsAreComplete, GroupIsComplete, IsComplete}
-use Rattle.term_paths.specs.Paths.{element_at}
-use Rattle.spine_types.specs.Given.{types_then}
-use Rattle.scenes.specs.Origins.{Origins}
-use Rattle.active_places.specs.Spots.{Spot}
+use Rattle.typing_laws.specs.Paths.{element_at}
+use Rattle.typing_laws.specs.Given.{types_then}
+use Rattle.rewriting.specs.Origins.{Origins}
+use Rattle.rewriting.specs.Spots.{Spot}
 use Rattle.rewriting.specs.Primitives.{OfPrimitives, delta, elem, elem_at, unroll, word_given}
 use Rattle.rule_types.proofs.CasesComplete.{EachTermComplete, from_first, given_complete, named_complete, shifted_complete}
 use Rattle.rule_types.proofs.Complete.{spine_complete}
@@ -188,13 +188,13 @@ unrolled_complete datas others is p types es e h u = by (body_of (row_of p) (map
         subst (IsComplete datas) it (group_complete, body_complete datas others is (row_of p) (map evaluated types) body at)
 
 pub primitives_keep_complete : (o : Origins) (at : Spot) → IsTypedPlace o at → {r : Rule} {e e' : TermTree} → OfPrimitives o at r e e' → IsComplete o.program.datas e → IsComplete o.program.datas e'
-primitives_keep_complete o at place (unroll {p = p} {types = types} {es = es} {e = e} can unnamed is) h =
+primitives_keep_complete o at place (unroll {p = p} {types = types} {es = es} {e = e} can range unnamed is) h =
     let datas = o.program.datas in
     unrolled_complete datas place.sound.begins.0 place.sound.begins.1 p types es e (given_complete datas types es (spine_complete datas (prim p) (types_then types es) h).1) is
-primitives_keep_complete o at place (elem {p = p} {i = i} {n = n} {a = a} {t = t} {es = es} {j = j} {e = e} is number element) h =
+primitives_keep_complete o at place (elem {p = p} {i = i} {n = n} {a = a} {t = t} {es = es} {j = j} {e = e} is number least element) h =
     let datas = o.program.datas in
     element_complete datas es j e (given_complete datas (i ∷ n ∷ a ∷ []) (vec_lit t es ∷ []) (spine_complete datas (prim p) (types_then (i ∷ n ∷ a ∷ []) (vec_lit t es ∷ [])) h).1).0 element
-primitives_keep_complete o at place (elem_at {n = n} {k = k} {a = a} {t = t} {es = es} {bits = bits} {m = m} {e = e} constant number element) h =
+primitives_keep_complete o at place (elem_at {n = n} {k = k} {a = a} {t = t} {es = es} {bits = bits} {m = m} {e = e} constant number least element) h =
     let datas = o.program.datas in
     element_complete datas es (min (number_of bits) m) e (given_complete datas (n ∷ k ∷ a ∷ []) (vec_lit t es ∷ lit U bits ∷ []) (spine_complete datas (prim VAt) (types_then (n ∷ k ∷ a ∷ []) (vec_lit t es ∷ lit U bits ∷ [])) h).1).0 element
 primitives_keep_complete o at place (delta {p = p} {b = b} constant value) h = word_complete o.program.datas (schema_type p) b

@@ -21,10 +21,10 @@ use Rattle.chw_typing.specs.HeadTypes.{from_each}
 use Rattle.chw_typing.specs.Programs.{IsSound}
 use Rattle.chw_typing.specs.Scopes.{AreTermTypes, HasKind, Setting, with_more}
 use Rattle.chw_typing.specs.Typing.{HasType, HasTypeUpTo, h_app, h_lam, h_var}
-use Rattle.found_types.proofs.FoundTyped.{found_is_type}
-use Rattle.found_types.specs.Finding.{Finds}
-use Rattle.scenes.specs.Origins.{Origins, eta_expanded, on_variables, setting_at, under_each}
-use Rattle.active_places.specs.Spots.{Spot}
+use Rattle.typing_laws.proofs.FoundTyped.{found_is_type}
+use Rattle.typing_laws.specs.Finding.{Finds}
+use Rattle.rewriting.specs.Origins.{Origins, eta_expanded, on_variables, setting_at, under_each}
+use Rattle.rewriting.specs.Spots.{Spot}
 use Rattle.rewriting.specs.Lifted.{Joins, ap_ap, ap_fmap, ap_pure, ap_value, before_each, behind_each, composed, each_composed, fmap_ap, fmap_fmap, fmap_pure, on_value}
 use Rattle.rewriting.specs.Signals.{OfSignals, eta, join, spec_function}
 use Rattle.rule_types.proofs.Applied.{ap_parts, ap_up_to, applied_up_to, fmap_parts, fmap_up_to, lambda_up_to, name_up_to, payload_kind, pure_part, pure_up_to, same_payload, up_to_as, value_parts}

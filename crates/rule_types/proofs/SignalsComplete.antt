@@ -7,8 +7,8 @@ use Rattle.chw_terms.specs.TermMoves.{shift}
 use Rattle.chw_terms.specs.TermTree.{TermTree}
 use Rattle.chw_terms.specs.declared.rule.Rule.{Rule}
 use Rattle.chw_typing.specs.Programs.{IsComplete}
-use Rattle.scenes.specs.Origins.{Origins, eta_expanded, on_variables, under_each}
-use Rattle.active_places.specs.Spots.{Spot}
+use Rattle.rewriting.specs.Origins.{Origins, eta_expanded, on_variables, under_each}
+use Rattle.rewriting.specs.Spots.{Spot}
 use Rattle.rewriting.specs.Lifted.{Joins, ap_ap, ap_fmap, ap_pure, ap_value, fmap_ap, fmap_fmap, fmap_pure}
 use Rattle.rewriting.specs.Signals.{OfSignals, eta, join, spec_function}
 use Rattle.rule_types.proofs.Complete.{renamed_complete}

@@ -14,20 +14,20 @@ use Rattle.chw_typing.specs.Laws.{TypedIsSound}
 use Rattle.chw_typing.specs.Programs.{AreClosed, IsComplete, IsSound, setting_of}
 use Rattle.chw_typing.specs.Scopes.{IsTermType}
 use Rattle.chw_typing.specs.Typing.{HasTypeUpTo}
-use Rattle.term_paths.proofs.Parts.{with_part_behind}
-use Rattle.term_paths.specs.Paths.{part_at, with_part}
-use Rattle.term_contexts.proofs.Complete.{part_complete, plug_complete}
-use Rattle.term_contexts.proofs.Places.{around_is_part}
-use Rattle.term_contexts.proofs.Plugged.{plugged}
-use Rattle.term_contexts.proofs.Typed.{part_typed}
-use Rattle.term_contexts.specs.Around.{Around}
-use Rattle.typed_parts.proofs.MoreMade.{sound_with_made, typed_with_made}
-use Rattle.scenes.specs.Named.{HasLeadingLambdas, UnderLambdas, under_none, under_one}
-use Rattle.scenes.specs.Origins.{MadeOf, Origins, made_of, setting_at}
-use Rattle.scenes.specs.Typed.{IsTypedMade}
-use Rattle.active_places.proofs.Around.{place_around}
-use Rattle.active_places.specs.Active.{IsPlaceOf}
-use Rattle.active_places.specs.Spots.{Spot}
+use Rattle.typing_laws.proofs.PathParts.{with_part_behind}
+use Rattle.typing_laws.specs.Paths.{part_at, with_part}
+use Rattle.typing_laws.proofs.Complete.{part_complete, plug_complete}
+use Rattle.typing_laws.proofs.ContextPlaces.{around_is_part}
+use Rattle.typing_laws.proofs.Plugged.{plugged}
+use Rattle.typing_laws.proofs.Typed.{part_typed}
+use Rattle.typing_laws.specs.Around.{Around}
+use Rattle.typing_laws.proofs.MoreMade.{sound_with_made, typed_with_made}
+use Rattle.rewriting.specs.Named.{HasLeadingLambdas, UnderLambdas, under_none, under_one}
+use Rattle.rewriting.specs.Origins.{MadeOf, Origins, made_of, setting_at}
+use Rattle.rewriting.specs.Typed.{IsTypedMade}
+use Rattle.rewriting.proofs.Around.{place_around}
+use Rattle.rewriting.specs.Active.{IsPlaceOf}
+use Rattle.rewriting.specs.Spots.{Spot}
 use Rattle.rewriting.specs.Runs.{After, Step, StepsTo, known, no_call, one_more}
 use Rattle.rewriting.specs.Steps.{origins_in}
 use Rattle.rule_types.proofs.Instances.{instances_keep, instances_keep_complete}

@@ -13,9 +13,9 @@ use Rattle.chw_terms.specs.TermView.{applied}
 use Rattle.chw_typing.specs.Programs.{IsComplete, IsSound}
 use Rattle.chw_typing.specs.Scopes.{AreTermTypes}
 use Rattle.chw_typing.specs.Typing.{HasType, HasTypeUpTo}
-use Rattle.scenes.specs.Origins.{MadeOf, Origins, origins_of, setting_at}
-use Rattle.scenes.specs.Typed.{IsTypedScene}
-use Rattle.active_places.specs.Spots.{Spot}
+use Rattle.rewriting.specs.Origins.{MadeOf, Origins, origins_of, setting_at}
+use Rattle.rewriting.specs.Typed.{IsTypedScene}
+use Rattle.rewriting.specs.Spots.{Spot}
 use Rattle.rewriting.specs.Calls.{OfWhole}
 use Rattle.rewriting.specs.Functions.{OfFunctions}
 use Rattle.rewriting.specs.Cases.{OfCases}

@@ -13,9 +13,9 @@ use Rattle.chw_terms.specs.Tidy.{IsTidy}
 use Rattle.chw_typing.specs.HeadTypes.{from_each}
 use Rattle.chw_typing.specs.Programs.{IsComplete, IsTyped}
 use Rattle.chw_typing.specs.Typing.{HasTypeUpTo}
-use Rattle.scenes.specs.Origins.{HoldsNoMade, MadeOf, Origins, made_of, origin_of, setting_at}
-use Rattle.scenes.specs.Typed.{IsTypedMade}
-use Rattle.active_places.specs.Spots.{HasLets, Spot}
+use Rattle.rewriting.specs.Origins.{HoldsNoMade, MadeOf, Origins, made_of, origin_of, setting_at}
+use Rattle.rewriting.specs.Typed.{IsTypedMade}
+use Rattle.rewriting.specs.Spots.{HasLets, Spot}
 use Rattle.rewriting.specs.Calls.{IsCall, call_origin}
 use Rattle.rewriting.specs.Instances.{HasInstance}
 use Rattle.rewriting.specs.Numbers.{HasOrigin, IsNumberOf}

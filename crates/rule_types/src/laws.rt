@@ -17,7 +17,7 @@ ghost use Rattle.rule_types.specs.States.{CallBecomesTyped, AfterKeepsState, Ori
 ghost use Rattle.rule_types.specs.States.{NumberHasType};
 
 use chw_typing::laws::typed_is_sound;
-use scenes::laws::{names_of_modes, settings_of_scenes};
+use rewriting::scene_laws::{names_of_modes, settings_of_scenes};
 
 /// A spine keeps its type, and stays complete, where its core does.
 pub fn cores_keep()

@@ -3,8 +3,8 @@ use Rattle.std.proofs.Common.{◌≡◌, Option, Some, None, inl, inr}
 use Rattle.chw_terms.specs.declared.rule.Rule.{Rule}
 use Rattle.chw_terms.specs.declared.rule.Rule.TheVariants.{Dead, Inline, Unfold, Unroll, Elem, Delta, ApPure, Eta, Anf}
 use Rattle.chw_terms.specs.TermTree.{TermTree}
-use Rattle.scenes.specs.Origins.{Origins}
-use Rattle.active_places.specs.Spots.{Spot}
+use Rattle.rewriting.specs.Origins.{Origins}
+use Rattle.rewriting.specs.Spots.{Spot}
 use Rattle.rewriting.specs.Instances.{HasInstance, on_core, on_whole}
 use Rattle.rule_parts.specs.Cores.{MakesOf, of_core, HasTypeAt, IsInstanceAnswer}
 use Rattle.work_operands.specs.Firsts.{AnswersWhole}

@@ -2,14 +2,14 @@
 use Rattle.std.proofs.Common.{◌≡◌, ◌∙◌, ℕ, refl, sym, ap, subst, true, List, [], ◌++◌, Some}
 use Rattle.chw_types.specs.TypeTree.{TypeTree}
 use Rattle.chw_terms.specs.TermTree.{TermTree}
-use Rattle.term_paths.proofs.Parts.{with_part_behind}
-use Rattle.term_paths.specs.Paths.{part_at, with_part}
-use Rattle.scenes.proofs.Lambdas.{one_under}
-use Rattle.scenes.specs.Named.{UnderLambdas, mode_of, under_none, under_one}
-use Rattle.scenes.specs.Origins.{MadeOf, Origins}
-use Rattle.active_places.proofs.Parts.{below_is_part}
-use Rattle.active_places.specs.Active.{Below, IsActive, IsPlaceOf, at_it, below}
-use Rattle.active_places.specs.Spots.{Spot, spot}
+use Rattle.typing_laws.proofs.PathParts.{with_part_behind}
+use Rattle.typing_laws.specs.Paths.{part_at, with_part}
+use Rattle.rewriting.proofs.Lambdas.{one_under}
+use Rattle.rewriting.specs.Named.{UnderLambdas, mode_of, under_none, under_one}
+use Rattle.rewriting.specs.Origins.{MadeOf, Origins}
+use Rattle.rewriting.proofs.Parts.{below_is_part}
+use Rattle.rewriting.specs.Active.{Below, IsActive, IsPlaceOf, at_it, below}
+use Rattle.rewriting.specs.Spots.{Spot, spot}
 use Rattle.step_order.proofs.Changed.{onto}
 use Rattle.step_order.proofs.Left.{IsLeft, left_of_rest, nothing_left_of_root}
 use Rattle.step_order.proofs.Onto.{Onto, beside, to_it, to_right}

@@ -10,12 +10,12 @@ use Rattle.chw_terms.specs.declared.term.Arg.{Arg}
 use Rattle.chw_terms.specs.declared.term.Arg.TheVariants.{OfTerm, OfType}
 use Rattle.chw_terms.specs.TermTree.{TermTree, letrec, vec_lit, case_of}
 use Rattle.chw_terms.specs.TermView.{applied}
-use Rattle.term_paths.specs.Paths.{argument_path, with_part}
-use Rattle.term_paths.proofs.Parts.{with_part_below}
-use Rattle.term_paths.proofs.Spines.{with_spine_argument}
-use Rattle.scenes.specs.Origins.{Origins}
-use Rattle.active_places.specs.Active.{Below}
-use Rattle.active_places.specs.Spots.{Spot}
+use Rattle.typing_laws.specs.Paths.{argument_path, with_part}
+use Rattle.typing_laws.proofs.PathParts.{with_part_below}
+use Rattle.typing_laws.proofs.PathSpines.{with_spine_argument}
+use Rattle.rewriting.specs.Origins.{Origins}
+use Rattle.rewriting.specs.Active.{Below}
+use Rattle.rewriting.specs.Spots.{Spot}
 use Rattle.step_order.proofs.Moves.{AreAlike, AtArgument, BelowBy, InSpine}
 use Rattle.step_order.proofs.Moves.{below_by, below_head, below_spine, by_case, by_let, by_spine}
 use Rattle.step_order.proofs.Moves.{by_vector, in_branch, in_let, in_scrutinee, in_vector}

@@ -2,7 +2,7 @@
 use Rattle.std.proofs.Common.{◌≡◌, ◌≢◌, ◌⊎◌, inl, inr, ℕ, ◌<◌, ◌≤◌, sym, refl, arith}
 use Rattle.std.proofs.Common.{List, [], ◌∷◌, ◌++◌}
 use Rattle.std.proofs.lemmas.Bool.{cases_lt, cases_eq}
-use Rattle.term_paths.specs.Paths.{IsEarlier}
+use Rattle.typing_laws.specs.Paths.{IsEarlier}
 use Rattle.step_order.specs.Sought.{IsSoughtPath}
 
 -- where the paths part, the first one goes to an earlier child

@@ -12,15 +12,15 @@ use Rattle.chw_terms.specs.TermTree.{TermTree, letrec, con, prim, vec_lit, case_
 use Rattle.chw_terms.specs.TermTree.{Terms, Group, Alts, size_of}
 use Rattle.chw_terms.specs.TermView.{applied}
 use Rattle.chw_typing.specs.Scopes.{declared, with_more}
-use Rattle.group_laws.specs.Groups.{binding_at, patterns}
-use Rattle.term_paths.specs.Paths.{argument_path, Branch, element_at, part_of_group}
-use Rattle.scenes.specs.Named.{IsNamed}
-use Rattle.scenes.specs.Origins.{Origins}
-use Rattle.active_places.specs.Active.{Below, right_side, let_body, constant_body, scrutinee}
-use Rattle.active_places.specs.Active.{branch, of_constructor, of_words, of_element, of_vector}
-use Rattle.active_places.specs.Active.{demanded, begins}
-use Rattle.active_places.specs.Spots.{Spot, spot, HasLets, asked_for, head_mode, scrutinee_mode}
-use Rattle.active_places.proofs.Parts.{body_at, side_at}
+use Rattle.typing_laws.specs.Groups.{binding_at, patterns}
+use Rattle.typing_laws.specs.Paths.{argument_path, Branch, element_at, part_of_group}
+use Rattle.rewriting.specs.Named.{IsNamed}
+use Rattle.rewriting.specs.Origins.{Origins}
+use Rattle.rewriting.specs.Active.{Below, right_side, let_body, constant_body, scrutinee}
+use Rattle.rewriting.specs.Active.{branch, of_constructor, of_words, of_element, of_vector}
+use Rattle.rewriting.specs.Active.{demanded, begins}
+use Rattle.rewriting.specs.Spots.{Spot, spot, HasLets, asked_for, head_mode, scrutinee_mode}
+use Rattle.rewriting.proofs.Parts.{body_at, side_at}
 use Rattle.rewriting.proofs.Spines.{args_applied, args_of, head_applied, head_of}
 use Rattle.step_order.proofs.Others.{binding_of, branch_body, branch_of, mode_of_patterns}
 use Rattle.step_order.proofs.Others.{size_declared}

@@ -5,13 +5,13 @@ use Rattle.std.proofs.lemmas.Bool.{cases_eq}
 use Rattle.std.proofs.lemmas.Option.{same_Some}
 use Rattle.chw_types.specs.TypeTree.{TypeTree}
 use Rattle.chw_terms.specs.TermTree.{TermTree, letrec, vec_lit, case_of, Terms, Group, Alts}
-use Rattle.term_paths.specs.Paths.{element_at, part_of_group, with_body, with_branch}
-use Rattle.term_paths.specs.Paths.{with_element, with_side}
-use Rattle.term_paths.proofs.Children.{child_apart, child_of_with_child}
-use Rattle.scenes.specs.Origins.{Origins}
-use Rattle.active_places.specs.Active.{Below}
-use Rattle.active_places.specs.Spots.{Spot, spot, scrutinee_mode}
-use Rattle.active_places.proofs.OneStep.{one_below}
+use Rattle.typing_laws.specs.Paths.{element_at, part_of_group, with_body, with_branch}
+use Rattle.typing_laws.specs.Paths.{with_element, with_side}
+use Rattle.typing_laws.proofs.PathChildren.{child_apart, child_of_with_child}
+use Rattle.rewriting.specs.Origins.{Origins}
+use Rattle.rewriting.specs.Active.{Below}
+use Rattle.rewriting.specs.Spots.{Spot, spot, scrutinee_mode}
+use Rattle.rewriting.proofs.OneStep.{one_below}
 use Rattle.step_order.proofs.Left.{IsLeft}
 use Rattle.step_order.proofs.Moves.{InCase, InLet, InVector}
 use Rattle.step_order.proofs.Moves.{in_branch, in_let, in_scrutinee, in_vector}

@@ -13,9 +13,9 @@ use Rattle.chw_terms.specs.TermTree.{TermTree, Group, no_bindings, bind, size_of
 use Rattle.chw_terms.specs.TermTree.{Alts, no_alts, alt}
 use Rattle.chw_typing.proofs.Renamed.{declared_length}
 use Rattle.chw_typing.specs.Scopes.{declared}
-use Rattle.group_laws.specs.Groups.{binding_at, patterns}
-use Rattle.term_paths.specs.Paths.{part_of_group, with_side, Branch, branch_at, with_branch}
-use Rattle.active_places.specs.Spots.{is_of_values, scrutinee_mode}
+use Rattle.typing_laws.specs.Groups.{binding_at, patterns}
+use Rattle.typing_laws.specs.Paths.{part_of_group, with_side, Branch, branch_at, with_branch}
+use Rattle.rewriting.specs.Spots.{is_of_values, scrutinee_mode}
 
 -- an item where another was written, and elsewhere
 pub get_written : {X : Type 0} (xs : List X) (n : ℕ) (x y : X)

@@ -10,10 +10,10 @@ use Rattle.chw_terms.specs.declared.program.Program.{Program}
 use Rattle.chw_terms.specs.declared.rule.Rule.{Rule}
 use Rattle.chw_terms.specs.declared.rule.Rule.TheVariants.{Spec}
 use Rattle.chw_terms.specs.declared.scene.Made.{Made}
-use Rattle.term_paths.specs.Paths.{with_part}
-use Rattle.scenes.specs.Origins.{MadeOf, Origins, made_of}
-use Rattle.active_places.specs.Active.{IsPlaceOf}
-use Rattle.active_places.specs.Spots.{Spot}
+use Rattle.typing_laws.specs.Paths.{with_part}
+use Rattle.rewriting.specs.Origins.{MadeOf, Origins, made_of}
+use Rattle.rewriting.specs.Active.{IsPlaceOf}
+use Rattle.rewriting.specs.Spots.{Spot}
 use Rattle.rewriting.specs.Instances.{HasInstance}
 use Rattle.rewriting.specs.Runs.{After, Step, StepsTo, known, no_call, one_more, opened}
 use Rattle.rewriting.specs.Steps.{HasStepBy, IsBefore, Where, origins_in}

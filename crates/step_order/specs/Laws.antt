@@ -5,10 +5,10 @@ use Rattle.chw_terms.specs.declared.rule.Rule.{Rule}
 use Rattle.chw_terms.specs.declared.rule.Rule.TheVariants.{Spec}
 use Rattle.chw_terms.specs.declared.scene.Made.{Made}
 use Rattle.chw_terms.specs.TermTree.{TermTree}
-use Rattle.term_paths.specs.Paths.{with_part}
-use Rattle.scenes.specs.Origins.{MadeOf, Origins}
-use Rattle.active_places.specs.Active.{IsPlaceOf}
-use Rattle.active_places.specs.Spots.{Spot}
+use Rattle.typing_laws.specs.Paths.{with_part}
+use Rattle.rewriting.specs.Origins.{MadeOf, Origins}
+use Rattle.rewriting.specs.Active.{IsPlaceOf}
+use Rattle.rewriting.specs.Spots.{Spot}
 use Rattle.rewriting.specs.Runs.{Step, StepsTo}
 use Rattle.rewriting.specs.Steps.{Where, HasStepBy}
 use Rattle.step_order.specs.Sought.{IsSought, IsSoughtPath}

@@ -9,7 +9,7 @@ use chw_base::NoMemory;
 use chw_terms::Scene;
 use chw_types::{Kind, Ty, kind_of};
 use std::alloc::Global;
-use zero_parts::without_zeros;
+use typing_laws::without_zeros;
 
 /// A type that is written in the description, with its kind.
 #[derive(Clone, Copy)]

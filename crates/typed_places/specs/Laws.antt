@@ -4,8 +4,8 @@ use Rattle.chw_terms.specs.declared.rule.Rule.{Rule}
 use Rattle.chw_terms.specs.declared.rule.Rule.TheVariants.{Spec}
 use Rattle.chw_terms.specs.declared.scene.Scene.{Scene}
 use Rattle.chw_terms.specs.TermTree.{TermTree}
-use Rattle.scenes.specs.Origins.{Origins, origins_of}
-use Rattle.active_places.specs.Spots.{Spot}
+use Rattle.rewriting.specs.Origins.{Origins, origins_of}
+use Rattle.rewriting.specs.Spots.{Spot}
 use Rattle.rule_parts.specs.Cores.{Answers, HasTypeAt, IsInstanceAnswer}
 use Rattle.rule_parts.specs.Kept.{KeepsTypes}
 use Rattle.rule_parts.specs.Laws.{IsOfCores}

@@ -1,18 +1,18 @@
 //! Whether a term has a type at a place.
 ghost use Rattle.std.specs.Prelude.{◌↔◌, [], reverse, IfOk, IsTrue};
 ghost use Rattle.chw_typing.specs.Scopes.{setting_in};
-ghost use Rattle.scenes.specs.Origins.{origins_of};
-ghost use Rattle.active_places.specs.Spots.{spot_of};
+ghost use Rattle.rewriting.specs.Origins.{origins_of};
+ghost use Rattle.rewriting.specs.Spots.{spot_of};
 ghost use Rattle.term_types.specs.Answers.{IsReady};
 ghost use Rattle.term_types.specs.Signatures.{IsSignature};
 ghost use Rattle.rule_parts.specs.Cores.{HasTypeAt};
 
 use chw_base::NoMemory;
 use chw_terms::{Place, Scene, Term};
-use found_types::laws::found_is_type;
-use scenes::laws::settings_of_scenes;
+use rewriting::scene_laws::settings_of_scenes;
 use std::alloc::Global;
 use term_types::{Signature, type_of_in};
+use typing_laws::found_laws::found_is_type;
 
 /// Whether a term has a type at a place.
 ///

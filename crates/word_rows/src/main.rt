@@ -27,10 +27,12 @@ fn put_command(alloc: Global, text: &str, out: &mut Vec<u8>) -> Result<(), Or<Un
     let words = words_of(alloc, text)?;
     match read_words(alloc, words.as_slice()) {
         Ok(Command::Emit { file, budget }) => {
-            put_file(out, "emit", file.as_slice())?;
-            Ok(put_number(out, " with ", budget)?)
+            Ok(put_budgeted(out, "emit", file.as_slice(), budget)?)
         }
         Ok(Command::Check { file }) => Ok(put_file(out, "check", file.as_slice())?),
+        Ok(Command::Normalise { file, budget }) => {
+            Ok(put_budgeted(out, "normalise", file.as_slice(), budget)?)
+        }
         Ok(Command::Run { verilog, stimulus }) => {
             put_file(out, "run", verilog.as_slice())?;
             Ok(put_file(out, "", stimulus.as_slice())?)
@@ -45,6 +47,16 @@ fn put_file(out: &mut Vec<u8>, command: &str, file: &[u8]) -> Result<(), NoMemor
     put(out, " \"")?;
     put_bytes(out, file)?;
     put(out, "\"")
+}
+
+fn put_budgeted(
+    out: &mut Vec<u8>,
+    command: &str,
+    file: &[u8],
+    budget: u32,
+) -> Result<(), NoMemory> {
+    put_file(out, command, file)?;
+    put_number(out, " with ", budget)
 }
 
 fn put_budget(text: &str, out: &mut Vec<u8>) -> Result<(), NoMemory> {

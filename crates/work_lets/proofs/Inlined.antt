@@ -13,10 +13,10 @@ use Rattle.chw_terms.specs.Occurs.{occurs}
 use Rattle.chw_terms.specs.TermMoves.{rename, sub, sub_group, in_place_of, lowered}
 use Rattle.chw_terms.specs.TermTree.{TermTree, letrec, Group, no_bindings, bind, size_of}
 use Rattle.chw_terms.specs.TermView.{group_of}
-use Rattle.group_laws.specs.Groups.{joined}
-use Rattle.scenes.specs.Named.{IsNamed}
-use Rattle.scenes.specs.Origins.{Origins}
-use Rattle.active_places.specs.Spots.{Spot}
+use Rattle.typing_laws.specs.Groups.{joined}
+use Rattle.rewriting.specs.Named.{IsNamed}
+use Rattle.rewriting.specs.Origins.{Origins}
+use Rattle.rewriting.specs.Spots.{Spot}
 use Rattle.rewriting.specs.Lets.{OfLets, flat_side, flat_body, dead, inline, inlined, EachStays}
 use Rattle.rewriting.specs.Shapes.{IsOfHead, or_body}
 use Rattle.work_lets.specs.Inlined.{Goes, Stays, IsFirst, put_in, put_for_name}

@@ -5,9 +5,9 @@ use Rattle.chw_terms.specs.declared.rule.Rule.TheVariants.{TyBeta, Beta, AppLet,
 use Rattle.chw_terms.specs.declared.term.Binding.{Binding}
 use Rattle.chw_terms.specs.TermTree.{TermTree, letrec, Group, bind}
 use Rattle.chw_terms.specs.TermView.{group_of}
-use Rattle.group_laws.specs.Groups.{joined}
-use Rattle.scenes.specs.Origins.{Origins}
-use Rattle.active_places.specs.Spots.{Spot}
+use Rattle.typing_laws.specs.Groups.{joined}
+use Rattle.rewriting.specs.Origins.{Origins}
+use Rattle.rewriting.specs.Spots.{Spot}
 use Rattle.rewriting.specs.Lets.{OfLets, flat_side, flat_body, dead, inline}
 use Rattle.rewriting.specs.Shapes.{IsOfHead, or_body}
 use Rattle.rewriting.proofs.Spines.{IsBare}

@@ -7,9 +7,9 @@ use Rattle.chw_terms.specs.declared.term.Binding.{Binding}
 use Rattle.chw_terms.specs.TermMoves.{rename, rename_group}
 use Rattle.chw_terms.specs.TermTree.{TermTree, letrec, Group, no_bindings, bind, size_of}
 use Rattle.chw_terms.specs.TermView.{group_of}
-use Rattle.group_laws.specs.Groups.{Reached}
-use Rattle.scenes.specs.Origins.{Origins}
-use Rattle.active_places.specs.Spots.{Spot}
+use Rattle.typing_laws.specs.Groups.{Reached}
+use Rattle.rewriting.specs.Origins.{Origins}
+use Rattle.rewriting.specs.Spots.{Spot}
 use Rattle.rewriting.specs.Lets.{OfLets, flat_side, flat_body, dead, inline, kept, MarksReached}
 use Rattle.rewriting.specs.Shapes.{IsOfHead, closed_up, marked, or_body}
 use Rattle.rewriting.proofs.Lists.{marks_same}

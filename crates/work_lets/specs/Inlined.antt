@@ -8,7 +8,7 @@ use Rattle.chw_terms.specs.Occurs.{occurs}
 use Rattle.chw_terms.specs.TermMoves.{sub, in_place_of}
 use Rattle.chw_terms.specs.TermTree.{TermTree}
 use Rattle.chw_terms.specs.TermView.{group_of}
-use Rattle.scenes.specs.Named.{IsNamed}
+use Rattle.rewriting.specs.Named.{IsNamed}
 use Rattle.rewriting.specs.Lets.{EachStays}
 use Rattle.rewriting.specs.Shapes.{or_body}
 

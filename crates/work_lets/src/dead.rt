@@ -2,8 +2,8 @@
 ghost use Rattle.std.specs.Prelude.{◌≡◌, ◌↔◌, ◌⊎◌, ◌++◌, [], ◌∷◌, false, cond, length, Contains, IfOk, IsTrue, OnOk};
 ghost use Rattle.chw_terms.specs.declared.rule.Rule.TheVariants.{Dead};
 ghost use Rattle.chw_terms.specs.TermView.{group_of, tree_of};
-ghost use Rattle.scenes.specs.Origins.{Origins};
-ghost use Rattle.active_places.specs.Spots.{spot_of};
+ghost use Rattle.rewriting.specs.Origins.{Origins};
+ghost use Rattle.rewriting.specs.Spots.{spot_of};
 ghost use Rattle.rewriting.specs.Lets.{kept};
 ghost use Rattle.rule_parts.specs.Cores.{AnswersCore};
 ghost use Rattle.work_lets.specs.Closings.{closed_binding};

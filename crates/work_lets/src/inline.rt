@@ -3,8 +3,8 @@ ghost use Rattle.std.specs.Prelude.{◌≡◌, ◌++◌, map, IfOk, MatchBool, O
 ghost use Rattle.chw_types.specs.References.{HasNoCycle};
 ghost use Rattle.chw_terms.specs.declared.rule.Rule.TheVariants.{Inline};
 ghost use Rattle.chw_terms.specs.TermView.{group_of, tree_of};
-ghost use Rattle.scenes.specs.Origins.{origins_of};
-ghost use Rattle.active_places.specs.Spots.{spot_of};
+ghost use Rattle.rewriting.specs.Origins.{origins_of};
+ghost use Rattle.rewriting.specs.Spots.{spot_of};
 ghost use Rattle.rewriting.specs.Lets.{inlined};
 ghost use Rattle.rule_parts.specs.Cores.{AnswersCore};
 ghost use Rattle.work_lets.specs.Inlined.{Goes, Stays, AnswersFirst, put_in, put_for_name};

@@ -4,8 +4,8 @@ use Rattle.chw_terms.specs.declared.program.Def.{Def}
 use Rattle.chw_terms.specs.declared.rule.Rule.{Rule}
 use Rattle.chw_terms.specs.declared.rule.Rule.TheVariants.{Unfold}
 use Rattle.chw_terms.specs.TermTree.{TermTree, global, made}
-use Rattle.scenes.specs.Origins.{MadeOf, Origins}
-use Rattle.active_places.specs.Spots.{Spot, HasLets}
+use Rattle.rewriting.specs.Origins.{MadeOf, Origins}
+use Rattle.rewriting.specs.Spots.{Spot, HasLets}
 use Rattle.rewriting.specs.Names.{OfNames, unfold_global, unfold_made}
 
 pub body_made : (o : Origins) (at : Spot) (d : ℕ) (it : Def) (e e' : TermTree) → (HasLets at.mode → ⊥) → e ≡ global d → slice_get o.program.defs d ≡ Some it → e' ≡ it.body → OfNames o at Unfold e e'

@@ -11,11 +11,11 @@ use Rattle.chw_terms.specs.FreeVariables.{free_in}
 use Rattle.chw_terms.specs.Occurs.{occurs}
 use Rattle.chw_terms.specs.TermTree.{TermTree}
 use Rattle.chw_typing.specs.HeadTypes.{from_each}
-use Rattle.found_types.specs.Finding.{Finds}
-use Rattle.found_types.specs.Laws.{FoundIsType, OneFound}
-use Rattle.group_laws.proofs.Free.{free_occur}
-use Rattle.scenes.specs.Origins.{Origins, setting_at}
-use Rattle.active_places.specs.Spots.{Spot}
+use Rattle.typing_laws.specs.Finding.{Finds}
+use Rattle.typing_laws.specs.FoundLaws.{FoundIsType, OneFound}
+use Rattle.typing_laws.proofs.Free.{free_occur}
+use Rattle.rewriting.specs.Origins.{Origins, setting_at}
+use Rattle.rewriting.specs.Spots.{Spot}
 use Rattle.rewriting.specs.Shapes.{IsClosed, IsMade, leading_lambdas}
 use Rattle.rewriting.proofs.Lists.{function_same}
 use Rattle.term_types.specs.Answers.{HasNoType}

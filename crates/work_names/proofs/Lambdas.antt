@@ -2,7 +2,7 @@
 use Rattle.std.proofs.Common.{◌≡◌, ◌∙◌, ap, refl, ℕ, suc, ◌+◌, ◌-◌, ◌<◌, ◌≤◌, List, [], ◌∷◌, ◌++◌, arith}
 use Rattle.chw_types.specs.TypeTree.{TypeTree}
 use Rattle.chw_terms.specs.TermTree.{TermTree, var, lam, app}
-use Rattle.scenes.specs.Origins.{on_variables, under_each}
+use Rattle.rewriting.specs.Origins.{on_variables, under_each}
 
 -- a term on one more variable
 pub on_one_more : (e done next : TermTree) (count n : ℕ) → n < count → done ≡ on_variables e (count - n) n → next ≡ app done (var (count - 1 - n)) → next ≡ on_variables e (count - (n + 1)) (n + 1)

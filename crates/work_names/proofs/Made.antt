@@ -11,9 +11,9 @@ use Rattle.chw_terms.specs.declared.term.Head.TheVariants.{PrimOf}
 use Rattle.chw_terms.specs.TermTree.{TermTree, prim}
 use Rattle.chw_terms.specs.TermView.{tree_of, applied}
 use Rattle.chw_terms.proofs.Spines.{applied_more}
-use Rattle.spine_types.specs.Given.{types_then}
-use Rattle.scenes.specs.Origins.{Origins}
-use Rattle.active_places.specs.Spots.{Spot}
+use Rattle.typing_laws.specs.Given.{types_then}
+use Rattle.rewriting.specs.Origins.{Origins}
+use Rattle.rewriting.specs.Spots.{Spot}
 use Rattle.rewriting.specs.Instances.{Makes}
 use Rattle.rewriting.specs.Names.{OfNames, unfold_global, unfold_made}
 use Rattle.rewriting.specs.Shapes.{IsOfCircuit, fmap_of, leading_lambdas}

@@ -6,8 +6,8 @@ use Rattle.chw_types.specs.Representable.{Representable}
 use Rattle.chw_types.specs.TypeTree.{TypeTree}
 use Rattle.chw_terms.specs.TermTree.{TermTree}
 use Rattle.chw_typing.specs.HeadTypes.{from_each}
-use Rattle.scenes.specs.Origins.{Origins}
-use Rattle.active_places.specs.Spots.{Spot}
+use Rattle.rewriting.specs.Origins.{Origins}
+use Rattle.rewriting.specs.Spots.{Spot}
 use Rattle.rewriting.specs.Shapes.{leading_lambdas}
 use Rattle.rewriting.specs.Signals.{IsLifted}
 

@@ -2,8 +2,8 @@
 ghost use Rattle.std.specs.Prelude.{IfOk, IsTrue, ◌↔◌};
 ghost use Rattle.chw_terms.specs.declared.rule.Rule.TheVariants.{Unfold};
 ghost use Rattle.chw_terms.specs.TermView.{tree_of};
-ghost use Rattle.scenes.specs.Origins.{origins_of};
-ghost use Rattle.active_places.specs.Spots.{HasLets, spot_of};
+ghost use Rattle.rewriting.specs.Origins.{origins_of};
+ghost use Rattle.rewriting.specs.Spots.{HasLets, spot_of};
 ghost use Rattle.rule_parts.specs.Cores.{AnswersCore};
 
 use chw_base::NoMemory;

@@ -3,9 +3,9 @@ use Rattle.std.proofs.Common.{◌≡◌, ◌⊎◌, inl, inr, refl, true, []}
 use Rattle.chw_types.specs.TypeTree.{TypeTree}
 use Rattle.chw_terms.specs.declared.rule.Rule.TheVariants.{Anf}
 use Rattle.chw_terms.specs.TermTree.{TermTree}
-use Rattle.found_types.specs.Finding.{Finds}
-use Rattle.scenes.specs.Origins.{Origins, setting_at}
-use Rattle.active_places.specs.Spots.{Spot, HasLets}
+use Rattle.typing_laws.specs.Finding.{Finds}
+use Rattle.rewriting.specs.Origins.{Origins, setting_at}
+use Rattle.rewriting.specs.Spots.{Spot, HasLets}
 use Rattle.rewriting.specs.Calls.{OfWhole, anf_call, anf_result}
 use Rattle.rewriting.specs.Operands.{NoneNeedsName, anf}
 use Rattle.rewriting.specs.Shapes.{IsVariable, IsLet}

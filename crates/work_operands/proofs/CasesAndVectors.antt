@@ -14,10 +14,10 @@ use Rattle.chw_terms.specs.TermTree.{TermTree, var, vec_lit, case_of, Terms, no_
 use Rattle.chw_terms.specs.TermTree.{Alts, alt, binders}
 use Rattle.chw_terms.specs.TermView.{applied, terms_of, alts_of}
 use Rattle.chw_terms.proofs.ShiftLaws.{raised_is}
-use Rattle.term_paths.specs.Paths.{element_at, with_element, with_part, IsEarlier}
-use Rattle.term_paths.proofs.Parts.{with_part_below}
-use Rattle.scenes.specs.Origins.{Origins}
-use Rattle.active_places.specs.Spots.{Spot, HasLets}
+use Rattle.typing_laws.specs.Paths.{element_at, with_element, with_part, IsEarlier}
+use Rattle.typing_laws.proofs.PathParts.{with_part_below}
+use Rattle.rewriting.specs.Origins.{Origins}
+use Rattle.rewriting.specs.Spots.{Spot, HasLets}
 use Rattle.rewriting.specs.Operands.{StandsAt, of_case, of_vector, NeedsName}
 use Rattle.rewriting.specs.Operands.{IsOperand, OfOperands, anf}
 use Rattle.rewriting.specs.Shapes.{shift_alts}

@@ -4,7 +4,7 @@ use Rattle.chw_types.specs.declared.kind.Kind.{Kind}
 use Rattle.chw_types.specs.TypeTree.{TypeTree, data_of, TypeTrees}
 use Rattle.chw_terms.specs.Constructors.{Constructor}
 use Rattle.chw_typing.specs.HeadTypes.{for_each, from_each, con_type, variables}
-use Rattle.active_places.specs.Spots.{asked_for}
+use Rattle.rewriting.specs.Spots.{asked_for}
 
 asked_by_fields : (ts : List TypeTree) (d : ℕ) (us : TypeTrees)
     → asked_for (from_each ts (data_of d us)) ≡ length ts

@@ -9,8 +9,8 @@ use Rattle.chw_terms.specs.declared.term.Arg.{Arg}
 use Rattle.chw_terms.specs.TermTree.{TermTree, prim, con}
 use Rattle.chw_terms.specs.TermView.{applied}
 use Rattle.chw_typing.specs.HeadTypes.{con_type}
-use Rattle.scenes.specs.Origins.{Origins}
-use Rattle.active_places.specs.Spots.{Spot, HasLets, asked_for}
+use Rattle.rewriting.specs.Origins.{Origins}
+use Rattle.rewriting.specs.Spots.{Spot, HasLets, asked_for}
 use Rattle.work_operands.specs.declared.operands.Operands.TheVariants.{Each, OfPrim}
 use Rattle.work_operands.specs.Firsts.{AnswersArguments, AnswersOperand, NoneNamed, IsName}
 use Rattle.work_operands.proofs.Spines.{prim_needs_none, con_needs_none, call_needs_none}

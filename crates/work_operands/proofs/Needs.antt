@@ -5,13 +5,13 @@ use Rattle.chw_types.specs.TypeTree.{TypeTree}
 use Rattle.chw_terms.specs.TermTree.{TermTree}
 use Rattle.chw_typing.specs.Laws.{OneType, TypesAreTermTypes}
 use Rattle.chw_typing.specs.Scopes.{Setting}
-use Rattle.found_types.specs.Finding.{Finds}
-use Rattle.found_types.specs.Laws.{FoundIsType}
+use Rattle.typing_laws.specs.Finding.{Finds}
+use Rattle.typing_laws.specs.FoundLaws.{FoundIsType}
 use Rattle.term_types.specs.Answers.{IsReady, HasNoType}
-use Rattle.scenes.specs.Laws.{SameKeepsNamed}
-use Rattle.scenes.specs.Named.{IsNamed}
-use Rattle.scenes.specs.Origins.{Origins, setting_at}
-use Rattle.active_places.specs.Spots.{Spot}
+use Rattle.rewriting.specs.SceneLaws.{SameKeepsNamed}
+use Rattle.rewriting.specs.Named.{IsNamed}
+use Rattle.rewriting.specs.Origins.{Origins, setting_at}
+use Rattle.rewriting.specs.Spots.{Spot}
 use Rattle.rewriting.specs.Operands.{NeedsName}
 use Rattle.rewriting.specs.Shapes.{IsVariable}
 use Rattle.work_operands.specs.Firsts.{AnswersType, NeedsNameOf}

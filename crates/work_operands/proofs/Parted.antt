@@ -5,8 +5,8 @@ use Rattle.chw_types.specs.TypeTree.{TypeTree}
 use Rattle.chw_terms.specs.declared.term.Arg.{Arg}
 use Rattle.chw_terms.specs.TermTree.{TermTree}
 use Rattle.chw_terms.specs.TermView.{applied}
-use Rattle.scenes.specs.Origins.{Origins}
-use Rattle.active_places.specs.Spots.{Spot}
+use Rattle.rewriting.specs.Origins.{Origins}
+use Rattle.rewriting.specs.Spots.{Spot}
 use Rattle.rewriting.proofs.Spines.{fronts_same}
 use Rattle.work_operands.specs.declared.operands.Operands.{Operands}
 use Rattle.work_operands.specs.Firsts.{NoneBefore, NoneNamed, IsFirstArg, IsFirstNamed}

@@ -14,9 +14,9 @@ use Rattle.chw_terms.specs.TermTree.{prim}
 use Rattle.chw_terms.specs.TermView.{applied}
 use Rattle.chw_terms.proofs.Spines.{applied_more}
 use Rattle.chw_typing.specs.HeadTypes.{con_type}
-use Rattle.term_paths.specs.Paths.{IsEarlier, argument_path}
-use Rattle.scenes.specs.Origins.{Origins}
-use Rattle.active_places.specs.Spots.{Spot, HasLets, asked_for}
+use Rattle.typing_laws.specs.Paths.{IsEarlier, argument_path}
+use Rattle.rewriting.specs.Origins.{Origins}
+use Rattle.rewriting.specs.Spots.{Spot, HasLets, asked_for}
 use Rattle.rewriting.specs.Calls.{OfWhole, anf_call}
 use Rattle.rewriting.specs.Operands.{StandsAt, of_prim, of_con, StandsInCall, of_global, of_made}
 use Rattle.rewriting.specs.Operands.{NeedsName, NoneNeedsName, IsFirstOperand, IsFirstOfCall}

@@ -14,9 +14,9 @@ use Rattle.chw_terms.specs.TermTree.{Alts}
 use Rattle.chw_terms.specs.TermView.{applied}
 use Rattle.chw_terms.proofs.Spines.{applied_more}
 use Rattle.chw_typing.specs.HeadTypes.{con_type}
-use Rattle.term_paths.specs.Paths.{element_at, argument_path}
-use Rattle.scenes.specs.Origins.{Origins}
-use Rattle.active_places.specs.Spots.{Spot, HasLets, asked_for}
+use Rattle.typing_laws.specs.Paths.{element_at, argument_path}
+use Rattle.rewriting.specs.Origins.{Origins}
+use Rattle.rewriting.specs.Spots.{Spot, HasLets, asked_for}
 use Rattle.rewriting.specs.Operands.{StandsAt, of_prim, of_case, of_con, of_vector, StandsInCall}
 use Rattle.rewriting.specs.Operands.{of_global, of_made}
 use Rattle.rewriting.proofs.Spines.{IsBare, head_is, args_are, fronts_same}

@@ -9,10 +9,10 @@ use Rattle.chw_terms.specs.declared.term.Arg.{Arg}
 use Rattle.chw_terms.specs.declared.term.Arg.TheVariants.{OfTerm}
 use Rattle.chw_terms.specs.TermTree.{TermTree, global, made}
 use Rattle.chw_terms.specs.TermView.{applied}
-use Rattle.found_types.specs.Finding.{Finds}
-use Rattle.scenes.specs.Origins.{Origins, setting_at}
+use Rattle.typing_laws.specs.Finding.{Finds}
+use Rattle.rewriting.specs.Origins.{Origins, setting_at}
 use Rattle.term_types.specs.Answers.{HasNoType}
-use Rattle.active_places.specs.Spots.{Spot, IsOnWords, TakesElement}
+use Rattle.rewriting.specs.Spots.{Spot, IsOnWords, TakesElement}
 use Rattle.rewriting.specs.Calls.{OfWhole}
 use Rattle.rewriting.specs.Operands.{IsSignal, NeedsName, NoneNeedsName}
 use Rattle.rewriting.specs.Operands.{IsOperand, OfOperands}

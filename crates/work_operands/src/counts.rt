@@ -3,7 +3,7 @@ ghost use Rattle.std.specs.Prelude.{◌≡◌};
 ghost use Rattle.chw_prims.specs.Schemas.{row_type, schema_type};
 ghost use Rattle.chw_typing.specs.HeadTypes.{con_type};
 ghost use Rattle.con_places.specs.Constructing.{constructor_of};
-ghost use Rattle.active_places.specs.Spots.{asked_for};
+ghost use Rattle.rewriting.specs.Spots.{asked_for};
 
 use chw_prims::{Prim, Row};
 use con_places::Constructor;

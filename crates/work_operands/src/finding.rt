@@ -2,8 +2,8 @@
 ghost use Rattle.std.specs.Prelude.{◌↔◌, [], reverse, length, IfOk, IsTrue, MatchOption};
 ghost use Rattle.chw_types.specs.References.{HasNoCycle};
 ghost use Rattle.chw_typing.specs.Scopes.{setting_in};
-ghost use Rattle.scenes.specs.Origins.{origins_of};
-ghost use Rattle.active_places.specs.Spots.{spot_of};
+ghost use Rattle.rewriting.specs.Origins.{origins_of};
+ghost use Rattle.rewriting.specs.Spots.{spot_of};
 ghost use Rattle.rewriting.specs.Shapes.{IsVariable, IsLet};
 ghost use Rattle.term_types.specs.Answers.{IsReady};
 ghost use Rattle.term_types.specs.Signatures.{IsSignature};
@@ -14,11 +14,11 @@ use chw_base::NoMemory;
 use chw_terms::{Arg, Head, Place, Scene, Term};
 use chw_types::Ty;
 use chw_typing::laws::{one_type, types_are_term_types};
-use found_types::laws::found_is_type;
+use rewriting::scene_laws::{names_of_modes, settings_of_scenes};
 use rule_parts::named::is_named;
-use scenes::laws::{names_of_modes, settings_of_scenes};
 use std::alloc::Global;
 use term_types::{Signature, type_of_in};
+use typing_laws::found_laws::found_is_type;
 
 /// A part that gets a name: its number, its type, and the part.
 #[derive(Drop)]

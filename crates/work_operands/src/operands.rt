@@ -1,6 +1,6 @@
 //! Which arguments of a head are operands.
 ghost use Rattle.std.specs.Prelude.{◌↔◌, IsTrue};
-ghost use Rattle.active_places.specs.Spots.{HasLets, IsRowOnWords, TakesElement};
+ghost use Rattle.rewriting.specs.Spots.{HasLets, IsRowOnWords, TakesElement};
 ghost use Rattle.rewriting.specs.Operands.{IsSignal};
 ghost use Rattle.work_operands.specs.Firsts.{IsAmong};
 

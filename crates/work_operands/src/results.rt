@@ -2,8 +2,8 @@
 ghost use Rattle.std.specs.Prelude.{◌↔◌, ◌≡◌, true, [], reverse, IfOk, IsTrue};
 ghost use Rattle.chw_terms.specs.declared.rule.Rule.TheVariants.{Anf};
 ghost use Rattle.chw_typing.specs.Scopes.{setting_in};
-ghost use Rattle.scenes.specs.Origins.{origins_of};
-ghost use Rattle.active_places.specs.Spots.{spot_of, HasLets};
+ghost use Rattle.rewriting.specs.Origins.{origins_of};
+ghost use Rattle.rewriting.specs.Spots.{spot_of, HasLets};
 ghost use Rattle.rewriting.specs.Operands.{NoneNeedsName};
 ghost use Rattle.term_types.specs.Answers.{IsReady};
 ghost use Rattle.term_types.specs.Signatures.{IsSignature};
@@ -14,10 +14,10 @@ use crate::finding::{is_let, is_variable, type_at};
 use crate::operands::has_lets;
 use chw_base::NoMemory;
 use chw_terms::{Place, Scene, Term};
-use found_types::laws::found_is_type;
 use rule_parts::copies::let_one;
 use std::alloc::Global;
 use term_types::Signature;
+use typing_laws::found_laws::found_is_type;
 
 // Whether what is given at a place gets a name.
 fn is_result(place: &Place) -> bool

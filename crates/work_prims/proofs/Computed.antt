@@ -13,9 +13,9 @@ use Rattle.chw_terms.specs.declared.term.Arg.TheVariants.{OfTerm}
 use Rattle.chw_terms.specs.Evaluated.{evaluated}
 use Rattle.chw_terms.specs.TermTree.{TermTree, prim}
 use Rattle.chw_terms.specs.TermView.{applied}
-use Rattle.spine_types.specs.Given.{types_then}
-use Rattle.scenes.specs.Origins.{Origins}
-use Rattle.active_places.specs.Spots.{Spot}
+use Rattle.typing_laws.specs.Given.{types_then}
+use Rattle.rewriting.specs.Origins.{Origins}
+use Rattle.rewriting.specs.Spots.{Spot}
 use Rattle.prim_bits.specs.Values.{value_of}
 use Rattle.prim_bits.specs.Widths.{TakesNumbers}
 use Rattle.rewriting.specs.Primitives.{OfPrimitives, HasValue, literal, word_given, delta}

@@ -4,6 +4,7 @@ pub mod Forms
 pub mod Inverted
 pub mod Lists
 pub mod Narrow
+pub mod Ranges
 pub mod Splits
 pub mod Taking
 pub mod Trials

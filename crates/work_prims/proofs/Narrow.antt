@@ -16,7 +16,7 @@ use Rattle.chw_prims.specs.declared.row.Row.{Row}
 use Rattle.chw_prims.specs.declared.row.Row.TheVariants.{Binary, WideSum, WideProduct, Unary, Shift, Compare, Extend, Truncate, Cut, Joined, Reduce, Packed, Unpacked}
 use Rattle.chw_terms.specs.Evaluated.{evaluated, added}
 use Rattle.chw_terms.specs.Unrolled.{at_types, widths_in, IsUpTo}
-use Rattle.active_places.specs.Spots.{asked_for}
+use Rattle.rewriting.specs.Spots.{asked_for}
 use Rattle.prim_bits.specs.Widths.{argument_widths, result_width, TakesNumbers}
 
 abbrev IsNarrow : List TypeTree → TypeTree → Type 0

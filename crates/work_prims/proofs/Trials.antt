@@ -10,8 +10,8 @@ use Rattle.chw_terms.specs.declared.term.Head.{Head}
 use Rattle.chw_terms.specs.declared.term.Head.TheVariants.{PrimOf}
 use Rattle.chw_terms.specs.TermTree.{TermTree, prim}
 use Rattle.chw_terms.specs.TermView.{tree_of, applied}
-use Rattle.scenes.specs.Origins.{Origins}
-use Rattle.active_places.specs.Spots.{Spot, asked_for}
+use Rattle.rewriting.specs.Origins.{Origins}
+use Rattle.rewriting.specs.Spots.{Spot, asked_for}
 use Rattle.rule_parts.specs.Cores.{Answers, AnswersCore}
 use Rattle.rule_parts.proofs.Heads.{bare, IsOfPrims, of_named_args, of_few_args, of_other_head}
 use Rattle.work_prims.specs.Rules.{IsOfPrimitives}

@@ -17,13 +17,13 @@ use Rattle.chw_terms.specs.Unrolled.{CanUnroll, body_of}
 use Rattle.chw_typing.specs.Scopes.{Setting}
 use Rattle.chw_typing.specs.Laws.{OneType, TypesAreTermTypes}
 use Rattle.chw_typing.specs.Typing.{HasType}
-use Rattle.found_types.specs.Finding.{Finds}
-use Rattle.found_types.specs.Laws.{FoundIsType}
+use Rattle.typing_laws.specs.Finding.{Finds}
+use Rattle.typing_laws.specs.FoundLaws.{FoundIsType}
 use Rattle.term_types.specs.Answers.{IsReady}
-use Rattle.scenes.specs.Laws.{SameKeepsNamed}
-use Rattle.scenes.specs.Named.{IsNamed}
-use Rattle.scenes.specs.Origins.{Origins, setting_at}
-use Rattle.active_places.specs.Spots.{Spot}
+use Rattle.rewriting.specs.SceneLaws.{SameKeepsNamed}
+use Rattle.rewriting.specs.Named.{IsNamed}
+use Rattle.rewriting.specs.Origins.{Origins, setting_at}
+use Rattle.rewriting.specs.Spots.{Spot}
 use Rattle.rewriting.specs.Primitives.{OfPrimitives, HasUnnamedVector, unroll}
 use Rattle.rule_parts.specs.Cores.{AnswersCore}
 use Rattle.work_prims.specs.Given.{types_in, as_args}
@@ -53,7 +53,7 @@ begins_unnamed o at rest es q v =
 pub unroll_answer : (o : Origins) (at : Spot) (p : Prim) (args rest : List Arg) (r : Option TermTree) → (p ≡ VAt → BeginsUnnamed o at rest) → drop (length (types_in args)) args ≡ rest → MatchOption r ((es : List TermTree) → rest ≡ as_args es → CanUnroll p (types_in args) es → ⊥) (λ e. IsWrittenOut p (types_in args) rest e) → AnswersCore o at Unroll (applied (prim p) args) r
 unroll_answer o at p args rest (Some e) u d h =
     subst (λ args'. OfPrimitives o at Unroll (applied (prim p) args') e) (sym (split_is args rest h.es d h.are))
-    (unroll h.can (λ w. has_unnamed o at rest h.es h.are (u w)) h.gives)
+    (unroll h.can h.range (λ w. has_unnamed o at rest h.es h.are (u w)) h.gives)
 unroll_answer o at p args rest None u d none = λ e m.
     let c = unrolled_of p args m refl refl in
     none c.es (rest_is args rest c.types c.es c.are d) (subst (λ ts. CanUnroll p ts c.es) (sym (types_are args c.types c.es c.are)) c.can)

@@ -1,13 +1,14 @@
 -- What the rule on elements looks for.
-use Rattle.std.specs.Prelude.{◌≡◌, ℕ, min, List, [], ◌∷◌, Bool, Some}
+use Rattle.std.specs.Prelude.{◌≡◌, ℕ, ◌≤◌, min, List, [], ◌∷◌, Bool, Some}
 use Rattle.chw_bits.specs.Bits.{number_of}
 use Rattle.chw_types.specs.declared.kind.Scalar.TheVariants.{U}
+use Rattle.chw_types.specs.Polynomials.{greatest}
 use Rattle.chw_types.specs.TypeTree.{TypeTree, nat_lit}
 use Rattle.chw_terms.specs.declared.term.Arg.{Arg}
 use Rattle.chw_terms.specs.Evaluated.{evaluated}
 use Rattle.chw_terms.specs.TermTree.{TermTree, Terms, lit, vec_lit}
-use Rattle.spine_types.specs.Given.{types_then}
-use Rattle.term_paths.specs.Paths.{element_at}
+use Rattle.typing_laws.specs.Given.{types_then}
+use Rattle.typing_laws.specs.Paths.{element_at}
 
 -- a number, two types and a written vector, of which this is the element of that number
 pub record IsElement (args : List Arg) (e : TermTree) : Type 0 where
@@ -19,6 +20,7 @@ pub record IsElement (args : List Arg) (e : TermTree) : Type 0 where
   pub j : ℕ
   pub are : args ≡ types_then (i ∷ n ∷ a ∷ []) (vec_lit t es ∷ [])
   pub number : evaluated i ≡ nat_lit j
+  pub within : j ≤ greatest
   pub is : element_at es j ≡ Some e
 
 -- a number, two types, a written vector and a word, of which this is the element of the word's
@@ -33,4 +35,5 @@ pub record IsElementAt (args : List Arg) (e : TermTree) : Type 0 where
   pub m : ℕ
   pub are : args ≡ types_then (n ∷ k ∷ a ∷ []) (vec_lit t es ∷ lit U bits ∷ [])
   pub number : evaluated n ≡ nat_lit m
+  pub within : m ≤ greatest
   pub is : element_at es (min (number_of bits) m) ≡ Some e

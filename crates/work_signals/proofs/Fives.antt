@@ -13,8 +13,8 @@ use Rattle.chw_terms.specs.declared.term.Head.TheVariants.{PrimOf}
 use Rattle.chw_terms.specs.TermTree.{TermTree, prim}
 use Rattle.chw_terms.specs.TermView.{applied}
 use Rattle.chw_terms.proofs.Spines.{applied_more}
-use Rattle.scenes.specs.Origins.{Origins}
-use Rattle.active_places.specs.Spots.{Spot}
+use Rattle.rewriting.specs.Origins.{Origins}
+use Rattle.rewriting.specs.Spots.{Spot}
 use Rattle.rewriting.specs.Lifted.{Joins, ap_pure, fmap_pure, fmap_fmap, fmap_ap}
 use Rattle.rewriting.specs.Lifted.{ap_value, ap_fmap, ap_ap}
 use Rattle.rewriting.specs.Shapes.{IsOfCircuit, fmap_of, ap_of}

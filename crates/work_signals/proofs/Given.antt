@@ -2,8 +2,8 @@
 use Rattle.std.proofs.Common.{◌≡◌, subst}
 use Rattle.chw_types.specs.TypeTree.{TypeTree, fun, signal}
 use Rattle.chw_terms.specs.TermTree.{TermTree}
-use Rattle.scenes.specs.Origins.{Origins}
-use Rattle.active_places.specs.Spots.{Spot}
+use Rattle.rewriting.specs.Origins.{Origins}
+use Rattle.rewriting.specs.Spots.{Spot}
 use Rattle.rewriting.specs.Lifted.{FindsAt, IsNotPure}
 use Rattle.rewriting.specs.Lifted.{Joins, ap_pure, fmap_pure, fmap_fmap, fmap_ap}
 use Rattle.rewriting.specs.Lifted.{ap_value, ap_fmap, ap_ap}

@@ -1,8 +1,8 @@
 -- What becomes of functions on signals as they are seen.
 use Rattle.std.proofs.Common.{◌≡◌, sym, subst}
 use Rattle.chw_terms.specs.TermTree.{TermTree}
-use Rattle.scenes.specs.Origins.{Origins}
-use Rattle.active_places.specs.Spots.{Spot}
+use Rattle.rewriting.specs.Origins.{Origins}
+use Rattle.rewriting.specs.Spots.{Spot}
 use Rattle.rewriting.specs.Lifted.{Joins}
 use Rattle.rewriting.specs.Shapes.{fmap_of, ap_of}
 use Rattle.work_signals.specs.declared.views.Lifted.{Lifted}

@@ -2,8 +2,8 @@
 use Rattle.std.proofs.Common.{◌≡◌, subst, refl}
 use Rattle.chw_types.specs.TypeTree.{TypeTree, fun, signal}
 use Rattle.chw_terms.specs.TermTree.{TermTree}
-use Rattle.scenes.specs.Origins.{Origins}
-use Rattle.active_places.specs.Spots.{Spot}
+use Rattle.rewriting.specs.Origins.{Origins}
+use Rattle.rewriting.specs.Spots.{Spot}
 use Rattle.rewriting.specs.Lifted.{Joins, FindsAt, IsNotPure}
 use Rattle.rewriting.specs.Shapes.{fmap_of, ap_of}
 use Rattle.work_signals.specs.declared.views.Lifted.{Lifted}

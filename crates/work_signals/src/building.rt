@@ -4,7 +4,7 @@ ghost use Rattle.chw_types.specs.TypeTree.{fun};
 ghost use Rattle.chw_terms.specs.TermMoves.{shift};
 ghost use Rattle.chw_terms.specs.TermTree.{prim, var};
 ghost use Rattle.chw_terms.specs.TermView.{applied};
-ghost use Rattle.spine_types.specs.Given.{types_then};
+ghost use Rattle.typing_laws.specs.Given.{types_then};
 ghost use Rattle.rewriting.specs.Lifted.{composed, before_each, on_value, behind_each, each_composed};
 ghost use Rattle.rewriting.specs.Shapes.{fmap_of, pure_of};
 

@@ -2,8 +2,8 @@
 ghost use Rattle.std.specs.Prelude.{◌≡◌, [], reverse, IfOk, MatchOption};
 ghost use Rattle.chw_types.specs.TypeTree.{TypeTree, fun, signal};
 ghost use Rattle.chw_typing.specs.Scopes.{setting_in};
-ghost use Rattle.scenes.specs.Origins.{origins_of};
-ghost use Rattle.active_places.specs.Spots.{spot_of};
+ghost use Rattle.rewriting.specs.Origins.{origins_of};
+ghost use Rattle.rewriting.specs.Spots.{spot_of};
 ghost use Rattle.term_types.specs.Answers.{IsReady};
 ghost use Rattle.term_types.specs.Signatures.{IsSignature};
 ghost use Rattle.work_signals.specs.Joined.{AnswersType, AnswersFunction, AnswersPayload, AnswersLifted};
@@ -11,10 +11,10 @@ ghost use Rattle.work_signals.specs.Joined.{AnswersType, AnswersFunction, Answer
 use chw_base::NoMemory;
 use chw_terms::{Place, Scene, Term};
 use chw_types::{Ty, TyNode};
-use found_types::laws::{found_is_type, one_found};
-use scenes::laws::settings_of_scenes;
+use rewriting::scene_laws::settings_of_scenes;
 use std::alloc::Global;
 use term_types::{Signature, type_of_in};
+use typing_laws::found_laws::{found_is_type, one_found};
 
 // The type of a term at a place.
 fn type_at(

@@ -7,7 +7,7 @@ use row_notation::read;
 use row_tables::{Unread, print_rows};
 use std::alloc::Global;
 use std::io;
-use zero_parts::without_zeros;
+use typing_laws::without_zeros;
 
 fn main(rt: HostRuntime) -> io::Result<()> {
     print_rows(&rt, answer)

@@ -1,6 +1,6 @@
 use Rattle.std.proofs.Common.{refl, ap, sym}
 use Rattle.chw_cli.specs.Telling.{place_line}
-use Rattle.chw_cli.proofs.Limits.{depth_line, long_text_line, too_large_line}
+use Rattle.chw_cli.proofs.Limits.{deep_body_line, depth_line, long_text_line, too_large_line}
 use Rattle.chw_cli.proofs.Telling.{told_by}
 use Rattle.chw_cli.proofs.tell.tell.Goals as goal
 
@@ -39,6 +39,14 @@ returns-in-Syntax g c =
 pub returns-in-Depth : goal.returns-in-Depth
 returns-in-Depth g c =
     told_by g.E.Sink.put_gives g.E.Sink.written g.E.Sink.faults c.args.refusal.now _ c.in-Depth.is _ ⊥ _ _ _ _ (sym depth_line) refl (λ no. absurd no) c.put_line-in-Depth.ensures
+
+pub returns-in-DeepBody : goal.returns-in-DeepBody
+returns-in-DeepBody g c =
+    told_by g.E.Sink.put_gives g.E.Sink.written g.E.Sink.faults c.args.refusal.now _ c.in-DeepBody.is _ ⊥ _ _ _ _ (sym deep_body_line) refl (λ no. absurd no) c.put_line-in-DeepBody.ensures
+
+pub returns-in-Spent : goal.returns-in-Spent
+returns-in-Spent g c =
+    told_by g.E.Sink.put_gives g.E.Sink.written g.E.Sink.faults c.args.refusal.now _ c.in-Spent.is _ (Unit {0}) _ _ _ _ refl refl (λ _. tt) c.tell_place-in-Spent.ensures
 
 pub returns-in-Verilog : goal.returns-in-Verilog
 returns-in-Verilog g c =

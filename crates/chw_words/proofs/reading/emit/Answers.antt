@@ -1,35 +1,7 @@
-use Rattle.std.proofs.Common.{◌≡◌, ◌∙◌, sym, refl, ap, subst, Some, None, codes, option_map}
 use Rattle.clap.specs.Matches.{found_of}
-use Rattle.clap.specs.Walk.{first_of, rows_of}
-use Rattle.clap.proofs.WalkLemmas.{first_value-rows}
-use Rattle.chw_words.specs.Parsing.{BudgetIs, emit, matched_under}
-use Rattle.chw_words.proofs.Exactly.{emit_only}
+use Rattle.clap.specs.Walk.{rows_of}
+use Rattle.chw_words.specs.Parsing.{emit}
 use Rattle.chw_words.proofs.reading.emit.Goals as goal
 
-pub returns-in_default-clause-fault : goal.returns-in_default-clause-fault
-returns-in_default-clause-fault c =
-    let found = found_of c.args.matches.now in
-    let none : first_of (codes "file") (rows_of found) ≡ None =
-    sym (first_value-rows found (codes "file")) ∙ sym c.get_str.ensures ∙ ap (option_map (λ s. s.now)) c.in_default.is in
-    λ command is.
-    let only = emit_only (matched_under (codes "emit") c.args.matches.now) (rows_of found) command refl is in
-    let bad : None ≡ Some (only.0) = sym none ∙ only.2 in
-    cc
-
-pub returns-in_default-budget-clause-fault : goal.returns-in_default-budget-clause-fault
-returns-in_default-budget-clause-fault c =
-    let found = found_of c.args.matches.now in
-    let said : option_map (λ s. s.now) c.get_str-2.result ≡ first_of (codes "budget") (rows_of found) = c.get_str-2.ensures ∙ first_value-rows found (codes "budget") in
-    λ command is.
-    let only = emit_only (matched_under (codes "emit") c.args.matches.now) (rows_of found) command refl is in
-    c.in_default-budget.ensures (only.1) (subst (λ o. BudgetIs o (only.1)) (sym said) (only.3))
-
 pub returns-clause-command : goal.returns-clause-command
-returns-clause-command c =
-    let found = found_of c.args.matches.now in
-    let file = c.in_ok-name.field-0 in
-    let budget = c.in-Some-budget.budget in
-    let named : first_of (codes "file") (rows_of found) ≡ Some file =
-    sym (first_value-rows found (codes "file")) ∙ sym c.in-Some.ensures ∙ ap Some (sym c.in_ok-name.ensures) in
-    let said : option_map (λ s. s.now) c.get_str-2.result ≡ first_of (codes "budget") (rows_of found) = c.get_str-2.ensures ∙ first_value-rows found (codes "budget") in
-    emit (rows_of found) file budget named (subst (λ o. BudgetIs o budget) said c.in-Some-budget.ensures)
+returns-clause-command c = emit (rows_of (found_of c.args.matches.now)) _ _ c.in_ok-file.ensures.budgeted

@@ -3,11 +3,11 @@ use Rattle.chw_terms.specs.TermTree.{case_of}
 use Rattle.chw_terms.specs.TermView.{tree_of, alts_of}
 use Rattle.chw_typing.specs.Scopes.{setting_in}
 use Rattle.chw_typing.specs.Typing.{HasType}
-use Rattle.found_types.specs.Finding.{Finds}
-use Rattle.group_laws.specs.Groups.{each_body}
-use Rattle.scenes.specs.Named.{IsNamed}
-use Rattle.scenes.specs.Origins.{origins_of, setting_at}
-use Rattle.active_places.specs.Spots.{spot_of}
+use Rattle.typing_laws.specs.Finding.{Finds}
+use Rattle.typing_laws.specs.Groups.{each_body}
+use Rattle.rewriting.specs.Named.{IsNamed}
+use Rattle.rewriting.specs.Origins.{origins_of, setting_at}
+use Rattle.rewriting.specs.Spots.{spot_of}
 use Rattle.rewriting.specs.Shapes.{shift_alts}
 use Rattle.term_types.specs.Answers.{IsReady}
 use Rattle.flow_cases.specs.Heads.{IsApplied}

@@ -3,9 +3,9 @@ use Rattle.chw_terms.specs.declared.scene.Mode.TheVariants.{C}
 use Rattle.chw_terms.specs.declared.term.Pattern.TheVariants.{OfCon}
 use Rattle.chw_terms.specs.TermView.{alts_of}
 use Rattle.chw_typing.specs.HeadTypes.{PatternOf}
-use Rattle.scenes.specs.Named.{IsNamed}
-use Rattle.scenes.specs.Origins.{origins_of}
-use Rattle.active_places.specs.Spots.{spot_of}
+use Rattle.rewriting.specs.Named.{IsNamed}
+use Rattle.rewriting.specs.Origins.{origins_of}
+use Rattle.rewriting.specs.Spots.{spot_of}
 use Rattle.flow_cases.specs.Moves.{fields_put}
 use Rattle.flow_cases.proofs.Inversions.{of_port}
 use Rattle.flow_cases.proofs.Makings.{port_made}

@@ -1,8 +1,8 @@
 use Rattle.std.proofs.Common.{Option, sym, subst}
 use Rattle.chw_terms.specs.declared.rule.Rule.TheVariants.{CaseCon, CaseLet}
 use Rattle.chw_terms.specs.TermTree.{TermTree}
-use Rattle.scenes.specs.Origins.{origins_of}
-use Rattle.active_places.specs.Spots.{spot_of}
+use Rattle.rewriting.specs.Origins.{origins_of}
+use Rattle.rewriting.specs.Spots.{spot_of}
 use Rattle.term_types.proofs.Matched.{ok_more}
 use Rattle.flow_cases.specs.Answered.{AnswersAnywhere, AnswersOver, AnswersCase}
 use Rattle.flow_cases.proofs.trial.of_case.Goals as goal

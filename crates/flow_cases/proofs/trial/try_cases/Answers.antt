@@ -2,8 +2,8 @@ use Rattle.std.proofs.Common.{◌≡◌, ◌∙◌, Option, ap, sym, subst}
 use Rattle.std.specs.Option.{option_map}
 use Rattle.chw_terms.specs.TermTree.{TermTree, case_of}
 use Rattle.chw_terms.specs.TermView.{tree_of, alts_of, applied}
-use Rattle.scenes.specs.Origins.{origins_of}
-use Rattle.active_places.specs.Spots.{spot_of}
+use Rattle.rewriting.specs.Origins.{origins_of}
+use Rattle.rewriting.specs.Spots.{spot_of}
 use Rattle.term_types.proofs.Matched.{ok_more}
 use Rattle.rule_parts.specs.Cores.{Answers, AnswersCore}
 use Rattle.flow_cases.proofs.Forms.{no_case}

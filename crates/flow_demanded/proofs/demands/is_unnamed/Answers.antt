@@ -2,10 +2,10 @@ use Rattle.std.proofs.Common.{◌↔◌, IfSome, IsTrue, [], reverse, sym, subst
 use Rattle.chw_types.specs.TypeTree.{TypeTree}
 use Rattle.chw_typing.specs.Scopes.{setting_in}
 use Rattle.chw_typing.specs.Typing.{HasType}
-use Rattle.found_types.specs.Finding.{Finds}
-use Rattle.scenes.specs.Named.{IsNamed}
-use Rattle.scenes.specs.Origins.{origins_of, setting_at}
-use Rattle.active_places.specs.Spots.{spot_of}
+use Rattle.typing_laws.specs.Finding.{Finds}
+use Rattle.rewriting.specs.Named.{IsNamed}
+use Rattle.rewriting.specs.Origins.{origins_of, setting_at}
+use Rattle.rewriting.specs.Spots.{spot_of}
 use Rattle.term_types.specs.Answers.{IsReady}
 use Rattle.flow_demanded.proofs.Unnamed.{each_named, decided}
 use Rattle.flow_demanded.proofs.demands.is_unnamed.Goals as goal

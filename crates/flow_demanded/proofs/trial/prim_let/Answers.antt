@@ -2,8 +2,8 @@ use Rattle.std.proofs.Common.{IfSome, Some, sym, subst}
 use Rattle.chw_terms.specs.declared.rule.Rule.TheVariants.{PrimLet}
 use Rattle.chw_terms.specs.TermTree.{prim}
 use Rattle.chw_terms.specs.TermView.{applied, group_of}
-use Rattle.scenes.specs.Origins.{origins_of}
-use Rattle.active_places.specs.Spots.{spot_of}
+use Rattle.rewriting.specs.Origins.{origins_of}
+use Rattle.rewriting.specs.Spots.{spot_of}
 use Rattle.rule_parts.specs.Cores.{AnswersCore}
 use Rattle.flow_demanded.specs.Demanding.{IsFirstOfForm}
 use Rattle.flow_demanded.specs.declared.forms.Form.TheVariants.{Letrec}

@@ -4,8 +4,8 @@ use Rattle.std.proofs.lemmas.List.{take-append-drop, length-take-le}
 use Rattle.chw_prims.specs.Schemas.{schema_type}
 use Rattle.chw_terms.specs.TermTree.{TermTree, prim}
 use Rattle.chw_terms.specs.TermView.{tree_of, applied}
-use Rattle.scenes.specs.Origins.{origins_of}
-use Rattle.active_places.specs.Spots.{spot_of, asked_for}
+use Rattle.rewriting.specs.Origins.{origins_of}
+use Rattle.rewriting.specs.Spots.{spot_of, asked_for}
 use Rattle.term_types.proofs.Matched.{ok_more}
 use Rattle.rule_parts.specs.Cores.{Answers}
 use Rattle.rule_parts.proofs.Heads.{bare, of_few_args, of_named_args, of_other_head}

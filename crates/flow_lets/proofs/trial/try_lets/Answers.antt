@@ -2,7 +2,7 @@ use Rattle.std.proofs.Common.{◌≡◌, ◌∙◌, ap, sym, subst, None, Option
 use Rattle.std.specs.Option.{option_map}
 use Rattle.chw_terms.specs.TermTree.{TermTree, letrec}
 use Rattle.chw_terms.specs.TermView.{tree_of, applied, group_of}
-use Rattle.active_places.specs.Spots.{spot_of}
+use Rattle.rewriting.specs.Spots.{spot_of}
 use Rattle.rewriting.specs.Shapes.{IsOfHead}
 use Rattle.flow_lets.specs.Flat.{AnswersFlat, AnswersLetrec}
 use Rattle.flow_lets.proofs.FirstLet.{other_head}

@@ -1,4 +1,4 @@
-use Rattle.scenes.specs.Origins.{made_of}
+use Rattle.rewriting.specs.Origins.{made_of}
 use Rattle.rewriting.specs.Steps.{origins_in}
 use Rattle.normal_forms.proofs.Names.{body_names}
 use Rattle.normal_forms.proofs.laws.names_are_wires.Goals as goal

@@ -1,4 +1,4 @@
-use Rattle.scenes.specs.Origins.{made_of}
+use Rattle.rewriting.specs.Origins.{made_of}
 use Rattle.rewriting.specs.Steps.{origins_in}
 use Rattle.normal_forms.proofs.Calls.{body_calls}
 use Rattle.normal_forms.proofs.laws.normal_holds_only_calls.Goals as goal

@@ -1,4 +1,4 @@
-use Rattle.scenes.specs.Origins.{made_of}
+use Rattle.rewriting.specs.Origins.{made_of}
 use Rattle.rewriting.specs.Steps.{origins_in}
 use Rattle.normal_forms.proofs.FirstOrder.{body_first_order}
 use Rattle.normal_forms.proofs.laws.normal_is_first_order.Goals as goal

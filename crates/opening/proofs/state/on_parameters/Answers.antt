@@ -1,5 +1,5 @@
 use Rattle.std.proofs.Common.{◌≡◌, ◌∙◌, ap, subst, IfOk, length}
-use Rattle.scenes.specs.Origins.{on_variables, under_each}
+use Rattle.rewriting.specs.Origins.{on_variables, under_each}
 use Rattle.opening.specs.Expanded.{on_parameters}
 use Rattle.opening.proofs.state.on_parameters.Goals as goal
 

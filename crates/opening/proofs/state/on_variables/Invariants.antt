@@ -1,6 +1,6 @@
 -- on what is left, the term so far is the whole
 use Rattle.std.proofs.Common.{◌≡◌}
-use Rattle.scenes.specs.Origins.{on_variables}
+use Rattle.rewriting.specs.Origins.{on_variables}
 use Rattle.opening.proofs.state.on_variables.Given as goal
 
 abbrev pub invariant-loop-number : goal.invariant-loop-number

@@ -1,6 +1,6 @@
 use Rattle.std.proofs.Common.{◌∙◌, ap, sym, arith}
 use Rattle.std.proofs.lemmas.List.{nil_from_length}
-use Rattle.scenes.specs.Origins.{under_each}
+use Rattle.rewriting.specs.Origins.{under_each}
 use Rattle.opening.proofs.Building.{under_last}
 use Rattle.opening.proofs.state.under_each.Goals as goal
 

@@ -1,6 +1,6 @@
 -- under what is left, the term so far is the whole
 use Rattle.std.proofs.Common.{◌≡◌, length}
-use Rattle.scenes.specs.Origins.{under_each}
+use Rattle.rewriting.specs.Origins.{under_each}
 use Rattle.opening.proofs.state.under_each.Given as goal
 
 abbrev pub invariant-loop-ty : goal.invariant-loop-ty

@@ -1,8 +1,8 @@
 use Rattle.std.proofs.Common.{[], reverse, sym, subst}
 use Rattle.chw_types.specs.TypeTree.{TypeTree}
 use Rattle.chw_typing.specs.Typing.{HasType}
-use Rattle.scenes.specs.Origins.{origins_of}
-use Rattle.active_places.specs.Spots.{spot_of}
+use Rattle.rewriting.specs.Origins.{origins_of}
+use Rattle.rewriting.specs.Spots.{spot_of}
 use Rattle.rule_trials.proofs.Tried.{found}
 use Rattle.rule_trials.proofs.trial.first_rule.Goals as goal
 

@@ -1,5 +1,5 @@
-use Rattle.scenes.specs.Origins.{origins_of}
-use Rattle.active_places.specs.Spots.{spot_of}
+use Rattle.rewriting.specs.Origins.{origins_of}
+use Rattle.rewriting.specs.Spots.{spot_of}
 use Rattle.rule_trials.proofs.Tried.{NoneBefore}
 use Rattle.rule_trials.proofs.trial.first_rule.Given as goal
 

@@ -2,8 +2,8 @@ use Rattle.std.specs.Prelude.{Option}
 use Rattle.std.proofs.Common.{sym, subst}
 use Rattle.chw_terms.specs.declared.rule.Rule.TheVariants.{Anf}
 use Rattle.chw_terms.specs.TermTree.{TermTree}
-use Rattle.scenes.specs.Origins.{origins_of}
-use Rattle.active_places.specs.Spots.{spot_of}
+use Rattle.rewriting.specs.Origins.{origins_of}
+use Rattle.rewriting.specs.Spots.{spot_of}
 use Rattle.term_types.proofs.Matched.{ok_more}
 use Rattle.rule_parts.specs.Cores.{IsInstanceAnswer}
 use Rattle.work_operands.specs.Firsts.{AnswersWhole}

@@ -1,7 +1,7 @@
 use Rattle.std.specs.Prelude.{Option}
 use Rattle.chw_terms.specs.TermTree.{TermTree}
-use Rattle.scenes.specs.Origins.{origins_of}
-use Rattle.active_places.specs.Spots.{spot_of}
+use Rattle.rewriting.specs.Origins.{origins_of}
+use Rattle.rewriting.specs.Spots.{spot_of}
 use Rattle.term_types.proofs.Matched.{ok_more}
 use Rattle.rule_parts.specs.Kept.{KeepsTypes}
 use Rattle.rule_parts.specs.Cores.{IsInstanceAnswer}

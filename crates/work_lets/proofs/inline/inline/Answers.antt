@@ -3,8 +3,8 @@ use Rattle.std.proofs.lemmas.Bool.{true≢false}
 use Rattle.chw_terms.specs.declared.rule.Rule.TheVariants.{Inline}
 use Rattle.chw_terms.specs.TermTree.{letrec}
 use Rattle.chw_terms.specs.TermView.{group_of, tree_of}
-use Rattle.scenes.specs.Origins.{origins_of}
-use Rattle.active_places.specs.Spots.{spot_of}
+use Rattle.rewriting.specs.Origins.{origins_of}
+use Rattle.rewriting.specs.Spots.{spot_of}
 use Rattle.rewriting.specs.Lets.{EachStays, OfLets, inlined}
 use Rattle.work_lets.specs.Inlined.{IsFirst}
 use Rattle.work_lets.proofs.Inlined.{all_stay, first_parts}

@@ -1,8 +1,8 @@
 use Rattle.std.proofs.Common.{sym, subst, IfOk}
 use Rattle.std.proofs.lemmas.Result.{IfOk-weaker}
 use Rattle.chw_terms.specs.TermView.{tree_of}
-use Rattle.scenes.specs.Origins.{origins_of}
-use Rattle.active_places.specs.Spots.{spot_of}
+use Rattle.rewriting.specs.Origins.{origins_of}
+use Rattle.rewriting.specs.Spots.{spot_of}
 use Rattle.rule_parts.specs.Cores.{AnswersCore}
 use Rattle.work_lets.proofs.trial.of_head.Goals as goal
 

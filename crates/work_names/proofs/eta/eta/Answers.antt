@@ -2,8 +2,8 @@ use Rattle.std.proofs.Common.{◌∙◌, ap}
 use Rattle.chw_prims.specs.declared.prim.Primitive.TheVariants.{Fmap}
 use Rattle.chw_terms.specs.TermTree.{TermTree, prim}
 use Rattle.chw_terms.specs.TermView.{applied}
-use Rattle.scenes.specs.Origins.{origins_of}
-use Rattle.active_places.specs.Spots.{spot_of}
+use Rattle.rewriting.specs.Origins.{origins_of}
+use Rattle.rewriting.specs.Spots.{spot_of}
 use Rattle.rewriting.specs.Shapes.{fmap_of}
 use Rattle.work_names.specs.Functions.{LacksLambdas}
 use Rattle.work_names.proofs.Lacking.{none_lack, lambdas_lack}

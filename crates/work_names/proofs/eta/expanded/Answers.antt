@@ -1,6 +1,6 @@
 use Rattle.std.proofs.Common.{◌≡◌, ◌∙◌, ap, subst, IfOk}
 use Rattle.chw_terms.specs.TermMoves.{shift}
-use Rattle.scenes.specs.Origins.{on_variables, under_each}
+use Rattle.rewriting.specs.Origins.{on_variables, under_each}
 use Rattle.work_names.proofs.eta.expanded.Goals as goal
 
 pub returns : goal.returns

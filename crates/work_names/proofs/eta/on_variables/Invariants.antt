@@ -1,5 +1,5 @@
 use Rattle.std.proofs.Common.{◌≡◌, ◌-◌}
-use Rattle.scenes.specs.Origins.{on_variables}
+use Rattle.rewriting.specs.Origins.{on_variables}
 use Rattle.work_names.proofs.eta.on_variables.Given as goal
 
 abbrev pub invariant-loop-n : goal.invariant-loop-n

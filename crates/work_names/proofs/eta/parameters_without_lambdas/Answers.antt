@@ -1,8 +1,8 @@
 use Rattle.std.proofs.Common.{◌<◌, IfSome, [], length, sym, subst}
 use Rattle.std.specs.Option.{option_map}
-use Rattle.found_types.specs.Finding.{Finds}
-use Rattle.scenes.specs.Origins.{origins_of, setting_at}
-use Rattle.active_places.specs.Spots.{spot_of}
+use Rattle.typing_laws.specs.Finding.{Finds}
+use Rattle.rewriting.specs.Origins.{origins_of, setting_at}
+use Rattle.rewriting.specs.Spots.{spot_of}
 use Rattle.rewriting.specs.Shapes.{leading_lambdas}
 use Rattle.work_names.specs.Functions.{AnswersParameters, IsOfValues}
 use Rattle.work_names.proofs.Lacking.{no_params, params_are, lacks_other, lacks_no_lambda, lacks_some}

@@ -1,6 +1,6 @@
 use Rattle.std.proofs.Common.{◌∙◌, ap, sym, arith}
 use Rattle.std.proofs.lemmas.List.{nil_from_length}
-use Rattle.scenes.specs.Origins.{under_each}
+use Rattle.rewriting.specs.Origins.{under_each}
 use Rattle.work_names.proofs.Lambdas.{under_last}
 use Rattle.work_names.proofs.eta.under_each.Goals as goal
 

@@ -1,5 +1,5 @@
 use Rattle.std.proofs.Common.{◌≡◌, length}
-use Rattle.scenes.specs.Origins.{under_each}
+use Rattle.rewriting.specs.Origins.{under_each}
 use Rattle.work_names.proofs.eta.under_each.Given as goal
 
 abbrev pub invariant-loop-ty : goal.invariant-loop-ty

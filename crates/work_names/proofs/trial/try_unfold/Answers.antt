@@ -4,8 +4,8 @@ use Rattle.std.proofs.lemmas.Result.{IfOk-weaker}
 use Rattle.chw_terms.specs.declared.rule.Rule.TheVariants.{Unfold}
 use Rattle.chw_terms.specs.TermTree.{TermTree}
 use Rattle.chw_terms.specs.TermView.{tree_of, applied}
-use Rattle.scenes.specs.Origins.{origins_of}
-use Rattle.active_places.specs.Spots.{spot_of}
+use Rattle.rewriting.specs.Origins.{origins_of}
+use Rattle.rewriting.specs.Spots.{spot_of}
 use Rattle.rule_parts.specs.Cores.{Answers}
 use Rattle.rule_parts.proofs.Heads.{bare, of_head}
 use Rattle.work_names.proofs.Made.{unfolds_bare}

@@ -4,8 +4,8 @@ use Rattle.std.proofs.lemmas.Bool.{ltb-true, ltb-false}
 use Rattle.std.proofs.lemmas.Option.{slice_get_read, slice_get_past}
 use Rattle.chw_terms.specs.TermView.{tree_of}
 use Rattle.chw_typing.proofs.Lists.{found_in_map}
-use Rattle.scenes.specs.Origins.{made_of, origins_of}
-use Rattle.active_places.specs.Spots.{spot_of}
+use Rattle.rewriting.specs.Origins.{made_of, origins_of}
+use Rattle.rewriting.specs.Spots.{spot_of}
 use Rattle.term_types.proofs.Plain.{missing_in_map}
 use Rattle.work_names.proofs.Bodies.{body_made, origin_made, no_body, no_origin}
 use Rattle.work_names.proofs.unfold.unfold.Goals as goal

@@ -2,8 +2,8 @@ use Rattle.std.proofs.Common.{◌≡◌, ◌∙◌, ap, sym, subst, ◌++◌, le
 use Rattle.std.proofs.lemmas.List.{take-append-drop}
 use Rattle.std.proofs.lemmas.Result.{IfOk-weaker}
 use Rattle.chw_terms.specs.TermView.{applied}
-use Rattle.scenes.specs.Origins.{origins_of}
-use Rattle.active_places.specs.Spots.{spot_of}
+use Rattle.rewriting.specs.Origins.{origins_of}
+use Rattle.rewriting.specs.Spots.{spot_of}
 use Rattle.term_types.proofs.Matched.{of_none}
 use Rattle.work_operands.specs.Firsts.{AnswersFirstArg, NoneBefore, IsFirstArg, AnswersArguments}
 use Rattle.work_operands.proofs.Named.{within}

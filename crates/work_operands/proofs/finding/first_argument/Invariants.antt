@@ -1,5 +1,5 @@
-use Rattle.scenes.specs.Origins.{origins_of}
-use Rattle.active_places.specs.Spots.{spot_of}
+use Rattle.rewriting.specs.Origins.{origins_of}
+use Rattle.rewriting.specs.Spots.{spot_of}
 use Rattle.work_operands.specs.Firsts.{NoneBefore}
 use Rattle.work_operands.proofs.finding.first_argument.Given as goal
 

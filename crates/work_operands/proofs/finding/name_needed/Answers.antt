@@ -1,8 +1,8 @@
 use Rattle.std.proofs.Common.{◌≡◌, true, [], sym, subst}
-use Rattle.found_types.specs.Finding.{Finds}
-use Rattle.scenes.specs.Named.{IsNamed}
-use Rattle.scenes.specs.Origins.{origins_of, setting_at}
-use Rattle.active_places.specs.Spots.{spot_of}
+use Rattle.typing_laws.specs.Finding.{Finds}
+use Rattle.rewriting.specs.Named.{IsNamed}
+use Rattle.rewriting.specs.Origins.{origins_of, setting_at}
+use Rattle.rewriting.specs.Spots.{spot_of}
 use Rattle.term_types.specs.Answers.{IsReady}
 use Rattle.work_operands.specs.Firsts.{AnswersType}
 use Rattle.work_operands.proofs.Needs.{found_is_named}

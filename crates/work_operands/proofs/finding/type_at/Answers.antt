@@ -1,7 +1,7 @@
 use Rattle.std.proofs.Common.{reverse, ap}
 use Rattle.chw_typing.specs.Scopes.{setting_in}
-use Rattle.scenes.specs.Origins.{origins_of}
-use Rattle.active_places.specs.Spots.{spot_of}
+use Rattle.rewriting.specs.Origins.{origins_of}
+use Rattle.rewriting.specs.Spots.{spot_of}
 use Rattle.work_operands.proofs.Needs.{type_answer}
 use Rattle.work_operands.proofs.finding.type_at.Goals as goal
 

@@ -3,8 +3,8 @@ use Rattle.std.proofs.lemmas.Option.{slice_get_within}
 use Rattle.chw_terms.specs.declared.rule.Rule.TheVariants.{Anf}
 use Rattle.chw_terms.specs.TermTree.{vec_lit}
 use Rattle.chw_terms.specs.TermView.{terms_of}
-use Rattle.scenes.specs.Origins.{origins_of}
-use Rattle.active_places.specs.Spots.{spot_of}
+use Rattle.rewriting.specs.Origins.{origins_of}
+use Rattle.rewriting.specs.Spots.{spot_of}
 use Rattle.rewriting.specs.Operands.{OfOperands}
 use Rattle.term_types.proofs.Matched.{of_none, not_true}
 use Rattle.work_operands.specs.Firsts.{AnswersFirstElement, NoElementBefore, IsFirstElement}

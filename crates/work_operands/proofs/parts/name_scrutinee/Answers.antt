@@ -2,8 +2,8 @@ use Rattle.std.proofs.Common.{◌∙◌, ap, sym, subst}
 use Rattle.chw_terms.specs.declared.rule.Rule.TheVariants.{Anf}
 use Rattle.chw_terms.specs.TermTree.{case_of}
 use Rattle.chw_terms.specs.TermView.{alts_of}
-use Rattle.scenes.specs.Origins.{origins_of}
-use Rattle.active_places.specs.Spots.{spot_of}
+use Rattle.rewriting.specs.Origins.{origins_of}
+use Rattle.rewriting.specs.Spots.{spot_of}
 use Rattle.rewriting.specs.Operands.{NeedsName, OfOperands}
 use Rattle.term_types.proofs.Matched.{of_none}
 use Rattle.work_operands.specs.Firsts.{AnswersName, NeedsNameOf}

@@ -1,8 +1,8 @@
 use Rattle.std.proofs.Common.{◌∙◌, inr, [], ap, sym, subst}
 use Rattle.chw_terms.specs.declared.rule.Rule.TheVariants.{Anf}
-use Rattle.found_types.specs.Finding.{Finds}
-use Rattle.scenes.specs.Origins.{origins_of, setting_at}
-use Rattle.active_places.specs.Spots.{spot_of}
+use Rattle.typing_laws.specs.Finding.{Finds}
+use Rattle.rewriting.specs.Origins.{origins_of, setting_at}
+use Rattle.rewriting.specs.Spots.{spot_of}
 use Rattle.rewriting.specs.Calls.{OfWhole, anf_result}
 use Rattle.term_types.proofs.Matched.{of_none, not_true}
 use Rattle.term_types.specs.Answers.{HasNoType}

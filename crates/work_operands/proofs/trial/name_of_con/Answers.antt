@@ -1,8 +1,8 @@
 use Rattle.std.proofs.Common.{◌≡◌, ◌∙◌, Some, None, sym, subst}
 use Rattle.chw_terms.specs.Constructors.{con_at}
 use Rattle.con_places.specs.Constructing.{constructor_of}
-use Rattle.scenes.specs.Origins.{origins_of}
-use Rattle.active_places.specs.Spots.{spot_of}
+use Rattle.rewriting.specs.Origins.{origins_of}
+use Rattle.rewriting.specs.Spots.{spot_of}
 use Rattle.term_types.proofs.Matched.{not_true}
 use Rattle.work_operands.proofs.Heads.{con_answers, con_stays}
 use Rattle.work_operands.proofs.trial.name_of_con.Goals as goal

@@ -1,5 +1,5 @@
-use Rattle.scenes.specs.Origins.{origins_of}
-use Rattle.active_places.specs.Spots.{spot_of}
+use Rattle.rewriting.specs.Origins.{origins_of}
+use Rattle.rewriting.specs.Spots.{spot_of}
 use Rattle.work_operands.proofs.Heads.{prim_answers}
 use Rattle.work_operands.proofs.trial.name_of_prim.Goals as goal
 

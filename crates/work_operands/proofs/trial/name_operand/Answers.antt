@@ -3,8 +3,8 @@ use Rattle.std.specs.Option.{option_map}
 use Rattle.std.proofs.lemmas.Result.{IfOk-weaker}
 use Rattle.chw_terms.specs.TermTree.{TermTree, con, prim, case_of, vec_lit}
 use Rattle.chw_terms.specs.TermView.{tree_of, applied, alts_of, terms_of}
-use Rattle.scenes.specs.Origins.{origins_of}
-use Rattle.active_places.specs.Spots.{spot_of}
+use Rattle.rewriting.specs.Origins.{origins_of}
+use Rattle.rewriting.specs.Spots.{spot_of}
 use Rattle.rewriting.specs.Operands.{NoneNeedsName}
 use Rattle.rule_parts.proofs.Heads.{bare}
 use Rattle.work_operands.specs.Firsts.{AnswersOperand}

@@ -1,5 +1,5 @@
 use Rattle.std.proofs.lemmas.Result.{IfOk-weaker}
-use Rattle.active_places.specs.Spots.{spot_of}
+use Rattle.rewriting.specs.Spots.{spot_of}
 use Rattle.work_prims.proofs.Elems.{number_answer, word_answer, other_answer}
 use Rattle.work_prims.proofs.elements.element.Goals as goal
 

@@ -3,8 +3,8 @@ use Rattle.std.proofs.lemmas.Result.{IfOk-weaker}
 use Rattle.chw_terms.specs.declared.rule.Rule.TheVariants.{Delta}
 use Rattle.chw_terms.specs.TermTree.{TermTree, prim}
 use Rattle.chw_terms.specs.TermView.{applied}
-use Rattle.scenes.specs.Origins.{Origins}
-use Rattle.active_places.specs.Spots.{spot_of}
+use Rattle.rewriting.specs.Origins.{Origins}
+use Rattle.rewriting.specs.Spots.{spot_of}
 use Rattle.rule_parts.specs.Cores.{AnswersCore}
 use Rattle.work_prims.specs.Given.{types_in}
 use Rattle.work_prims.specs.Results.{IsResultOn}

@@ -4,8 +4,8 @@ use Rattle.std.proofs.lemmas.List.{take-append-drop}
 use Rattle.std.proofs.lemmas.Result.{IfOk-weaker}
 use Rattle.chw_prims.specs.Schemas.{row_type, schema_type}
 use Rattle.chw_terms.specs.TermView.{applied}
-use Rattle.scenes.specs.Origins.{origins_of}
-use Rattle.active_places.specs.Spots.{spot_of, asked_for}
+use Rattle.rewriting.specs.Origins.{origins_of}
+use Rattle.rewriting.specs.Spots.{spot_of, asked_for}
 use Rattle.rule_parts.specs.Cores.{Answers}
 use Rattle.work_prims.proofs.Trials.{of_no_prim, of_few, of_named}
 use Rattle.work_prims.proofs.trial.try_prims.Goals as goal

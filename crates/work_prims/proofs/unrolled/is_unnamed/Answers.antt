@@ -1,10 +1,10 @@
 use Rattle.std.proofs.Common.{◌↔◌, IfSome, IsTrue, subst}
 use Rattle.std.specs.Prelude.{[], reverse}
 use Rattle.chw_typing.specs.Scopes.{setting_in}
-use Rattle.found_types.specs.Finding.{Finds}
-use Rattle.scenes.specs.Named.{IsNamed}
-use Rattle.scenes.specs.Origins.{origins_of}
-use Rattle.active_places.specs.Spots.{spot_of}
+use Rattle.typing_laws.specs.Finding.{Finds}
+use Rattle.rewriting.specs.Named.{IsNamed}
+use Rattle.rewriting.specs.Origins.{origins_of}
+use Rattle.rewriting.specs.Spots.{spot_of}
 use Rattle.work_prims.proofs.WrittenOut.{unnamed_is}
 use Rattle.work_prims.proofs.unrolled.is_unnamed.Goals as goal
 

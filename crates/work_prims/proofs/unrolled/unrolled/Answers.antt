@@ -2,8 +2,8 @@ use Rattle.std.proofs.Common.{◌≡◌, ◌∙◌, sym, ap, subst, List, MatchO
 use Rattle.std.proofs.lemmas.Result.{IfOk-weaker}
 use Rattle.chw_terms.specs.TermTree.{TermTree}
 use Rattle.chw_terms.specs.Unrolled.{CanUnroll, body_of}
-use Rattle.scenes.specs.Origins.{origins_of}
-use Rattle.active_places.specs.Spots.{spot_of}
+use Rattle.rewriting.specs.Origins.{origins_of}
+use Rattle.rewriting.specs.Spots.{spot_of}
 use Rattle.work_prims.specs.Given.{types_in, as_args}
 use Rattle.work_prims.specs.Unnamed.{IsWrittenOut}
 use Rattle.work_prims.proofs.Taking.{wrong}

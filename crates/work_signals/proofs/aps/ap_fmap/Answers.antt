@@ -1,8 +1,8 @@
 use Rattle.std.proofs.Common.{◌∙◌, ap, subst}
 use Rattle.chw_types.specs.TypeTree.{TypeTree, fun, signal}
 use Rattle.chw_terms.specs.TermTree.{TermTree}
-use Rattle.scenes.specs.Origins.{origins_of}
-use Rattle.active_places.specs.Spots.{spot_of}
+use Rattle.rewriting.specs.Origins.{origins_of}
+use Rattle.rewriting.specs.Spots.{spot_of}
 use Rattle.rewriting.specs.Lifted.{FindsAt, ap_fmap}
 use Rattle.rewriting.specs.Shapes.{fmap_of, ap_of}
 use Rattle.work_signals.specs.Joined.{AnswersPayload, AnswersFunction}

@@ -1,7 +1,7 @@
 use Rattle.std.proofs.Common.{◌∙◌, subst}
 use Rattle.chw_types.specs.TypeTree.{TypeTree, signal}
-use Rattle.scenes.specs.Origins.{origins_of}
-use Rattle.active_places.specs.Spots.{spot_of}
+use Rattle.rewriting.specs.Origins.{origins_of}
+use Rattle.rewriting.specs.Spots.{spot_of}
 use Rattle.rewriting.specs.Lifted.{FindsAt, ap_value}
 use Rattle.rewriting.specs.Shapes.{fmap_of}
 use Rattle.work_signals.specs.Joined.{AnswersPayload}

@@ -1,6 +1,6 @@
 use Rattle.std.proofs.Common.{sym, subst}
-use Rattle.scenes.specs.Origins.{origins_of}
-use Rattle.active_places.specs.Spots.{spot_of}
+use Rattle.rewriting.specs.Origins.{origins_of}
+use Rattle.rewriting.specs.Spots.{spot_of}
 use Rattle.rewriting.specs.Lifted.{Joins, ap_pure}
 use Rattle.rewriting.specs.Shapes.{ap_of, pure_of}
 use Rattle.work_signals.proofs.aps.join_ap.Goals as goal

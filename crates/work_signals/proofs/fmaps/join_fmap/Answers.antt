@@ -1,5 +1,5 @@
-use Rattle.scenes.specs.Origins.{origins_of}
-use Rattle.active_places.specs.Spots.{spot_of}
+use Rattle.rewriting.specs.Origins.{origins_of}
+use Rattle.rewriting.specs.Spots.{spot_of}
 use Rattle.rewriting.specs.Lifted.{fmap_pure}
 use Rattle.work_signals.proofs.Joining.{fmap_becomes}
 use Rattle.work_signals.proofs.fmaps.join_fmap.Goals as goal

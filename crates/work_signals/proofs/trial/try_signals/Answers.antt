@@ -5,8 +5,8 @@ use Rattle.std.proofs.lemmas.List.{take-append-drop}
 use Rattle.std.proofs.lemmas.Result.{IfOk-weaker}
 use Rattle.chw_terms.specs.declared.rule.Rule.TheVariants.{ApPure}
 use Rattle.chw_terms.specs.TermView.{tree_of, applied}
-use Rattle.scenes.specs.Origins.{origins_of}
-use Rattle.active_places.specs.Spots.{spot_of}
+use Rattle.rewriting.specs.Origins.{origins_of}
+use Rattle.rewriting.specs.Spots.{spot_of}
 use Rattle.rule_parts.specs.Cores.{Answers}
 use Rattle.rule_parts.proofs.Heads.{bare}
 use Rattle.work_signals.proofs.Fives.{nothing_outside, nothing_of_fewer, behind_five}

@@ -1,5 +1,0 @@
-pub mod Opening
-pub mod Parts
-pub mod Plugged
-pub mod Variables
-pub mod Wholes

@@ -1,6 +1,0 @@
-pub mod Elements
-pub mod Expanded
-pub mod Indexed
-pub mod Named
-pub mod Operands
-pub mod Unfolded

@@ -1,4 +1,0 @@
-pub mod Joined
-pub mod Opened
-pub mod Payloads
-pub mod Rules

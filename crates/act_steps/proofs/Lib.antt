@@ -1,4 +1,0 @@
-pub mod Instances
-pub mod Made
-pub mod Spines
-pub mod Steps

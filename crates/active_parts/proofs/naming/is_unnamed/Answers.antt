@@ -1,0 +1,32 @@
+use Rattle.std.proofs.Common.{◌↔◌, IfSome, IsTrue, [], reverse, sym, subst}
+use Rattle.chw_types.specs.TypeTree.{TypeTree}
+use Rattle.chw_typing.specs.Scopes.{setting_in}
+use Rattle.chw_typing.specs.Typing.{HasType}
+use Rattle.typing_laws.specs.Finding.{Finds}
+use Rattle.rewriting.specs.Named.{IsNamed}
+use Rattle.rewriting.specs.Origins.{origins_of, setting_at}
+use Rattle.rewriting.specs.Spots.{spot_of}
+use Rattle.term_types.specs.Answers.{IsReady}
+use Rattle.active_parts.proofs.Unnamed.{each_named, decided}
+use Rattle.active_parts.proofs.naming.is_unnamed.Goals as goal
+
+pub returns : goal.returns
+returns c =
+    let scene = c.args.ground.now.scene.now in
+    let s = setting_in scene in
+    let o = origins_of scene in
+    let at = spot_of c.args.place.now in
+    let vars = c.as_slice-vars.result.now in
+    let a = c.args.at.now in
+    let t = c.in-Some.ty in
+    let is = c.in_ok-is_named.field-0 in
+    let setting = sym (c.settings_of_scenes.ensures.setting scene) in
+    let found : Finds s [] (reverse vars) a t = subst (λ r. IfSome r (λ t. Finds s [] (reverse vars) a t)) c.in-Some.is c.in_ok-ty.ensures.some in
+    let of_setting : Finds (setting_at o) [] (reverse vars) a t = subst (λ s. Finds s [] (reverse vars) a t) setting found in
+    let here : Finds (setting_at o) [] at.vars a t = subst (λ vars. Finds (setting_at o) [] (reverse vars) a t) c.as_slice-vars.ensures of_setting in
+    let has : HasType (setting_at o) [] at.vars a t = c.found_is_type.ensures (setting_at o) [] at.vars a t here in
+    let ready : IsReady (setting_at o) [] at.vars = subst (λ s. IsReady s [] at.vars) setting (c.requires.ground.sound, c.requires.scope) in
+    let named : IsTrue is ↔ IsNamed o.program.datas at.mode t = subst (λ datas. IsTrue is ↔ IsNamed datas at.mode t) c.as_slice-datas.ensures c.in_ok-is_named.ensures in
+    let all : (u : TypeTree) → HasType (setting_at o) [] at.vars a u → IsNamed o.program.datas at.mode t → IsNamed o.program.datas at.mode u = λ u h n.
+    each_named c.one_type.ensures c.types_are_term_types.ensures c.names_of_modes.ensures.kept (setting_at o) at.vars at.mode a t u ready has h n in
+    decided o at a t is has all named

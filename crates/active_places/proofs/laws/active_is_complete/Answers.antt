@@ -1,6 +1,0 @@
-use Rattle.term_contexts.proofs.Complete.{part_complete}
-use Rattle.active_places.proofs.Parts.{active_is_part}
-use Rattle.active_places.proofs.laws.active_is_complete.Goals as goal
-
-pub returns : goal.returns
-returns c o at at' e x p datas h r = part_complete p datas e x h (active_is_part r)

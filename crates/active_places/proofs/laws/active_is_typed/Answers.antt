@@ -1,5 +1,0 @@
-use Rattle.active_places.proofs.Around.{active_typed}
-use Rattle.active_places.proofs.laws.active_is_typed.Goals as goal
-
-pub returns : goal.returns
-returns c o at at' e x t p h typed d r = active_typed r h typed t d

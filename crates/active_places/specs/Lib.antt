@@ -1,4 +1,0 @@
-pub mod Active
-pub mod Examples
-pub mod Laws
-pub mod Spots

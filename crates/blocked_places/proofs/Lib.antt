@@ -1,0 +1,17 @@
+mod Backward
+mod Blocks
+mod Firsts
+mod Given
+mod Lambdas
+mod Listed
+mod Measures
+mod Nearest
+mod OfPrims
+mod Related
+mod Results
+mod Rounds
+mod Shapes
+mod Turning
+mod Turns
+mod Under
+mod Words

@@ -1,0 +1,44 @@
+use Rattle.std.proofs.Common.{IfSome, IfNone, [], reverse, sym, subst}
+use Rattle.chw_types.specs.TypeTree.{TypeTree}
+use Rattle.chw_typing.specs.Scopes.{setting_in}
+use Rattle.chw_typing.specs.Typing.{HasType}
+use Rattle.normal_forms.specs.Blocked.{Passes}
+use Rattle.rewriting.specs.Origins.{origins_of, setting_at}
+use Rattle.rewriting.specs.Spots.{spot_of}
+use Rattle.term_types.specs.Answers.{HasNoType}
+use Rattle.typing_laws.specs.Finding.{Finds}
+use Rattle.blocked_places.specs.Firsts.{FindsOf}
+use Rattle.blocked_places.proofs.Results.{ok_more}
+use Rattle.blocked_places.proofs.Turns.{type_passes}
+use Rattle.blocked_places.proofs.limits.type_limit.Goals as goal
+
+pub returns-in_default : goal.returns-in_default
+returns-in_default c l p =
+    let scene = c.args.scene.now in
+    let s = setting_in scene in
+    let o = origins_of scene in
+    let at = spot_of c.args.place.now in
+    let e = c.args.at.now in
+    let none = subst (λ r. IfNone r (HasNoType s [] (reverse c.as_slice-vars.result.now) e)) c.in_default.is c.in_ok-ty.ensures.none in
+    let here : HasNoType s [] at.vars e = subst (λ vars. HasNoType s [] (reverse vars) e) c.as_slice-vars.ensures none in
+    let has : HasType (setting_at o) [] at.vars e p.0 = c.found_is_type.ensures (setting_at o) [] at.vars e p.0 p.1 in
+    here p.0 (subst (λ z. HasType z [] at.vars e p.0) (c.settings_of_scenes.ensures.setting scene) has)
+
+pub returns : goal.returns
+returns c =
+    let scene = c.args.scene.now in
+    let s = setting_in scene in
+    let o = origins_of scene in
+    let at = spot_of c.args.place.now in
+    let e = c.args.at.now in
+    let t = c.in-Some.ty in
+    let setting = sym (c.settings_of_scenes.ensures.setting scene) in
+    let found : Finds s [] (reverse c.as_slice-vars.result.now) e t =
+    subst (λ r. IfSome r (λ t. Finds s [] (reverse c.as_slice-vars.result.now) e t)) c.in-Some.is c.in_ok-ty.ensures.some in
+    let of_setting : Finds (setting_at o) [] (reverse c.as_slice-vars.result.now) e t =
+    subst (λ z. Finds z [] (reverse c.as_slice-vars.result.now) e t) setting found in
+    let here : Finds (setting_at o) [] at.vars e t = subst (λ vars. Finds (setting_at o) [] (reverse vars) e t) c.as_slice-vars.ensures of_setting in
+    ok_more c.passed.result _ _
+    (λ answer h. type_passes c.one_found.ensures o at e t answer here
+    (subst (λ datas. FindsOf TypeTree (Passes datas) t answer) c.as_slice.ensures h))
+    c.passed.ensures

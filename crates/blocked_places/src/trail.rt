@@ -1,0 +1,56 @@
+//! What was found to block, with the numbers of the paths to it.
+ghost use Rattle.std.specs.Prelude.{◌≡◌, ◌++◌, [], ◌∷◌, reverse, IfOk};
+ghost use Rattle.active_parts.specs.Parts.{numbers_of};
+ghost use Rattle.blocked_places.specs.Walks.{GoesOn};
+
+use crate::block::Block;
+use active_parts::PartPath;
+use chw_base::NoMemory;
+
+/// What blocks a place below a term.
+#[derive(Drop)]
+pub struct Trail {
+    /// The numbers of the path, the last one first.
+    pub back: Vec<u32>,
+    pub block: Block,
+}
+
+/// What was found, with the number of the child below which it was.
+pub(crate) fn behind_child(found: Option<Trail>, number: u32) -> Result<Option<Trail>, NoMemory>
+    ensures { IfOk result (GoesOn (number ∷ []) found) }
+{
+    match found {
+        Some(trail) => {
+            let Trail { mut back, block } = trail;
+            back.push(number)?;
+            Ok(Some(Trail { back, block }))
+        }
+        None => Ok(None),
+    }
+}
+
+/// What was found, with the path to the part below which it was.
+pub(crate) fn behind(found: Option<Trail>, path: PartPath) -> Result<Option<Trail>, NoMemory>
+    ensures { IfOk result (GoesOn (numbers_of path) found) }
+{
+    match found {
+        Some(trail) => {
+            let Trail { back, block } = trail;
+            let back = with_path(back, path)?;
+            Ok(Some(Trail { back, block }))
+        }
+        None => Ok(None),
+    }
+}
+
+// The numbers with those of a path behind them, the last one first.
+fn with_path(back: Vec<u32>, path: PartPath) -> Result<Vec<u32>, NoMemory>
+    ensures { IfOk result (λ r. reverse r.items ≡ numbers_of path ++ reverse back.items) }
+{
+    let mut numbers = back;
+    numbers.push(path.last)?;
+    for _ in 0..path.zeros {
+        numbers.push(0)?;
+    }
+    Ok(numbers)
+}

@@ -1,0 +1,16 @@
+pub mod Cases
+pub mod CasesCarry
+pub mod Data
+pub mod Encoded
+pub mod Environments
+pub mod Known
+pub mod Same
+pub mod Shown
+pub mod Signals
+pub mod Spines
+pub mod Terms
+pub mod Truths
+pub mod Vectors
+pub mod Widths
+pub mod Words
+pub mod Yields

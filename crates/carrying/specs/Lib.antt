@@ -1,0 +1,11 @@
+pub mod Carrying
+pub mod DataLaws
+pub mod EncodingLaws
+pub mod EnvironmentLaws
+pub mod Examples
+pub mod SameLaws
+pub mod SignalLaws
+pub mod TermLaws
+pub mod VectorLaws
+pub mod WordLaws
+pub mod YieldLaws

@@ -1,0 +1,10 @@
+pub mod DataAddresses
+pub mod DataCells
+pub mod DataChoices
+pub mod DataElements
+pub mod DataFields
+pub mod Extending
+pub mod Forms
+pub mod Results
+pub mod Settling
+pub mod Table

@@ -1,0 +1,78 @@
+-- What `normalise` answers to a description.
+use Rattle.std.proofs.Common.{◌≡◌, ◌∙◌, ℕ, List, [], ◌++◌, map, refl, ap, sym, subst, inl, inr}
+use Rattle.std.specs.Prelude.{Result, Ok, Err}
+use Rattle.chw_cli.specs.Answer.{HasProgram, IsTypedText, NormaliseAnswer, refusal_of_run}
+use Rattle.chw_cli.specs.Answer.NormaliseAnswer.{normalised, not_normalised}
+use Rattle.chw_cli.specs.Exact.{HasNormalRun}
+use Rattle.chw_cli.specs.Lines.{status_of}
+use Rattle.chw_cli.specs.Refusals.{RefusesNormalise, of_run_fault}
+use Rattle.chw_cli.specs.declared.refusal.Refusal.{Refusal}
+use Rattle.chw_cli.specs.declared.status.Status.{Status}
+use Rattle.chw_cli.specs.declared.status.Status.TheVariants as status
+use Rattle.chw_cli.proofs.OneText.{OneDescription, one_program_of}
+use Rattle.chw_base.specs.declared.outcome.Or.{Or}
+use Rattle.chw_base.specs.declared.outcome.Or.TheVariants.{Memory, Fault}
+use Rattle.chw_grammar.specs.declared.program.Tree.{Tree}
+use Rattle.chw_norm.specs.Laws.{NothingRefusesANormalRun}
+use Rattle.chw_norm.specs.Running.{Runs, ShallowRun}
+use Rattle.chw_norm.specs.declared.running.RunFault.{RunFault}
+use Rattle.chw_norm.specs.declared.running.RunFault.TheVariants.{Depth, Spent}
+use Rattle.chw_terms.specs.declared.program.Program.{Program}
+use Rattle.chw_terms.specs.declared.scene.Made.{Made}
+use Rattle.data_kinds.specs.Laws.{OneProgram}
+use Rattle.norm_lines.specs.Lines.{normal_lines}
+use Rattle.rewriting.specs.Runs.{Step}
+use Rattle.rewriting.specs.Steps.{HasNoStep}
+use Rattle.chw_norm.specs.Rules.{built}
+use Rattle.norm_lines.specs.Places.{where_of}
+use Rattle.norm_lines.specs.declared.place.StepAt.{StepAt}
+
+-- a description whose run leaves no step, within the budget and the limit of depth, isn't refused
+pub normal_is_answered : OneDescription → OneProgram → NothingRefusesANormalRun → (budget : ℕ) (text : List ℕ) (tree : Tree) (r : Refusal)
+    → IsTypedText text tree → HasNormalRun budget text → NormaliseAnswer tree budget (Err r) → ⊥
+normal_is_answered same alone law budget text tree r d h a = only refl a
+  where
+    only : {answer : Result (List ℕ) Refusal} → answer ≡ Err r → NormaliseAnswer tree budget answer → ⊥
+    only e (normalised p steps made is few ends) = absurd (cc)
+    only e (not_normalised p steps fault is few ends) =
+        let is' : HasProgram tree h.program = subst (λ (t : Tree). HasProgram t h.program) (same text h.tree tree h.description d.description) h.is in
+        let one = one_program_of alone tree h.program p is' is in
+        law built p budget h.steps steps h.made fault (subst (λ q. ShallowRun built q h.steps h.made) one h.run)
+        (subst (λ q. HasNoStep built q h.made) one h.ended) h.within ends
+
+run_status : (P : Status → Type 0) → P status.Refused → P status.Spent → (fault : RunFault) → P (status_of (refusal_of_run fault))
+run_status P refused spent Depth = refused
+run_status P refused spent (Spent n) = spent
+
+-- and what it refuses by has one of two statuses
+pub normal_status : (P : Status → Type 0) → P status.Refused → P status.Spent → (tree : Tree) (budget : ℕ) (r : Refusal)
+    → NormaliseAnswer tree budget (Err r) → P (status_of r)
+normal_status P refused spent tree budget r a = only refl a
+  where
+    only : {answer : Result (List ℕ) Refusal} → answer ≡ Err r → NormaliseAnswer tree budget answer → P (status_of r)
+    only e (normalised p steps made is few ends) = absurd (cc)
+    only e (not_normalised p steps fault is few ends) =
+        let same : refusal_of_run fault ≡ r = cc in subst (λ q. P (status_of q)) same (run_status P refused spent fault)
+
+-- a run that is refused refuses the description
+pub run_refuses : (tree : Tree) (p q : Program) (budget : ℕ) (old new : List StepAt) (e : Or RunFault)
+    → HasProgram tree p → q ≡ p → Runs built q budget old new (Err e) → RefusesNormalise tree budget (of_run_fault e)
+run_refuses tree p q budget old new Memory has is r = inl refl
+run_refuses tree p q budget old new (Fault f) has is r =
+    inr (not_normalised q r.steps f (subst (HasProgram tree) (sym is) has) r.within r.ends)
+
+-- the lines of one that leaves no step are the answer
+pub run_lines : (tree : Tree) (p q : Program) (budget : ℕ) (old new : List StepAt) (made : List Made) (bytes : List ℕ)
+    → HasProgram tree p → q ≡ p → old ≡ [] → Runs built q budget old new (Ok made)
+    → bytes ≡ normal_lines (map where_of new) made → NormaliseAnswer tree budget (Ok bytes)
+run_lines tree p q budget old new made bytes has is none r text =
+    let first = subst (λ (o : List StepAt). Runs built q budget o new (Ok made)) none r in
+    let places : map (λ (s : Step). s.place) first.steps ≡ map where_of new =
+    sym first.trace.places ∙ ap (map where_of) (sym first.trace.traced) in
+    subst (λ b. NormaliseAnswer tree budget (Ok b)) (ap (λ ws. normal_lines ws made) places ∙ sym text)
+    (normalised q first.steps made (subst (HasProgram tree) (sym is) has) first.within first.ends)
+
+-- the lines that were put are those of the run
+pub lines_put : (out bytes : List ℕ) (trace new : List StepAt) (given made : List Made) → out ≡ [] → trace ≡ new → given ≡ made
+    → bytes ≡ out ++ normal_lines (map where_of trace) given → bytes ≡ normal_lines (map where_of new) made
+lines_put out bytes trace new given made none same all is = is ∙ (λ i. none i ++ normal_lines (map where_of (same i)) (all i))

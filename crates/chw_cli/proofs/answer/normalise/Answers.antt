@@ -1,0 +1,35 @@
+use Rattle.std.proofs.Common.{[], Ok, refl}
+use Rattle.std.proofs.lemmas.Result.{IfErr-weaker, IfOk-weaker, err_from_is_err_and}
+use Rattle.chw_cli.specs.Answer.{NormaliseAnswer}
+use Rattle.chw_cli.specs.Answer.TextAnswer.{typed}
+use Rattle.chw_cli.specs.Reads.{description_in}
+use Rattle.chw_cli.specs.Refusals.{RefusesNormalise, RefusesText}
+use Rattle.chw_words.specs.declared.command.Command.TheVariants.{Normalise}
+use Rattle.chw_cli.proofs.Reasons.{file_refuses, normalise_answers, normalise_refuses, text_answers, text_refuses}
+use Rattle.chw_cli.proofs.answer.normalise.Goals as goal
+
+pub returns-in_err-description-clause-refuses : goal.returns-in_err-description-clause-refuses
+returns-in_err-description-clause-refuses g c =
+    let p = err_from_is_err_and c.from_residual.result c.from_residual.ensures.1 in
+    rw (p.1, p.2)
+    (file_refuses g.F.Shelf.fetch_gives g.F.Shelf.told g.F.Shelf.faults c.args.words.now c.args.shelf.now c.read_description.new.shelf (Normalise c.args.file.now c.args.budget)
+    (description_in c.args.file.now) [] c.requires refl RefusesText (λ text r w. normalise_answers c.args.file.now text c.args.budget r w) c.in_err-description.field-0.0
+    c.in_err-description.ensures.refused)
+
+pub returns-clause-answers : goal.returns-clause-answers
+returns-clause-answers g c =
+    let d = c.in_ok-description.description in
+    IfOk-weaker c.normalised.result (λ bytes. NormaliseAnswer d.tree c.args.budget (Ok bytes.items)) _
+    (λ bytes a. text_answers g.F.Shelf.fetch_gives g.F.Shelf.told g.F.Shelf.faults c.args.words.now c.args.shelf.now c.read_description.new.shelf (Normalise c.args.file.now c.args.budget)
+    (description_in c.args.file.now) [] c.requires refl d.text.items bytes.items c.in_ok-description.ensures.read
+    (typed d.text.items d.tree (Ok bytes.items) c.in_ok-description.ensures.typed a))
+    c.normalised.ensures.normalised
+
+pub returns-clause-refuses : goal.returns-clause-refuses
+returns-clause-refuses g c =
+    let d = c.in_ok-description.description in
+    IfErr-weaker c.normalised.result (RefusesNormalise d.tree c.args.budget) _
+    (λ r e. text_refuses g.F.Shelf.fetch_gives g.F.Shelf.told g.F.Shelf.faults c.args.words.now c.args.shelf.now c.read_description.new.shelf (Normalise c.args.file.now c.args.budget)
+    (description_in c.args.file.now) [] c.requires refl d.text.items r c.in_ok-description.ensures.read
+    (normalise_refuses c.args.file.now d.text.items c.args.budget d.tree r c.in_ok-description.ensures.typed e))
+    c.normalised.ensures.refused

@@ -1,0 +1,17 @@
+mod Backward
+mod Begins
+mod Between
+mod Changed
+mod Deeper
+mod Ends
+mod Firsts
+mod Lambdas
+mod Normal
+mod Numbered
+mod Onward
+mod Options
+mod Places
+mod Puts
+mod States
+mod Steps
+mod Under

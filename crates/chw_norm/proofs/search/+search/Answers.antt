@@ -1,0 +1,307 @@
+use Rattle.std.proofs.Common.{◌≡◌, ◌∙◌, ◌++◌, ◌+◌, suc, length, reverse, take, refl, sym, ap, subst, arith, MatchOption}
+use Rattle.std.proofs.Math.Seq.{take-append_seam}
+use Rattle.chw_terms.specs.declared.scene.Place.{Place}
+use Rattle.chw_typing.specs.Scopes.{setting_in}
+use Rattle.rewriting.specs.Origins.{origins_of}
+use Rattle.rewriting.specs.Active.{Below, IsActive}
+use Rattle.rewriting.specs.Spots.{spot, spot_of}
+use Rattle.rule_trials.specs.Trials.{built, HasNoInstance, IsTrial}
+use Rattle.active_parts.specs.Grounds.{IsTypedAt, with_variables}
+use Rattle.chw_norm.specs.First.{AtPath, FindsFirst, From, GoesOn, HasNoStepAt}
+use Rattle.active_parts.specs.Parts.{arguments_of, around, declares, numbers_of, part_path, path_to, spot_in}
+use Rattle.active_parts.specs.Parts.{IsAmong, IsInside, HasNoPart, FindsPart, AreAmongFirst}
+use Rattle.chw_norm.specs.Begins.{IsPassed, BeginsAt}
+use Rattle.active_parts.proofs.Falls.{below_falls}
+use Rattle.chw_norm.proofs.Firsts.{no_places}
+use Rattle.chw_norm.proofs.Numbered.{OfFirst, none_at_first, none_up_to_next, none_at_all, found_at_number}
+use Rattle.chw_norm.proofs.Onward.{found_here, found_below, found_at_part, none_passed}
+use Rattle.active_parts.proofs.Options.{ok_more, on_ok}
+use Rattle.active_parts.proofs.Scoped.{around_inner, is_inside, left_again, more_in_scope}
+use Rattle.active_parts.proofs.Spines.{all_arguments}
+use Rattle.active_parts.proofs.Typed.{below_typed}
+use Rattle.active_parts.proofs.Ways.{parts_in_order}
+use Rattle.chw_norm.proofs.search.+search.Goals as goal
+
+-- the place itself, and then what is below it
+pub first_from-returns-in-Some : goal.first_from-returns-in-Some
+first_from-returns-in-Some g t c =
+    let o = origins_of c.args.ground.now.scene.now in
+    let at = spot_of c.args.place.now in
+    let e = c.args.at.now in
+    let made = subst (λ r. MatchOption r (HasNoInstance built o at e) (IsTrial built o at e)) c.in-Some.is c.in_ok-trial.ensures in
+    record { first = found_here built o at e c.args.from.now c.new.result.items c.in-Some.trial made c.new.ensures.items; place = refl }
+
+pub first_from-below-requires : goal.first_from-below-requires
+first_from-below-requires g t c κs h = (omega (arith, c.decreases), (h, (c.requires.ground, c.requires.typed)))
+
+pub first_from-returns : goal.first_from-returns
+first_from-returns g t c =
+    let o = origins_of c.args.ground.now.scene.now in
+    let at = spot_of c.args.place.now in
+    let e = c.args.at.now in
+    let none = subst (λ r. MatchOption r (HasNoInstance built o at e) (IsTrial built o at e)) c.in_default.is c.in_ok-trial.ensures in
+    record {
+      first = ok_more c.below.result _ _ (λ answer is. found_below built o at e c.args.from.now answer none is) c.below.ensures.first;
+      place = c.below.ensures.place;
+    }
+
+-- below a place
+pub below-returns-then-count-eq0 : goal.below-returns-then-count-eq0
+below-returns-then-count-eq0 g t c =
+    let o = origins_of c.args.ground.now.scene.now in
+    let at = spot_of c.args.place.now in
+    let e = c.args.at.now in
+    record {
+      first =
+          no_places built o (Below o at e) c.args.from.now
+          (λ p at' x b. let i = c.count_parts-count.ensures.first o at at' p x refl b in omega (arith, i.1, c.if-count-eq0.true));
+      place = refl;
+    }
+
+pub below-first_part-requires : goal.below-first_part-requires
+below-first_part-requires g t c κs h =
+    let s = setting_in c.args.ground.now.scene.now in
+    let place = c.args.place.now in
+    let e = c.args.at.now in
+    let n = c.count_parts-count.result in
+    let entered : c.enter_group.new.place ≡ with_variables place (place.vars ++ declares e) =
+    c.in_ok-enter_group.ensures ∙ ap (λ ts. with_variables place (place.vars ++ ts)) c.group_around_parts.ensures in
+    let typed = subst (λ at. IsTypedAt s at e) (sym (around_inner place e)) c.requires.typed in (
+      omega (arith, c.decreases),
+      (
+        h,
+        (
+          c.requires.ground,
+          (
+            subst (λ p. IsInside p e) (sym entered) (is_inside place e),
+            (
+              subst (λ p. IsTypedAt s (around p e) e) (sym entered) typed,
+              (
+                subst (λ (p : Place). AreAmongFirst p.mode e n) (sym entered) c.count_parts-count.ensures.first,
+                c.count_parts-count.ensures.arguments,
+              ),
+            ),
+          ),
+        ),
+      ),
+    )
+
+pub below-returns : goal.below-returns
+below-returns g t c =
+    let o = origins_of c.args.ground.now.scene.now in
+    let place = c.args.place.now in
+    let e = c.args.at.now in
+    let entered : c.enter_group.new.place ≡ with_variables place (place.vars ++ declares e) =
+    c.in_ok-enter_group.ensures ∙ ap (λ ts. with_variables place (place.vars ++ ts)) c.group_around_parts.ensures in
+    let after : c.first_part.new.place ≡ with_variables place (place.vars ++ declares e) = c.in_ok-found.ensures.place ∙ entered in
+    let outside : c.len-outside.result ≡ length place.vars = c.len-outside.ensures in
+    record {
+      first =
+          subst (λ at. FindsFirst built o (From o (Below o at e)) c.args.from.now c.in_ok-found.found)
+          (ap (λ p. around p e) entered ∙ around_inner place e) c.in_ok-found.ensures.first;
+      place = c.leave.ensures ∙ (λ i. with_variables (after i) (take (outside i) (after i).vars)) ∙ left_again place (declares e);
+    }
+
+-- the parts in turn
+pub first_part-loop-number-init : goal.first_part-loop-number-init
+first_part-loop-number-init g t c =
+    let o = origins_of c.args.ground.now.scene.now in
+    let e = c.args.at.now in
+    record { same = refl; none = none_at_first built o (Below o (around c.args.place.now e) e) (path_to e) c.args.from.now }
+
+pub first_part-in_part-requires : goal.first_part-in_part-requires
+first_part-in_part-requires g t c κs h =
+    let s = setting_in c.args.ground.now.scene.now in
+    let e = c.args.at.now in
+    let same = sym c.loop-number.invariant.same in (
+      omega (arith, c.decreases),
+      (
+        h,
+        (
+          c.requires.ground,
+          (
+            subst (λ p. IsInside p e) same c.requires.inside,
+            (
+              subst (λ p. IsTypedAt s (around p e) e) same c.requires.typed,
+              c.requires.arguments c.loop-number.number c.loop-number-test.true,
+            ),
+          ),
+        ),
+      ),
+    )
+
+pub first_part-returns-then-is_some : goal.first_part-returns-then-is_some
+first_part-returns-then-is_some g t c =
+    let o = origins_of c.args.ground.now.scene.now in
+    let e = c.args.at.now in
+    let at = around c.args.place.now e in
+    let n = c.loop-number.number in
+    let from = c.args.from.now in
+    let found = c.in_ok-found.found in
+    let here =
+    subst (λ p. FindsFirst built o (From o (AtPath (Below o (around p e) e) (path_to e n))) from found)
+    c.loop-number.invariant.same c.in_ok-found.ensures.first in
+    record {
+      first =
+          found_at_number built o (Below o at e) (path_to e) n c.args.count from found
+          (sym c.is_some.ensures ∙ c.if-is_some.true)
+          (λ p at' x b. c.requires.all o at at' p x refl b)
+          (λ i j l m. parts_in_order (arguments_of e) i j l (c.requires.arguments j m))
+          c.loop-number.invariant.none here;
+      place = c.in_ok-found.ensures.place ∙ c.loop-number.invariant.same;
+    }
+
+pub first_part-loop-number-preserved : goal.first_part-loop-number-preserved
+first_part-loop-number-preserved g t c =
+    let o = origins_of c.args.ground.now.scene.now in
+    let e = c.args.at.now in
+    let at = around c.args.place.now e in
+    let n = c.loop-number.number in
+    let from = c.args.from.now in
+    let found = c.in_ok-found.found in
+    let here =
+    subst (λ p. FindsFirst built o (From o (AtPath (Below o (around p e) e) (path_to e n))) from found)
+    c.loop-number.invariant.same c.in_ok-found.ensures.first in
+    let next : suc n ≡ n + 1 = omega arith in
+    record {
+      same = c.in_ok-found.ensures.place ∙ c.loop-number.invariant.same;
+      none =
+          subst (λ k. HasNoStepAt built o (From o (OfFirst (Below o at e) (path_to e) k)) from) next
+          (none_up_to_next built o (Below o at e) (path_to e) n from found (sym c.is_some.ensures ∙ c.if-is_some.false)
+          c.loop-number.invariant.none here);
+    }
+
+pub first_part-returns : goal.first_part-returns
+first_part-returns g t c =
+    let o = origins_of c.args.ground.now.scene.now in
+    let e = c.args.at.now in
+    let at = around c.args.place.now e in
+    record {
+      first =
+          none_at_all built o (Below o at e) (path_to e) c.args.count c.loop-number.number c.args.from.now
+          (λ p at' x b. c.requires.all o at at' p x refl b) c.loop-number-test.false c.loop-number.invariant.none;
+      place = c.loop-number.invariant.same;
+    }
+
+-- one part
+pub in_part-path_to-requires : goal.in_part-path_to-requires
+in_part-path_to-requires g t c =
+    let e = c.args.at.now in
+    let args = c.at.inside.args.items in
+    let all : arguments_of e ≡ length args = ap arguments_of (sym c.at.view_is) ∙ all_arguments c.at.inside.head args in
+    let count : arguments_of e ≡ c.len.result = omega (arith, all, c.len.ensures, c.at.inside.args.ok.0) in
+    subst (λ n. IsAmong n c.args.number) count c.requires.number
+
+pub in_part-returns-in_default : goal.in_part-returns-in_default
+in_part-returns-in_default g t c =
+    let o = origins_of c.args.ground.now.scene.now in
+    let e = c.args.at.now in
+    let at = around c.args.place.now e in
+    let n = c.args.number in
+    let from = c.args.from.now in
+    let args = c.at.inside.args.items in
+    let all : arguments_of e ≡ length args = ap arguments_of (sym c.at.view_is) ∙ all_arguments c.at.inside.head args in
+    let count : c.len.result ≡ arguments_of e = omega (arith, all, c.len.ensures, c.at.inside.args.ok.0) in
+    let numbers : numbers_of c.in_ok-path.path ≡ path_to e n = c.in_ok-path.ensures ∙ ap (λ k. part_path k n) count in
+    record {
+      first =
+          none_passed built o (AtPath (Below o at e) (path_to e n)) (path_to e n) from (λ p at' x h. h.0)
+          (subst (λ p. IsPassed p from) numbers c.in_default.ensures);
+      place = refl;
+    }
+
+pub in_part-returns-in_default-2 : goal.in_part-returns-in_default-2
+in_part-returns-in_default-2 g t c =
+    let o = origins_of c.args.ground.now.scene.now in
+    let e = c.args.at.now in
+    let at = around c.args.place.now e in
+    let path = path_to e c.args.number in
+    let none : HasNoPart o at e path = subst (FindsPart o at e path (reverse c.args.place.now.vars)) c.in_default-2.is c.in_ok-part.ensures in
+    record {
+      first =
+          no_places built o (AtPath (Below o at e) path) c.args.from.now
+          (λ p at' x h. none at' x (subst (λ q. Below o at e q at' x) h.0 h.1));
+      place = refl;
+    }
+
+pub in_part-first_at-requires : goal.in_part-first_at-requires
+in_part-first_at-requires g t c κs h =
+    let scene = c.args.ground.now.scene.now in
+    let o = origins_of scene in
+    let e = c.args.at.now in
+    let at = around c.args.place.now e in
+    let path = path_to e c.args.number in
+    let vars = reverse c.args.place.now.vars in
+    let part = c.in-Some-2.part in
+    let x = part.term.now in
+    let there : Below o at e path (spot_in vars part) x = subst (FindsPart o at e path vars) c.in-Some-2.is c.in_ok-part.ensures in
+    let typed = below_typed scene at e c.requires.ground.sound c.requires.typed path (spot_in vars part) x there in
+    let falls = below_falls o at (spot_in vars part) e x path there in
+    (omega (arith, c.decreases, falls), (h, (c.requires.ground, typed)))
+
+pub in_part-returns : goal.in_part-returns
+in_part-returns g t c =
+    let o = origins_of c.args.ground.now.scene.now in
+    let e = c.args.at.now in
+    let at = around c.args.place.now e in
+    let n = c.args.number in
+    let path = path_to e n in
+    let vars = reverse c.args.place.now.vars in
+    let from = c.args.from.now in
+    let left = c.in-Some.left.now in
+    let part = c.in-Some-2.part in
+    let x = part.term.now in
+    let found = c.in_ok-found.found in
+    let args = c.at.inside.args.items in
+    let all : arguments_of e ≡ length args = ap arguments_of (sym c.at.view_is) ∙ all_arguments c.at.inside.head args in
+    let count : c.len.result ≡ arguments_of e = omega (arith, all, c.len.ensures, c.at.inside.args.ok.0) in
+    let numbers : numbers_of c.in_ok-path.path ≡ path = c.in_ok-path.ensures ∙ ap (λ k. part_path k n) count in
+    let begins = subst (λ p. BeginsAt p from left) numbers c.in-Some.ensures in
+    let there : Below o at e path (spot_in vars part) x = subst (FindsPart o at e path vars) c.in-Some-2.is c.in_ok-part.ensures in
+    record {
+      first =
+          ok_more c.behind.result _ _
+          (λ answer on. found_at_part built o at (spot_in vars part) e x path from left found answer there begins c.in_ok-found.ensures.first
+          (subst (λ p. GoesOn p found answer) numbers on))
+          c.behind.ensures;
+      place = on_ok c.behind.result _ c.in_ok-found.ensures.place;
+    }
+
+-- a part with its mode and its variables
+pub first_at-first_from-requires : goal.first_at-first_from-requires
+first_at-first_from-requires g t c κs h =
+    let s = setting_in c.args.ground.now.scene.now in
+    let place = c.args.place.now in
+    let part = c.args.part in
+    let x = part.term.now in
+    let more = part.more.items in
+    let inner : Place = record { mode = part.mode; result = part.gives; vars = place.vars ++ more } in
+    let mode : c.replace-outer_mode.new.dest ≡ part.mode = c.replace-outer_mode.ensures.after in
+    let gives : c.replace-outer_result.new.dest ≡ part.gives = c.replace-outer_result.ensures.after in
+    let entered : c.enter.new.place ≡ inner = c.in_ok-enter.ensures ∙ (λ i. record { mode = mode i; result = gives i; vars = place.vars ++ more }) in
+    let typed = subst (λ vs. IsTypedAt s (spot part.mode part.gives vs) x) (sym (more_in_scope place.vars more)) c.requires.typed in
+    (omega (arith, c.decreases), (h, (c.requires.ground, subst (λ p. IsTypedAt s (spot_of p) x) (sym entered) typed)))
+
+pub first_at-returns : goal.first_at-returns
+first_at-returns g t c =
+    let o = origins_of c.args.ground.now.scene.now in
+    let place = c.args.place.now in
+    let part = c.args.part in
+    let x = part.term.now in
+    let more = part.more.items in
+    let inner : Place = record { mode = part.mode; result = part.gives; vars = place.vars ++ more } in
+    let mode : c.replace-outer_mode.new.dest ≡ part.mode = c.replace-outer_mode.ensures.after in
+    let gives : c.replace-outer_result.new.dest ≡ part.gives = c.replace-outer_result.ensures.after in
+    let entered : c.enter.new.place ≡ inner = c.in_ok-enter.ensures ∙ (λ i. record { mode = mode i; result = gives i; vars = place.vars ++ more }) in
+    let after : c.first_from.new.place ≡ inner = c.in_ok-found.ensures.place ∙ entered in
+    let outside : c.len-outside.result ≡ length place.vars = c.len-outside.ensures in
+    let outer_mode : c.replace-outer_mode.result ≡ place.mode = c.replace-outer_mode.ensures.value in
+    let outer_result : c.replace-outer_result.result ≡ place.result = c.replace-outer_result.ensures.value in
+    let vars : c.leave.new.place.vars ≡ place.vars =
+    ap (λ (p : Place). p.vars) c.leave.ensures ∙ (λ i. take (outside i) (after i).vars) ∙ take-append_seam place.vars more in
+    record {
+      first =
+          subst (λ at. FindsFirst built o (IsActive o at x) c.args.from.now c.in_ok-found.found)
+          (ap spot_of entered ∙ ap (spot part.mode part.gives) (more_in_scope place.vars more)) c.in_ok-found.ensures.first;
+      place = λ i. record { mode = outer_mode i; result = outer_result i; vars = vars i };
+    }

@@ -1,0 +1,19 @@
+use Rattle.rule_trials.specs.Trials.{built}
+use Rattle.active_parts.proofs.Options.{ok_more}
+use Rattle.chw_norm.proofs.States.{found_in_made, made_leads}
+use Rattle.chw_norm.proofs.state.in_number.Goals as goal
+
+pub in_made-requires : goal.in_made-requires
+in_made-requires g c = record {
+  ground = c.requires.ground;
+  typed = made_leads c.place_of_scene_is_typed.ensures c.args.ground.now.scene.now c.args.number c.args.it.now c.requires.typed c.requires.is;
+}
+
+pub returns : goal.returns
+returns g c =
+    let scene = c.args.ground.now.scene.now in
+    let from = c.args.from.now in
+    ok_more c.found_in.result _ _
+    (λ answer is. found_in_made built scene.program.now scene.made.now c.args.it.now c.args.number from.made.number from.path.items c.begin_in-path.result.now
+    c.in_ok-in_made.field-0 answer c.requires.is c.begin_in-path.ensures c.in_ok-in_made.ensures is)
+    c.found_in.ensures

@@ -1,0 +1,12 @@
+use Rattle.std.proofs.Common.{refl}
+use Rattle.rule_trials.specs.Trials.{built}
+use Rattle.active_parts.proofs.Options.{ok_more}
+use Rattle.chw_norm.proofs.States.{next_of_all}
+use Rattle.chw_norm.proofs.state.next.Goals as goal
+
+pub returns : goal.returns
+returns g c =
+    let scene = c.args.scene.now in
+    ok_more c.next_from.result _ _
+    (λ answer is. next_of_all built scene.program.now scene.made.now 0 c.new.result.items answer refl c.new.ensures.items is)
+    c.next_from.ensures

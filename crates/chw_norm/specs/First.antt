@@ -1,0 +1,71 @@
+-- The first step among places.
+use Rattle.std.specs.Prelude.{◌≡◌, ◌⊎◌, ℕ, ◌<◌, List, ◌++◌, reverse}
+use Rattle.std.specs.Prelude.{Option, None, MatchOption, Contains}
+use Rattle.chw_terms.specs.declared.rule.Rule.{Rule}
+use Rattle.chw_terms.specs.TermTree.{TermTree}
+use Rattle.typing_laws.specs.Paths.{IsEarlier}
+use Rattle.rewriting.specs.Origins.{Origins}
+use Rattle.rewriting.specs.Active.{IsActive}
+use Rattle.rewriting.specs.Spots.{Spot}
+use Rattle.rewriting.specs.Instances.{HasInstance}
+use Rattle.rewriting.specs.Steps.{number_of}
+use Rattle.step_order.specs.Sought.{IsSoughtPath}
+use Rattle.chw_norm.specs.declared.trail.Trail.{Trail}
+
+-- places: a path, and the spot and the term to which it leads
+abbrev pub Places : Type 1
+Places = List ℕ → Spot → TermTree → Type 0
+
+-- those of these places that are at this path
+abbrev pub AtPath : Places → List ℕ → Places
+AtPath s path p at e = (p ≡ path) × s p at e
+
+-- the active places from these on
+pub record From (o : Origins) (s : Places) (path : List ℕ) (at : Spot) (e : TermTree) : Type 0
+  where
+    pub first : List ℕ
+    pub spot : Spot
+    pub term : TermTree
+    pub place : s first spot term
+    pub rest : List ℕ
+    pub active : IsActive o spot term rest at e
+    pub is : path ≡ first ++ rest
+
+-- at one of these places, which is sought, one of the rules makes this
+pub record IsStepAt (rules : List Rule) (o : Origins) (s : Places) (from path : List ℕ)
+    (rule : Rule) (new : TermTree) : Type 0 where
+  pub at : Spot
+  pub term : TermTree
+  pub place : s path at term
+  pub sought : IsSoughtPath path from
+  pub is_rule : Contains rules rule
+  pub made : HasInstance o at rule term new
+
+-- by the path, then by the rule
+abbrev pub IsBeforeThere : List ℕ → Rule → List ℕ → Rule → Type 0
+IsBeforeThere p r q s = IsEarlier p q ⊎ ((p ≡ q) × (number_of r < number_of s))
+
+-- there is none
+abbrev pub HasNoStepAt : List Rule → Origins → Places → List ℕ → Type 0
+HasNoStepAt rules o s from =
+    (path : List ℕ) (rule : Rule) (new : TermTree) → IsStepAt rules o s from path rule new → ⊥
+
+-- the first one
+pub record IsFirstAt (rules : List Rule) (o : Origins) (s : Places) (from path : List ℕ)
+    (rule : Rule) (new : TermTree) : Type 0 where
+  pub it : IsStepAt rules o s from path rule new
+  pub first : (q : List ℕ) (r : Rule) (e : TermTree)
+      → IsStepAt rules o s from q r e → IsBeforeThere q r path rule → ⊥
+
+-- the answer is the first step, or nothing where there is none
+abbrev pub FindsFirst : List Rule → Origins → Places → List ℕ → Option Trail → Type 0
+FindsFirst rules o s from answer =
+    MatchOption answer (HasNoStepAt rules o s from)
+    (λ t. IsFirstAt rules o s from (reverse t.back.items) t.rule t.new)
+
+-- the answer is another one, of which the path goes on from this one
+abbrev pub GoesOn : List ℕ → Option Trail → Option Trail → Type 0
+GoesOn path found answer =
+    MatchOption found (answer ≡ None)
+    (λ t. MatchOption answer ⊥ (λ u. (reverse u.back.items ≡ path ++ reverse t.back.items)
+    × (u.rule ≡ t.rule) × (u.new ≡ t.new)))

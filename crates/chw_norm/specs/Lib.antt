@@ -1,0 +1,9 @@
+pub mod Begins
+pub mod Bounds
+pub mod First
+pub mod FoundSteps
+pub mod Lambdas
+pub mod Laws
+pub mod Rules
+pub mod Running
+pub mod Underway

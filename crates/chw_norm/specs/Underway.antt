@@ -1,0 +1,91 @@
+-- How far a run has come, and what one step more makes of it.
+use Rattle.std.specs.Prelude.{◌≡◌, ◌<◌, ◌⊎◌, ℕ, List, [], ◌∷◌, ◌++◌, length, set, Some, Result, Ok}
+use Rattle.std.specs.Prelude.{Err, IsSome}
+use Rattle.std.specs.List.{slice_get}
+use Rattle.chw_base.specs.declared.limits.TheConstants.{MADE_DEPTH}
+use Rattle.chw_base.specs.declared.outcome.Or.{Or}
+use Rattle.chw_base.specs.declared.outcome.Or.TheVariants.{Memory, Fault}
+use Rattle.chw_terms.specs.declared.program.Program.{Program}
+use Rattle.chw_terms.specs.declared.scene.Made.{Made}
+use Rattle.chw_terms.specs.Depth.{depth}
+use Rattle.chw_terms.specs.TermTree.{TermTree}
+use Rattle.typing_laws.specs.Paths.{with_part}
+use Rattle.typing_laws.specs.PartSpines.{spine_at}
+use Rattle.term_types.specs.Signatures.{IsSignature}
+use Rattle.rewriting.specs.Runs.{Step, StepsTo}
+use Rattle.rewriting.specs.Steps.{HasStepBy, Where}
+use Rattle.rule_types.specs.States.{IsTypedState}
+use Rattle.rule_trials.specs.Trials.{built}
+use Rattle.step_order.specs.Sought.{IsSought}
+use Rattle.norm_lines.specs.Places.{where_of}
+use Rattle.chw_norm.specs.declared.place.Found.{Found}
+use Rattle.norm_lines.specs.declared.place.StepAt.{StepAt}
+use Rattle.chw_norm.specs.declared.place.StepPlace.{StepPlace}
+use Rattle.chw_norm.specs.Bounds.{AreBounds, IsBound}
+use Rattle.chw_norm.specs.Running.{AreShallow, HasDeep, ShallowRun, Traces}
+use Rattle.chw_norm.specs.declared.progress.Progress.{Progress}
+use Rattle.chw_norm.specs.declared.running.RunFault.{RunFault}
+use Rattle.chw_norm.specs.declared.running.RunFault.TheVariants.{Depth, Spent}
+
+-- every step of the state is sought from this place on
+abbrev pub AreSought : Program → List Made → StepPlace → Type 0
+AreSought p made from =
+    (v : Where) (new : TermTree)
+    → HasStepBy built p made v new → IsSought from.made.number from.path.items v
+
+-- a typed state, in which one body alone can be over the limit: that of the opening
+pub record IsBetweenSteps (r : Progress) : Type 0 where
+  pub table : IsSignature r.program.now r.signature
+  pub typed : IsTypedState r.program.now r.made.items
+  pub sought : AreSought r.program.now r.made.items r.from
+  pub bounds : AreBounds r.made.items r.bounds.items
+  pub shallow : (length r.made.items ≡ 1) ⊎ AreShallow r.made.items
+
+-- a whole spine stands at the place of this step
+pub record HasSpine (made : List Made) (at : StepAt) : Type 0 where
+  pub it : Made
+  pub is : slice_get made at.made.number ≡ Some it
+  pub spine : IsSome (spine_at it.body at.path.items)
+
+-- the term is put there, and this is a bound of the body, exact where it is over the limit
+pub record IsPutAt (at : StepAt) (new : TermTree) (r r' : Progress) (bound : ℕ) : Type 0 where
+  pub it : Made
+  pub is : slice_get r.made.items at.made.number ≡ Some it
+  pub body : TermTree
+  pub body_is : body ≡ with_part it.body at.path.items new
+  pub made : r'.made.items ≡ set r.made.items at.made.number (record it { body = body })
+  pub bounds : r'.bounds.items ≡ set r.bounds.items at.made.number bound
+  pub keeps : (n : ℕ) → slice_get r.bounds.items at.made.number ≡ Some n
+      → IsBound n it.body → IsBound bound body
+  pub exact : MADE_DEPTH < bound → MADE_DEPTH < depth body
+  pub program : r'.program.now ≡ r.program.now
+  pub signature : r'.signature ≡ r.signature
+
+abbrev pub step_of : Found → Step
+step_of f = record { place = where_of f.at; new = f.new }
+
+-- the step is made, and it is the next one of the trace
+pub record Advances (f : Found) (old new : List StepAt) (r r' : Progress) : Type 0 where
+  pub program : r'.program.now ≡ r.program.now
+  pub leads : StepsTo built r.program.now r.made.items (step_of f) r'.made.items
+  pub traced : new ≡ old ++ f.at ∷ []
+
+-- how a step ends: it leads to shallow bodies, or to one over the limit, or memory was wanting
+abbrev pub StepEnds
+    : Found → List StepAt → List StepAt → Progress → Progress
+    → Result (Unit {0}) (Or RunFault) → Type 0
+StepEnds f old new r r' (Ok done) =
+    Advances f old new r r' × AreShallow r'.made.items × IsBetweenSteps r'
+StepEnds f old new r r' (Err (Fault Depth)) = Advances f old new r r' × HasDeep r'.made.items
+StepEnds f old new r r' (Err (Fault (Spent n))) = ⊥
+StepEnds f old new r r' (Err Memory) = new ≡ old
+
+-- so many steps of the program led here from its opening, and the trace has them
+pub record IsUnderway (p : Program) (old new : List StepAt) (count : ℕ) (r : Progress) : Type 0
+  where
+    pub program : r.program.now ≡ p
+    pub steps : List Step
+    pub trace : Traces old new steps
+    pub all : length steps ≡ count
+    pub run : ShallowRun built p steps r.made.items
+    pub between : IsBetweenSteps r

@@ -1,0 +1,69 @@
+//! The search in the body of a made definition, below its leading lambdas.
+ghost use Rattle.std.specs.Prelude.{◌≡◌, [], reverse, true, IfOk};
+ghost use Rattle.chw_typing.specs.Scopes.{setting_in};
+ghost use Rattle.rewriting.specs.Named.{mode_of};
+ghost use Rattle.rewriting.specs.Origins.{origins_of};
+ghost use Rattle.rule_trials.specs.Trials.{built};
+ghost use Rattle.chw_norm.specs.Lambdas.{under_lambdas};
+ghost use Rattle.chw_norm.specs.First.{FindsFirst};
+ghost use Rattle.active_parts.specs.Grounds.{IsGround};
+ghost use Rattle.chw_norm.specs.FoundSteps.{LeadsToTyped};
+
+use crate::paths::begin_at_child;
+use crate::search::first_from;
+use crate::trail::{Trail, behind_child};
+use active_parts::{Ground, enter, mode_of};
+use chw_base::{NoMemory, Seq};
+use chw_terms::{Head, Made, Place, Term};
+use chw_types::{Ty, TyNode};
+use looks::Looks;
+use std::alloc::Global;
+
+// The first step below the leading lambdas of a term, or below those that are left of them. Afterwards their variables are in scope.
+fn under_lambdas<L: Looks>(
+    alloc: Global,
+    ground: &Ground,
+    at: &Term,
+    ty: &Ty,
+    place: &mut Place,
+    from: &[u32],
+    looks: &mut L,
+) -> Result<Option<Trail>, NoMemory>
+    requires ground { IsGround ground.now }
+    requires result { place.old.result ≡ true }
+    requires typed { LeadsToTyped (setting_in ground.now.scene.now) place.old.mode (reverse place.old.vars) at.now ty.now }
+    ensures { IfOk result (FindsFirst built (origins_of ground.now.scene.now) (under_lambdas (origins_of ground.now.scene.now) place.old.mode (reverse place.old.vars) at.now ty.now) from.now) }
+{
+    let TyNode::Fun(_, to) = &ty.node else {
+        return first_from(alloc, ground, at, place, from, looks);
+    };
+    let Head::Lam(of, body) = &at.head else {
+        return Ok(None);
+    };
+    let Some(left) = begin_at_child(from, 0) else {
+        return Ok(None);
+    };
+    enter(alloc, place, vec![in alloc; of.copy(alloc)?]?)?;
+    let found = under_lambdas(alloc, ground, body, to, place, left, looks)?;
+    behind_child(found, 0)
+}
+
+/// The first step in the body of a made definition.
+pub(crate) fn in_made<L: Looks>(
+    alloc: Global,
+    ground: &Ground,
+    it: &Made,
+    from: &[u32],
+    looks: &mut L,
+) -> Result<Option<Trail>, NoMemory>
+    requires ground { IsGround ground.now }
+    requires typed { LeadsToTyped (setting_in ground.now.scene.now) (mode_of it.now.sort) [] it.now.body it.now.ty }
+    ensures { IfOk result (FindsFirst built (origins_of ground.now.scene.now) (under_lambdas (origins_of ground.now.scene.now) (mode_of it.now.sort) [] it.now.body it.now.ty) from.now) }
+{
+    let mut place = Place {
+        mode: mode_of(it.sort),
+        result: true,
+        vars: Seq::from(Vec::new(alloc)),
+    };
+    under_lambdas(alloc, ground, &it.body, &it.ty, &mut place, from, looks)
+}

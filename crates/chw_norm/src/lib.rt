@@ -1,0 +1,21 @@
+//! Rewriting: the first step of a state, and runs from the state with which a program opens, first step by first step, within a budget of
+//! steps and the limit of depth.
+//!
+//! A search goes over the made definitions in turn, of each over the active places in the order of their paths, and at each place over the
+//! rules in their order. It begins at the place of the step before, since nothing before that place can be rewritten.
+#![tactic(auto)]
+
+mod bodies;
+mod in_bodies;
+pub mod laws;
+mod paths;
+pub mod place;
+mod progress;
+pub mod running;
+mod search;
+pub mod state;
+mod trail;
+
+pub use place::{Found, StepPlace};
+pub use running::{RunFault, run};
+pub use state::{next, next_from};

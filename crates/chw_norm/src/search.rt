@@ -1,0 +1,163 @@
+//! The search below a place: the place itself, and then its parts in the order of their paths.
+ghost use Rattle.std.specs.Prelude.{◌≡◌, reverse, IfOk, OnOk};
+ghost use Rattle.chw_typing.specs.Scopes.{setting_in};
+ghost use Rattle.rewriting.specs.Origins.{origins_of};
+ghost use Rattle.rewriting.specs.Active.{Below, IsActive};
+ghost use Rattle.rewriting.specs.Spots.{spot_of};
+ghost use Rattle.rule_trials.specs.Trials.{built};
+ghost use Rattle.active_parts.specs.Grounds.{IsGround, IsTypedAt};
+ghost use Rattle.chw_norm.specs.First.{AtPath, FindsFirst, From};
+ghost use Rattle.active_parts.specs.Parts.{path_to, around, arguments_of, spot_in, IsAmong, IsInside, AreAmongFirst, AreAmongArguments};
+
+use crate::paths::begin_at;
+use crate::trail::{Trail, behind};
+use active_parts::{
+    Ground, Part, count_parts, enter, enter_group, group_around_parts, leave, part_at, path_to,
+};
+use chw_base::NoMemory;
+use chw_terms::{Place, Term};
+use looks::Looks;
+use rule_trials::first_rule;
+use std::alloc::Global;
+use std::mem;
+
+/// The first step at a place or below it. The place is the same afterwards.
+#[cycle(search)]
+pub(crate) fn first_from<L: Looks>(
+    alloc: Global,
+    ground: &Ground,
+    at: &Term,
+    place: &mut Place,
+    from: &[u32],
+    looks: &mut L,
+) -> Result<Option<Trail>, NoMemory>
+    requires ground { IsGround ground.now }
+    requires typed { IsTypedAt (setting_in ground.now.scene.now) (spot_of place.old) at.now }
+    ensures first { IfOk result (FindsFirst built (origins_of ground.now.scene.now) (IsActive (origins_of ground.now.scene.now) (spot_of place.old) at.now) from.now) }
+    ensures place { OnOk result (place.new ≡ place.old) }
+{
+    if let Some(trial) = first_rule(alloc, ground.scene, ground.signature, at, place, looks)? {
+        return Ok(Some(Trail {
+            back: Vec::new(alloc),
+            rule: trial.rule,
+            new: trial.new,
+        }));
+    }
+    below(alloc, ground, at, place, from, looks)
+}
+
+// The first step below a place.
+#[cycle(search)]
+fn below<L: Looks>(
+    alloc: Global,
+    ground: &Ground,
+    at: &Term,
+    place: &mut Place,
+    from: &[u32],
+    looks: &mut L,
+) -> Result<Option<Trail>, NoMemory>
+    requires ground { IsGround ground.now }
+    requires typed { IsTypedAt (setting_in ground.now.scene.now) (spot_of place.old) at.now }
+    ensures first { IfOk result (FindsFirst built (origins_of ground.now.scene.now) (From (origins_of ground.now.scene.now) (Below (origins_of ground.now.scene.now) (spot_of place.old) at.now)) from.now) }
+    ensures place { OnOk result (place.new ≡ place.old) }
+{
+    let count = count_parts(place.mode, at);
+    if count == 0 {
+        return Ok(None);
+    }
+    let outside = place.vars.len();
+    enter_group(alloc, place, group_around_parts(at))?;
+    let found = first_part(alloc, ground, at, count, place, from, looks)?;
+    leave(alloc, place, outside);
+    Ok(found)
+}
+
+// The first step at or below so many parts of a term, all of them that come into question. The variables that the term brings for all
+// of its parts are in scope.
+#[cycle(search)]
+fn first_part<L: Looks>(
+    alloc: Global,
+    ground: &Ground,
+    at: &Term,
+    count: usize,
+    place: &mut Place,
+    from: &[u32],
+    looks: &mut L,
+) -> Result<Option<Trail>, NoMemory>
+    requires ground { IsGround ground.now }
+    requires inside { IsInside place.old at.now }
+    requires typed { IsTypedAt (setting_in ground.now.scene.now) (around place.old at.now) at.now }
+    requires all { AreAmongFirst place.old.mode at.now count }
+    requires arguments { AreAmongArguments at.now count }
+    ensures first { IfOk result (FindsFirst built (origins_of ground.now.scene.now) (From (origins_of ground.now.scene.now) (Below (origins_of ground.now.scene.now) (around place.old at.now) at.now)) from.now) }
+    ensures place { OnOk result (place.new ≡ place.old) }
+{
+    for number in 0..count {
+        let found = in_part(alloc, ground, at, number, place, from, looks)?;
+        if found.is_some() {
+            return Ok(found);
+        }
+    }
+    Ok(None)
+}
+
+// The first step at or below the part of this number.
+#[cycle(search)]
+fn in_part<L: Looks>(
+    alloc: Global,
+    ground: &Ground,
+    at: &Term,
+    number: usize,
+    place: &mut Place,
+    from: &[u32],
+    looks: &mut L,
+) -> Result<Option<Trail>, NoMemory>
+    requires ground { IsGround ground.now }
+    requires inside { IsInside place.old at.now }
+    requires typed { IsTypedAt (setting_in ground.now.scene.now) (around place.old at.now) at.now }
+    requires number { IsAmong (arguments_of at.now) number }
+    ensures first { IfOk result (FindsFirst built (origins_of ground.now.scene.now) (From (origins_of ground.now.scene.now) (AtPath (Below (origins_of ground.now.scene.now) (around place.old at.now) at.now) (path_to at.now number))) from.now) }
+    ensures place { OnOk result (place.new ≡ place.old) }
+{
+    let path = path_to(at.args.len(), number)?;
+    let Some(left) = begin_at(from, path) else {
+        return Ok(None);
+    };
+    let Some(part) = part_at(alloc, ground, at, number, place)? else {
+        return Ok(None);
+    };
+    let found = first_at(alloc, ground, part, place, left, looks)?;
+    behind(found, path)
+}
+
+// The first step at or below a part.
+#[cycle(search)]
+fn first_at<L: Looks>(
+    alloc: Global,
+    ground: &Ground,
+    part: Part,
+    place: &mut Place,
+    from: &[u32],
+    looks: &mut L,
+) -> Result<Option<Trail>, NoMemory>
+    requires ground { IsGround ground.now }
+    requires typed { IsTypedAt (setting_in ground.now.scene.now) (spot_in (reverse place.old.vars) part) part.term.now }
+    ensures first { IfOk result (FindsFirst built (origins_of ground.now.scene.now) (IsActive (origins_of ground.now.scene.now) (spot_in (reverse place.old.vars) part.entry) part.entry.term.now) from.now) }
+    ensures place { OnOk result (place.new ≡ place.old) }
+{
+    let Part {
+        term,
+        mode,
+        gives,
+        more,
+    } = part;
+    let outside = place.vars.len();
+    let outer_mode = mem::replace(&mut place.mode, mode);
+    let outer_result = mem::replace(&mut place.result, gives);
+    enter(alloc, place, more)?;
+    let found = first_from(alloc, ground, term, place, from, looks)?;
+    leave(alloc, place, outside);
+    place.mode = outer_mode;
+    place.result = outer_result;
+    Ok(found)
+}

@@ -1,0 +1,126 @@
+//! The search in a state: its made definitions in turn.
+ghost use Rattle.std.specs.Prelude.{◌≡◌, ◌≤◌, IfOk, Some, slice_get};
+ghost use Rattle.rewriting.specs.Typed.{IsTypedScene};
+ghost use Rattle.term_types.specs.Signatures.{IsSignature};
+ghost use Rattle.rule_trials.specs.Trials.{built};
+ghost use Rattle.active_parts.specs.Grounds.{IsGround};
+ghost use Rattle.chw_norm.specs.FoundSteps.{FindsFrom, FindsNext, FindsIn, IsFoundIn};
+ghost use Rattle.chw_norm.specs.Begins.{BeginsIn};
+
+use crate::in_bodies::in_made;
+use crate::place::{Found, StepPlace};
+use crate::trail::Trail;
+use active_parts::Ground;
+use chw_base::{MadeId, NoMemory, narrow};
+use chw_terms::{Made, Scene};
+use looks::Looks;
+use norm_lines::StepAt;
+use rewriting::place_laws::place_of_scene_is_typed;
+use rewriting::scene_laws::settings_of_scenes;
+use std::alloc::Global;
+use term_types::Signature;
+use typing_laws::named_laws::data_types_in_order;
+
+// The step with the number of its made definition, and its path with the first number first.
+fn found_in(number: usize, found: Option<Trail>) -> Result<Option<Found>, NoMemory>
+    ensures { IfOk result (IsFoundIn number found) }
+{
+    match found {
+        Some(trail) => {
+            let made = MadeId {
+                number: narrow(number)?,
+            };
+            let Trail {
+                back: mut path,
+                rule,
+                new,
+            } = trail;
+            path.reverse();
+            let at = StepAt { made, path, rule };
+            Ok(Some(Found { at, new }))
+        }
+        None => Ok(None),
+    }
+}
+
+// Where the search begins in the made definition of this number, where it begins at that place.
+fn begin_in(number: usize, from: &StepPlace) -> &[u32]
+    requires { from.now.made.number ≤ number }
+    ensures { BeginsIn number from.now.made.number from.now.path.items result.now }
+{
+    if number == from.made.number as usize {
+        from.path.as_slice()
+    } else {
+        &[]
+    }
+}
+
+// The first step in the made definition of this number, where the search begins at that place.
+fn in_number<L: Looks>(
+    alloc: Global,
+    ground: &Ground,
+    number: usize,
+    it: &Made,
+    from: &StepPlace,
+    looks: &mut L,
+) -> Result<Option<Found>, NoMemory>
+    requires ground { IsGround ground.now }
+    requires typed { IsTypedScene ground.now.scene.now }
+    requires is { slice_get ground.now.scene.now.made.now number ≡ Some it.now }
+    requires later { from.now.made.number ≤ number }
+    ensures { IfOk result (FindsIn built ground.now.scene.now.program.now ground.now.scene.now.made.now number from.now.made.number from.now.path.items) }
+{
+    place_of_scene_is_typed();
+    let path = begin_in(number, from);
+    found_in(number, in_made(alloc, ground, it, path, looks)?)
+}
+
+/// The first step of a state from a place on, and what is then there. The steps at the places above that one are among these, since they
+/// may come anew where the term at the place has changed. Nothing comes exactly where there is none.
+///
+/// The scene is typed, and the signature is that of its program.
+/// Where a number would pass 32 bits, the answer is want of memory.
+pub fn next_from<L: Looks>(
+    alloc: Global,
+    scene: &Scene,
+    signature: &Signature,
+    from: &StepPlace,
+    looks: &mut L,
+) -> Result<Option<Found>, NoMemory>
+    requires typed { IsTypedScene scene.now }
+    requires table { IsSignature scene.now.program.now signature.now }
+    ensures { IfOk result (FindsFrom built scene.now.program.now scene.now.made.now from.now.made.number from.now.path.items) }
+{
+    settings_of_scenes();
+    data_types_in_order();
+    let ground = Ground { scene, signature };
+    let made = scene.made;
+    for number in from.made.number as usize..made.len() {
+        let found = in_number(alloc, &ground, number, &made[number], from, looks)?;
+        if found.is_some() {
+            return Ok(found);
+        }
+    }
+    Ok(None)
+}
+
+/// The first step of a state, and what is then there. Nothing comes exactly where there is none.
+///
+/// The scene is typed, and the signature is that of its program.
+/// Where a number would pass 32 bits, the answer is want of memory.
+pub fn next<L: Looks>(
+    alloc: Global,
+    scene: &Scene,
+    signature: &Signature,
+    looks: &mut L,
+) -> Result<Option<Found>, NoMemory>
+    requires typed { IsTypedScene scene.now }
+    requires table { IsSignature scene.now.program.now signature.now }
+    ensures { IfOk result (FindsNext built scene.now.program.now scene.now.made.now) }
+{
+    let from = StepPlace {
+        made: MadeId { number: 0 },
+        path: Vec::new(alloc),
+    };
+    next_from(alloc, scene, signature, &from, looks)
+}

@@ -1,5 +1,0 @@
-use Rattle.found_types.proofs.Shown.{zeros_kept, zeros_left_out}
-use Rattle.found_types.proofs.examples.of_type_arguments.Goals as goal
-
-pub returns : goal.returns
-returns c = record { kept = zeros_kept; left_out = zeros_left_out }

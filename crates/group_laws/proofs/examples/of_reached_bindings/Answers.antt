@@ -1,5 +1,0 @@
-use Rattle.group_laws.proofs.Shown.{first_reached, second_reached, third_not_reached}
-use Rattle.group_laws.proofs.examples.of_reached_bindings.Goals as goal
-
-pub returns : goal.returns
-returns c = record { first = first_reached; second = second_reached; third = third_not_reached }

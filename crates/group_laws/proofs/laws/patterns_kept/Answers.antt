@@ -1,5 +1,0 @@
-use Rattle.group_laws.proofs.Parts.{patterns_of_each, patterns_renamed, patterns_put}
-use Rattle.group_laws.proofs.laws.patterns_kept.Goals as goal
-
-pub returns : goal.returns
-returns c = record { each = patterns_of_each; renamed = patterns_renamed; put = patterns_put }

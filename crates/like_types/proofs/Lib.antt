@@ -1,2 +1,0 @@
-pub mod FieldsPut
-pub mod SameNames

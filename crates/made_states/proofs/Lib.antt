@@ -1,0 +1,10 @@
+pub mod Behind
+pub mod Fewer
+pub mod Instances
+pub mod Made
+pub mod Names
+pub mod Origins
+pub mod Places
+pub mod Rules
+pub mod States
+pub mod Written

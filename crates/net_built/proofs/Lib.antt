@@ -1,0 +1,11 @@
+pub mod Accumulated
+pub mod CircuitsOnce
+pub mod Nets
+pub mod InOrder
+pub mod NoLoops
+pub mod Orders
+pub mod Parts
+pub mod Shown
+pub mod ValueSizes
+pub mod ValueWires
+pub mod ValuesOnce

@@ -1,0 +1,15 @@
+pub mod Accumulator
+pub mod Bodies
+pub mod Built
+pub mod Circuits
+pub mod Data
+pub mod Examples
+pub mod InOrder
+pub mod Laws
+pub mod Loops
+pub mod Memories
+pub mod Modules
+pub mod Terms
+pub mod Vectors
+pub mod Wires
+pub mod Words

@@ -1,0 +1,80 @@
+//! The laws, each as the contract of a call that does nothing.
+ghost use Rattle.net_fits.specs.Laws.{ValueBodiesDriveInOrder, CircuitBodiesDriveInOrder, DriversAreKept, HasModules, NamesAreThere, TopsAreKept, BuiltIsWellFormed, PortsAreKept};
+
+use layout_laws::laws::same_types_keep_layout;
+use rule_types::laws::steps_keep;
+use type_laws::laws::fields_keep_same;
+use typing_laws::spine_laws::{saturated_spines, spines_are_saturated};
+
+/// The cells of the body of a value drive its wires in order, from behind its inputs on.
+pub fn value_bodies_drive_in_order()
+    ensures { ValueBodiesDriveInOrder }
+{
+    same_types_keep_layout();
+}
+
+/// The cells of the body of a circuit drive its wires in order, from behind its inputs on.
+pub fn circuit_bodies_drive_in_order()
+    ensures { CircuitBodiesDriveInOrder }
+{
+    fields_keep_same();
+    same_types_keep_layout();
+    saturated_spines();
+    spines_are_saturated();
+}
+
+/// Each module that is built keeps the rule on drivers.
+pub fn drivers_are_kept()
+    ensures { DriversAreKept }
+{
+    fields_keep_same();
+    same_types_keep_layout();
+    saturated_spines();
+    spines_are_saturated();
+    steps_keep();
+}
+
+/// What is built has a module.
+pub fn modules_are_there()
+    ensures { HasModules }
+{}
+
+/// What the cells and the outputs of a module that is built name exists.
+pub fn names_are_there()
+    ensures { NamesAreThere }
+{
+    fields_keep_same();
+    same_types_keep_layout();
+    saturated_spines();
+    spines_are_saturated();
+    steps_keep();
+}
+
+/// The last module that is built keeps the rule on names, and has inputs as wide as the ports.
+pub fn tops_are_kept()
+    ensures { TopsAreKept }
+{
+    fields_keep_same();
+    same_types_keep_layout();
+    saturated_spines();
+    spines_are_saturated();
+    steps_keep();
+}
+
+/// The ports of a typed state's program keep the rules on ports.
+pub fn ports_are_kept()
+    ensures { PortsAreKept }
+{
+    steps_keep();
+}
+
+/// What is built is well formed, if it keeps the rules of which this isn't proved.
+pub fn built_is_well_formed()
+    ensures { BuiltIsWellFormed }
+{
+    fields_keep_same();
+    same_types_keep_layout();
+    saturated_spines();
+    spines_are_saturated();
+    steps_keep();
+}

@@ -1,0 +1,16 @@
+mod Arguments
+mod CircuitForms
+mod Closed
+mod ConstantForms
+mod Counted
+mod Graphs
+mod Heads
+mod Leaves
+mod LiftedForms
+mod Listing
+mod Loops
+mod Sides
+mod Spines
+mod Truths
+mod Typed
+mod WholeBodies

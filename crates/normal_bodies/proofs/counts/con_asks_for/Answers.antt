@@ -1,0 +1,23 @@
+use Rattle.std.proofs.Common.{arith}
+use Rattle.std.proofs.lemmas.Bool.{leb-true, le-leb, eqb-true, eq-eqb}
+use Rattle.con_places.specs.Constructing.{constructor_of}
+use Rattle.normal_bodies.proofs.Counted.{constructor_asks}
+use Rattle.normal_bodies.proofs.counts.con_asks_for.Goals as goal
+
+pub returns-then-types-count : goal.returns-then-types-count
+returns-then-types-count c =
+    let asks = constructor_asks (constructor_of c.args.con.now) in
+    let types = c.len-types.ensures in
+    let fields = c.len.ensures in (
+      λ t. let same = eqb-true _ _ t in omega (arith, same, asks, types, fields, c.if-types-count.true),
+      λ e. eq-eqb _ _ (omega (arith, e, asks, types, fields)),
+    )
+
+pub returns-else-types-count : goal.returns-else-types-count
+returns-else-types-count c =
+    let asks = constructor_asks (constructor_of c.args.con.now) in
+    let types = c.len-types.ensures in
+    let more = c.if-types-count.false in (
+      λ t. let few = leb-true _ _ t in absurd (omega (arith, few, more)),
+      λ e. le-leb _ _ (omega (arith, e, asks, types)),
+    )

@@ -1,0 +1,4 @@
+pub mod Graphs
+pub mod Listed
+pub mod Spines
+pub mod There

@@ -1,0 +1,3 @@
+pub mod MadeIn
+pub mod States
+pub mod UseOrders

@@ -1,0 +1,9 @@
+pub mod Alike
+pub mod Built
+pub mod Declared
+pub mod Forms
+pub mod Memory
+pub mod Payloads
+pub mod Places
+pub mod Recursion
+pub mod Typed

@@ -1,0 +1,43 @@
+//! The laws, each as the contract of a call that does nothing.
+ghost use Rattle.normal_laws.specs.Laws.{NormalHasNoRecursion, NormalHasNoPayload, NormalDeclaresNoLimit, NormalBuildsNoLimit};
+
+use chw_layout::laws::one_measure;
+use layout_laws::laws::same_types_keep_layout;
+use rewriting::scene_laws::names_of_modes;
+use rule_types::laws::steps_keep;
+use type_laws::laws::fields_keep_same;
+use typing_laws::spine_laws::saturated_spines;
+
+/// No cycle of bindings blocks a body in normal form.
+pub fn normal_has_no_recursion()
+    ensures { NormalHasNoRecursion }
+{}
+
+/// No payload blocks a body in normal form.
+pub fn normal_has_no_payload()
+    ensures { NormalHasNoPayload }
+{
+    fields_keep_same();
+    names_of_modes();
+    saturated_spines();
+    steps_keep();
+}
+
+/// Where a limit blocks a body in normal form, it is passed by the type of what stands at an active place, or by a size of a primitive that takes an element of
+/// a vector: no leading lambda and no binding passes one.
+pub fn normal_declares_no_limit()
+    ensures { NormalDeclaresNoLimit }
+{
+    one_measure();
+    steps_keep();
+}
+
+/// Where values and circuits are built, what stands in a body in normal form passes no limit by its type: right sides, blocks and alternatives.
+pub fn normal_builds_no_limit()
+    ensures { NormalBuildsNoLimit }
+{
+    fields_keep_same();
+    one_measure();
+    same_types_keep_layout();
+    steps_keep();
+}

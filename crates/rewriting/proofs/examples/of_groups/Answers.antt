@@ -1,5 +1,0 @@
-use Rattle.rewriting.proofs.Shown.{let_joins, binding_goes, function_is_put}
-use Rattle.rewriting.proofs.examples.of_groups.Goals as goal
-
-pub returns : goal.returns
-returns c = record { joined = let_joins; left_out = binding_goes; put = function_is_put }

@@ -1,5 +1,0 @@
-use Rattle.rewriting.proofs.Shown.{functions_composed, functions_behind, operand_named, call_closed}
-use Rattle.rewriting.proofs.examples.of_new_names.Goals as goal
-
-pub returns : goal.returns
-returns c = record { composed = functions_composed; behind = functions_behind; operand = operand_named; call = call_closed }

@@ -1,5 +1,0 @@
-use Rattle.scenes.proofs.Lambdas.{one_under}
-use Rattle.scenes.proofs.laws.one_under_lambdas.Goals as goal
-
-pub returns : goal.returns
-returns c vars vs vs' e x x' t p p' h g = one_under h g

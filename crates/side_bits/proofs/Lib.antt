@@ -1,0 +1,14 @@
+pub mod Cases
+pub mod Choices
+pub mod Constructors
+pub mod Elements
+pub mod Fields
+pub mod Heads
+pub mod NoMade
+pub mod Operands
+pub mod Rows
+pub mod Saturated
+pub mod Sides
+pub mod Simple
+pub mod Vectors
+pub mod Words

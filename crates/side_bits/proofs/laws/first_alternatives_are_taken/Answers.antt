@@ -1,0 +1,10 @@
+use Rattle.side_bits.proofs.Cases.{chosen_first}
+use Rattle.side_bits.proofs.Choices.{first_taken, taken_first}
+use Rattle.side_bits.proofs.laws.first_alternatives_are_taken.Goals as goal
+
+pub returns : goal.returns
+returns c = record {
+  meaning = λ datas x alts k a first. first_taken first;
+  back = taken_first;
+  cells = λ datas u whole n wires on alts x k a are size is first. chosen_first c.same_values.ensures datas u whole n wires on alts x k a are size is first;
+}

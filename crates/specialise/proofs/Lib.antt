@@ -1,0 +1,9 @@
+mod Called
+mod Closed
+mod Lambdas
+mod Lifting
+mod Needs
+mod Numbering
+mod Scoped
+mod Shapes
+mod Values

@@ -1,0 +1,4 @@
+pub mod Calls
+pub mod Closed
+pub mod Seeds
+pub mod Special

@@ -1,0 +1,214 @@
+//! Calls that become made definitions.
+ghost use Rattle.std.specs.Prelude.{◌≡◌, ◌↔◌, [], reverse, option_map, IfOk, IsTrue, MatchOption};
+ghost use Rattle.chw_types.specs.References.{HasNoCycle};
+ghost use Rattle.chw_types.specs.TypeTree.{TypeTree};
+ghost use Rattle.chw_terms.specs.declared.term.Arg.TheVariants.{OfTerm};
+ghost use Rattle.chw_terms.specs.TermTree.{TermTree};
+ghost use Rattle.rewriting.specs.Operands.{NeedsName};
+ghost use Rattle.rewriting.specs.Shapes.{IsVariable};
+ghost use Rattle.chw_terms.specs.FreeVariables.{free_in};
+ghost use Rattle.chw_typing.specs.HeadTypes.{from_each};
+ghost use Rattle.chw_typing.specs.Scopes.{setting_in};
+ghost use Rattle.rewriting.specs.Origins.{origins_of, under_each};
+ghost use Rattle.rewriting.specs.Spots.{spot_of};
+ghost use Rattle.rewriting.specs.Runs.{sort_at};
+ghost use Rattle.term_types.specs.Answers.{IsReady};
+ghost use Rattle.term_types.specs.Signatures.{IsSignature};
+ghost use Rattle.specialise.specs.Calls.{HasNamedType, AnswersTypes, NoneNeedsName};
+ghost use Rattle.specialise.specs.Closed.{numbers};
+ghost use Rattle.specialise.specs.Seeds.{AnswersCall};
+
+use crate::closing::close;
+use crate::lifted::type_at;
+use crate::numbers::Seed;
+use chw_base::{NoMemory, VarIx};
+use chw_terms::{Arg, Head, Mode, Place, Scene, Sort, Term};
+use chw_types::Ty;
+use chw_typing::laws::{one_type, types_are_term_types};
+use rewriting::scene_laws::{names_of_modes, settings_of_scenes};
+use rule_parts::named::is_named;
+use std::alloc::Global;
+use term_types::Signature;
+use typing_laws::found_laws::{found_is_type, one_found};
+
+// What a call gives, by the mode of its place.
+fn sort_at(mode: Mode) -> Sort
+    ensures { result ≡ sort_at mode }
+{
+    match mode {
+        Mode::C => Sort::Circuit,
+        Mode::V | Mode::HV | Mode::HC | Mode::K => Sort::Value,
+    }
+}
+
+// The term under a lambda for each of these types, and the type of functions of these that give the type.
+fn over_each(alloc: Global, types: Vec<Ty>, term: Term, gives: Ty) -> Result<(Term, Ty), NoMemory>
+    ensures { IfOk result (λ r. (r.0 ≡ under_each types.items term) × (r.1 ≡ from_each types.items gives)) }
+{
+    let mut types = types;
+    let mut done = term;
+    let mut whole = gives;
+    while let Some(ty) = types.pop() {
+        done = Term::lam(alloc, ty.copy(alloc)?, done)?;
+        whole = Ty::fun(alloc, ty, whole)?;
+    }
+    Ok((done, whole))
+}
+
+// Whether the term is a variable.
+fn is_variable(term: &Term) -> bool
+    ensures { IsTrue result ↔ IsVariable term.now }
+{
+    match &term.head {
+        Head::Var(_) => term.args.is_empty(),
+        _ => false,
+    }
+}
+
+// Whether the term needs a name at the place: it is no variable, and its type is named there.
+fn needs_name(
+    alloc: Global,
+    scene: &Scene,
+    signature: &Signature,
+    place: &Place,
+    term: &Term,
+) -> Result<bool, NoMemory>
+    requires order { HasNoCycle scene.now.program.now.datas }
+    requires ready { IsReady (setting_in scene.now) [] (reverse place.now.vars) }
+    requires table { IsSignature scene.now.program.now signature.now }
+    ensures { IfOk result (λ yes. IsTrue yes ↔ NeedsName (origins_of scene.now) (spot_of place.now) term.now) }
+{
+    if is_variable(term) {
+        return Ok(false);
+    }
+    let Some(ty) = type_at(alloc, scene, signature, place, term)? else {
+        return Ok(false);
+    };
+    settings_of_scenes();
+    found_is_type();
+    one_type();
+    types_are_term_types();
+    names_of_modes();
+    is_named(alloc, scene.program.datas.as_slice(), place.mode, &ty)
+}
+
+fn argument_needs_name(
+    alloc: Global,
+    scene: &Scene,
+    signature: &Signature,
+    place: &Place,
+    arg: &Arg,
+) -> Result<bool, NoMemory>
+    requires order { HasNoCycle scene.now.program.now.datas }
+    requires ready { IsReady (setting_in scene.now) [] (reverse place.now.vars) }
+    requires table { IsSignature scene.now.program.now signature.now }
+    ensures { IfOk result (λ yes. IsTrue yes ↔ (a : TermTree) × (arg.now ≡ OfTerm a) × NeedsName (origins_of scene.now) (spot_of place.now) a) }
+{
+    match arg {
+        Arg::OfTerm(term) => needs_name(alloc, scene, signature, place, term),
+        Arg::OfType(_) => Ok(false),
+    }
+}
+
+// Whether no argument needs a name.
+fn none_needs_name(
+    alloc: Global,
+    scene: &Scene,
+    signature: &Signature,
+    place: &Place,
+    args: &[Arg],
+) -> Result<bool, NoMemory>
+    requires order { HasNoCycle scene.now.program.now.datas }
+    requires ready { IsReady (setting_in scene.now) [] (reverse place.now.vars) }
+    requires table { IsSignature scene.now.program.now signature.now }
+    ensures { IfOk result (λ yes. IsTrue yes ↔ NoneNeedsName (origins_of scene.now) (spot_of place.now) args.now) }
+{
+    for arg in args {
+        if argument_needs_name(alloc, scene, signature, place, arg)? {
+            return Ok(false);
+        }
+    }
+    Ok(true)
+}
+
+// The type of a variable, where it is in scope and its type is named.
+fn named_type(
+    alloc: Global,
+    scene: &Scene,
+    place: &Place,
+    at: VarIx,
+) -> Result<Option<Ty>, NoMemory>
+    requires { HasNoCycle scene.now.program.now.datas }
+    ensures { IfOk result (λ r. MatchOption r ((t : TypeTree) → HasNamedType (origins_of scene.now) (spot_of place.now) at.number t → ⊥) (λ t. HasNamedType (origins_of scene.now) (spot_of place.now) at.number t)) }
+{
+    let vars = place.vars.as_slice();
+    let number = at.number as usize;
+    if number >= vars.len() {
+        return Ok(None);
+    }
+    let ty = &vars[vars.len() - 1 - number];
+    if is_named(alloc, scene.program.datas.as_slice(), place.mode, ty)? {
+        Ok(Some(ty.copy(alloc)?))
+    } else {
+        Ok(None)
+    }
+}
+
+// The types of variables, where all are named.
+fn named_types(
+    alloc: Global,
+    scene: &Scene,
+    place: &Place,
+    free: &[VarIx],
+) -> Result<Option<Vec<Ty>>, NoMemory>
+    requires { HasNoCycle scene.now.program.now.datas }
+    ensures { IfOk result (λ r. AnswersTypes (origins_of scene.now) (spot_of place.now) (numbers free.now) (option_map (λ ts. ts.items) r)) }
+{
+    let mut types = Vec::new(alloc);
+    for at in free {
+        let Some(ty) = named_type(alloc, scene, place, *at)? else {
+            return Ok(None);
+        };
+        types.push(ty)?;
+    }
+    Ok(Some(types))
+}
+
+/// What the call of a definition becomes a made definition of: the call under a lambda for each of its free variables, with origins for
+/// made definitions. These are the free variables.
+pub(crate) fn call_seed(
+    alloc: Global,
+    scene: &Scene,
+    signature: &Signature,
+    place: &Place,
+    at: &Term,
+    free: &[VarIx],
+) -> Result<Option<Seed>, NoMemory>
+    requires order { HasNoCycle scene.now.program.now.datas }
+    requires ready { IsReady (setting_in scene.now) [] (reverse place.now.vars) }
+    requires table { IsSignature scene.now.program.now signature.now }
+    requires free { numbers free.now ≡ free_in at.now }
+    ensures { IfOk result (AnswersCall (origins_of scene.now) (spot_of place.now) at.now) }
+{
+    let Head::Global(_) = &at.head else {
+        return Ok(None);
+    };
+    found_is_type();
+    one_found();
+    let Some(gives) = type_at(alloc, scene, signature, place, at)? else {
+        return Ok(None);
+    };
+    if !is_named(alloc, scene.program.datas.as_slice(), place.mode, &gives)? {
+        return Ok(None);
+    }
+    if !none_needs_name(alloc, scene, signature, place, &at.args)? {
+        return Ok(None);
+    }
+    let Some(types) = named_types(alloc, scene, place, free)? else {
+        return Ok(None);
+    };
+    let inner = close(alloc, scene, free, 0, at)?;
+    let (origin, ty) = over_each(alloc, types, inner, gives)?;
+    let sort = sort_at(place.mode);
+    Ok(Some(Seed { origin, ty, sort }))
+}

@@ -1,4 +1,0 @@
-pub mod Asked
-pub mod Lets
-pub mod Saturated
-pub mod Spines

@@ -1,6 +1,0 @@
-//! Typing around a place of a term. Nothing here runs in the program.
-//!
-//! The definitions are in `specs/`; each law is the contract of a call that does nothing.
-#![tactic(auto)]
-
-pub mod laws;

@@ -1,4 +1,0 @@
-pub mod Children
-pub mod FrontZeros
-pub mod Places
-pub mod Puts

@@ -1,4 +1,0 @@
-pub mod Children
-pub mod Order
-pub mod Parts
-pub mod Spines

@@ -1,5 +1,0 @@
-use Rattle.std.proofs.Common.{refl}
-use Rattle.term_paths.proofs.examples.of_paths.Goals as goal
-
-pub returns : goal.returns
-returns c = record { found = refl; changed = refl; none = refl; argument = refl }

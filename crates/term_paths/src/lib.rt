@@ -1,7 +1,0 @@
-//! Children and parts of terms by their numbers, with their laws. Nothing here runs in the program.
-//!
-//! The definitions are in `specs/`; each law or example is the contract of a call that does nothing.
-#![tactic(auto)]
-
-pub mod examples;
-pub mod laws;

@@ -1,0 +1,4 @@
+pub mod Laws
+pub mod TermSigns
+pub mod TypeSigns
+pub mod Written
