@@ -12,7 +12,8 @@ ghost use Rattle.term_types.specs.Answers.{IsReady};
 ghost use Rattle.term_types.specs.Signatures.{IsSignature};
 ghost use Rattle.work_signals.specs.Joined.{fmap_seen, ap_seen, AnswersJoin, both_mapped};
 
-use crate::building::{behind_each, each_composed, functions, lifted, mapped, on_value};
+use crate::building::{lifted, lifted_between, mapped_to_composing, mapped_to_results};
+use crate::composing::{behind_each, each_composed, on_value};
 use crate::finding::{function_type, lifted_type, payload_type};
 use crate::views::{Lifted, as_ap, as_fmap, as_pure};
 use chw_base::NoMemory;
@@ -58,16 +59,8 @@ fn ap_value(
         return Ok(None);
     };
     let function = on_value(alloc, th, value)?;
-    let from = functions(alloc, outer.from, outer.to)?;
-    let made = lifted(
-        alloc,
-        Prim::Fmap,
-        outer.dom,
-        &from,
-        outer.to,
-        function,
-        outer.function,
-    )?;
+    let (from, to) = (outer.from, outer.to);
+    let made = mapped_to_results(alloc, outer.dom, from, to, function, outer.function)?;
     Ok(Some(made))
 }
 
@@ -91,12 +84,13 @@ fn ap_fmap(
     let Some(th) = payload_type(alloc, scene, signature, place, outer.function)? else {
         return Ok(None);
     };
-    let Some((tx, _)) = function_type(alloc, scene, signature, place, inner.function)? else {
+    let Some(parts) = function_type(alloc, scene, signature, place, inner.function)? else {
         return Ok(None);
     };
-    let function = behind_each(alloc, th, tx, inner.function)?;
+    let function = behind_each(alloc, th, parts, inner.function)?;
     let (had, gets) = ((outer.from, outer.to), (inner.from, outer.to));
-    let first = mapped(alloc, outer.dom, had, gets, function, outer.function)?;
+    let (which, of) = (Prim::Fmap, outer.function);
+    let first = lifted_between(alloc, which, outer.dom, had, gets, function, of)?;
     let made = lifted(
         alloc,
         Prim::Ap,
@@ -129,11 +123,10 @@ fn ap_ap(
     let Some(th) = payload_type(alloc, scene, signature, place, outer.function)? else {
         return Ok(None);
     };
-    let Some((tx, r)) = lifted_type(alloc, scene, signature, place, inner.function)? else {
+    let Some(parts) = lifted_type(alloc, scene, signature, place, inner.function)? else {
         return Ok(None);
     };
-    let tk = functions(alloc, &tx, &r)?;
-    let function = each_composed(alloc, th, tk, tx)?;
+    let function = each_composed(alloc, th, parts)?;
     let first = lifted_twice(alloc, outer, inner, function)?;
     let made = lifted(
         alloc,
@@ -156,19 +149,10 @@ fn lifted_twice(
 ) -> Result<Term, NoMemory>
     ensures { IfOk result (λ e. e ≡ both_mapped outer.entry inner.entry function) }
 {
-    let gets = functions(alloc, inner.from, outer.to)?;
-    let of_inner = functions(alloc, inner.from, outer.from)?;
-    let (had, between) = ((outer.from, outer.to), (&of_inner, &gets));
-    let first = mapped(alloc, outer.dom, had, between, function, outer.function)?;
-    lifted(
-        alloc,
-        Prim::Ap,
-        outer.dom,
-        &of_inner,
-        &gets,
-        first,
-        inner.function,
-    )
+    let (a, b, c) = (inner.from, outer.from, outer.to);
+    let first = mapped_to_composing(alloc, outer.dom, a, b, c, function, outer.function)?;
+    let (which, of) = (Prim::Ap, inner.function);
+    lifted_between(alloc, which, outer.dom, (a, b), (a, c), first, of)
 }
 
 // What becomes of functions, which aren't one value, on a signal that can't be named.

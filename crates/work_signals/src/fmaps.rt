@@ -12,7 +12,8 @@ ghost use Rattle.term_types.specs.Answers.{IsReady};
 ghost use Rattle.term_types.specs.Signatures.{IsSignature};
 ghost use Rattle.work_signals.specs.Joined.{fmap_seen, ap_seen, AnswersJoin};
 
-use crate::building::{before_each, composed, constant, functions, lifted, mapped};
+use crate::building::{constant, lifted, lifted_between};
+use crate::composing::{before_each, composed};
 use crate::finding::{function_type, lifted_type};
 use crate::views::{Lifted, as_ap, as_fmap, as_pure};
 use chw_base::NoMemory;
@@ -45,10 +46,10 @@ fn fmap_fmap(
     requires inner { outer.signal.now ≡ fmap_seen inner }
     ensures { IfOk result (AnswersJoin (origins_of scene.now) (spot_of place.now) (fmap_seen outer.entry)) }
 {
-    let Some((ty, _)) = function_type(alloc, scene, signature, place, inner.function)? else {
+    let Some(parts) = function_type(alloc, scene, signature, place, inner.function)? else {
         return Ok(None);
     };
-    let function = composed(alloc, ty, outer.function, inner.function)?;
+    let function = composed(alloc, parts, outer.function, inner.function)?;
     let made = lifted(
         alloc,
         Prim::Fmap,
@@ -77,13 +78,13 @@ fn fmap_ap(
     requires inner { outer.signal.now ≡ ap_seen inner }
     ensures { IfOk result (AnswersJoin (origins_of scene.now) (spot_of place.now) (fmap_seen outer.entry)) }
 {
-    let Some((tx, r)) = lifted_type(alloc, scene, signature, place, inner.function)? else {
+    let Some(parts) = lifted_type(alloc, scene, signature, place, inner.function)? else {
         return Ok(None);
     };
-    let th = functions(alloc, &tx, &r)?;
-    let function = before_each(alloc, th, tx, outer.function)?;
+    let function = before_each(alloc, parts, outer.function)?;
     let (had, gets) = ((inner.from, outer.from), (inner.from, outer.to));
-    let first = mapped(alloc, outer.dom, had, gets, function, inner.function)?;
+    let (which, of) = (Prim::Fmap, inner.function);
+    let first = lifted_between(alloc, which, outer.dom, had, gets, function, of)?;
     let made = lifted(
         alloc,
         Prim::Ap,

@@ -4,6 +4,7 @@
 
 mod aps;
 mod building;
+mod composing;
 mod finding;
 mod fmaps;
 pub mod trial;

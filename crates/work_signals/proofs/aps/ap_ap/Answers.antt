@@ -3,7 +3,7 @@ use Rattle.chw_types.specs.TypeTree.{TypeTree, fun, signal}
 use Rattle.chw_terms.specs.TermTree.{TermTree}
 use Rattle.rewriting.specs.Origins.{origins_of}
 use Rattle.rewriting.specs.Spots.{spot_of}
-use Rattle.rewriting.specs.Lifted.{FindsAt, each_composed, ap_ap}
+use Rattle.rewriting.specs.Lifted.{FindsAt, ap_ap}
 use Rattle.rewriting.specs.Shapes.{ap_of}
 use Rattle.work_signals.specs.Joined.{AnswersPayload, AnswersLifted, both_mapped}
 use Rattle.work_signals.proofs.Joining.{ap_becomes}
@@ -22,7 +22,7 @@ returns-in_default-2 c =
     let o = origins_of c.args.scene.now in
     let at = spot_of c.args.place.now in
     ap_stays_applied o at c.args.outer c.args.inner c.requires.not_pure c.requires.inner
-    (subst (AnswersLifted o at c.args.inner.function.now) c.in_default-2.is c.in_ok-tx.ensures)
+    (subst (AnswersLifted o at c.args.inner.function.now) c.in_default-2.is c.in_ok-parts.ensures)
 
 pub returns : goal.returns
 returns c =
@@ -33,14 +33,12 @@ returns c =
     let u = outer.function.now in
     let v = inner.function.now in
     let th = c.in-Some.th in
-    let tx = c.in-Some-2.tx in
-    let r = c.in-Some-2.r in
+    let parts = c.in-Some-2.parts in
     let found : (i : TypeTree) × FindsAt o at u (signal i th) =
     subst (AnswersPayload o at u) c.in-Some.is c.in_ok-th.ensures in
-    let of_inner : (j : TypeTree) × FindsAt o at v (signal j (fun tx r)) =
-    subst (AnswersLifted o at v) c.in-Some-2.is c.in_ok-tx.ensures in
-    let function = c.in_ok-function.ensures ∙ (λ i. each_composed th (c.in_ok-tk.ensures i) tx) in
-    let first = c.in_ok-first.ensures ∙ ap (both_mapped outer inner) function in
+    let of_inner : (j : TypeTree) × FindsAt o at v (signal j (fun parts.0 parts.1)) =
+    subst (AnswersLifted o at v) c.in-Some-2.is c.in_ok-parts.ensures in
+    let first = c.in_ok-first.ensures ∙ ap (both_mapped outer inner) c.in_ok-function.ensures in
     let made =
     λ (u : TermTree). ap_of outer.dom.now inner.from.now outer.to.now u inner.signal.now in
     ap_becomes outer c.requires.inner

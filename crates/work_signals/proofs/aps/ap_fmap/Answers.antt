@@ -22,7 +22,7 @@ returns-in_default-2 c =
     let o = origins_of c.args.scene.now in
     let at = spot_of c.args.place.now in
     ap_stays_mapped o at c.args.outer c.args.inner c.requires.not_pure c.requires.inner
-    (subst (AnswersFunction o at c.args.inner.function.now) c.in_default-2.is c.in_ok-tx.ensures)
+    (subst (AnswersFunction o at c.args.inner.function.now) c.in_default-2.is c.in_ok-parts.ensures)
 
 pub returns : goal.returns
 returns c =
@@ -34,11 +34,11 @@ returns c =
     let a = inner.from.now in
     let u = outer.function.now in
     let g = inner.function.now in
-    let type = fun c.in-Some-2.tx c.in-Some-2.field-0-1 in
+    let parts = c.in-Some-2.parts in
     let found : (i : TypeTree) × FindsAt o at u (signal i c.in-Some.th) =
     subst (AnswersPayload o at u) c.in-Some.is c.in_ok-th.ensures in
-    let of_inner : FindsAt o at g type =
-    subst (AnswersFunction o at g) c.in-Some-2.is c.in_ok-tx.ensures in
+    let of_inner : FindsAt o at g (fun parts.0 parts.1) =
+    subst (AnswersFunction o at g) c.in-Some-2.is c.in_ok-parts.ensures in
     let first =
     λ (f : TermTree). fmap_of d (fun outer.from.now outer.to.now) (fun a outer.to.now) f u in
     let made = λ (u : TermTree). ap_of d a outer.to.now u inner.signal.now in

@@ -1,5 +1,6 @@
-use Rattle.std.proofs.Common.{◌∙◌, subst}
-use Rattle.chw_types.specs.TypeTree.{TypeTree, signal}
+use Rattle.std.proofs.Common.{◌∙◌, ap, subst}
+use Rattle.chw_types.specs.TypeTree.{TypeTree, fun, signal}
+use Rattle.chw_terms.specs.TermTree.{TermTree}
 use Rattle.rewriting.specs.Origins.{origins_of}
 use Rattle.rewriting.specs.Spots.{spot_of}
 use Rattle.rewriting.specs.Lifted.{FindsAt, ap_value}
@@ -24,7 +25,7 @@ returns c =
     let u = outer.function.now in
     let found : (i : TypeTree) × FindsAt o at u (signal i c.in-Some.th) =
     subst (AnswersPayload o at u) c.in-Some.is c.in_ok-th.ensures in
-    let from = c.in_ok-from.ensures in
-    let function = c.in_ok-function.ensures in
+    let of_functions = fun outer.from.now outer.to.now in
+    let made = λ (f : TermTree). fmap_of outer.dom.now of_functions outer.to.now f u in
     ap_becomes outer c.requires.inner.2 (ap_value c.requires.not_pure c.requires.fused found.1)
-    (c.in_ok-made.ensures ∙ (λ i. fmap_of outer.dom.now (from i) outer.to.now (function i) u))
+    (c.in_ok-made.ensures ∙ ap made c.in_ok-function.ensures)

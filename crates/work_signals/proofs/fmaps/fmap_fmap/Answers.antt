@@ -15,7 +15,7 @@ returns-in_default c =
     let o = origins_of c.args.scene.now in
     let at = spot_of c.args.place.now in
     fmap_stays_mapped o at c.args.outer c.args.inner c.requires.inner
-    (subst (AnswersFunction o at c.args.inner.function.now) c.in_default.is c.in_ok-ty.ensures)
+    (subst (AnswersFunction o at c.args.inner.function.now) c.in_default.is c.in_ok-parts.ensures)
 
 pub returns : goal.returns
 returns c =
@@ -24,9 +24,9 @@ returns c =
     let outer = c.args.outer in
     let inner = c.args.inner in
     let g = inner.function.now in
-    let type = fun c.in-Some.ty c.in-Some.field-0-1 in
-    let found : FindsAt o at g type =
-    subst (AnswersFunction o at g) c.in-Some.is c.in_ok-ty.ensures in
+    let parts = c.in-Some.parts in
+    let found : FindsAt o at g (fun parts.0 parts.1) =
+    subst (AnswersFunction o at g) c.in-Some.is c.in_ok-parts.ensures in
     let made =
     λ (f : TermTree). fmap_of outer.dom.now inner.from.now outer.to.now f inner.signal.now in
     fmap_becomes outer c.requires.inner (fmap_fmap c.requires.fused found)
