@@ -46,6 +46,14 @@ fn alts_under(alloc: Global, alts: &[Alt]) -> Result<Vec<Alt>, NoMemory>
     Ok(made)
 }
 
+// `case x of alts`, where x is the variable of a new let around the case.
+fn case_on_name(alloc: Global, alts: &[Alt]) -> Result<Term, NoMemory>
+    ensures { IfOk result (λ e. e ≡ case_of (var 0) (shift_alts (alts_of alts.now) 0 1)) }
+{
+    let under = alts_under(alloc, alts)?;
+    Term::case(alloc, new_name(alloc), under)
+}
+
 /// `case e of alts` ==> `letrec { x = e } in case x of alts`, where e needs a name.
 pub(crate) fn name_scrutinee(
     alloc: Global,
@@ -63,7 +71,7 @@ pub(crate) fn name_scrutinee(
     let Some(ty) = name_needed(alloc, scene, signature, place, on)? else {
         return Ok(None);
     };
-    let body = Term::case(alloc, new_name(alloc), alts_under(alloc, alts)?)?;
+    let body = case_on_name(alloc, alts)?;
     Ok(Some(let_one(alloc, ty, on, body)?))
 }
 
@@ -78,6 +86,35 @@ fn elements_under(alloc: Global, elements: &[Term]) -> Result<Vec<Term>, NoMemor
     Ok(made)
 }
 
+// The elements under one more binder, with its variable for one of them.
+fn elements_with_name(
+    alloc: Global,
+    elements: &[Term],
+    number: usize,
+) -> Result<Vec<Term>, NoMemory>
+    requires { number < length elements.now }
+    ensures { IfOk result (λ made. made.items ≡ set (map (λ x. shift x 0 1) elements.now) number (var 0)) }
+{
+    let mut under = elements_under(alloc, elements)?;
+    under[number] = new_name(alloc);
+    Ok(under)
+}
+
+// The vector of these elements.
+fn vector_with_name(
+    alloc: Global,
+    ty: &Ty,
+    elements: &[Term],
+    number: usize,
+) -> Result<Term, NoMemory>
+    requires { number < length elements.now }
+    ensures { IfOk result (λ e. e ≡ vec_lit ty.now (terms_of (set (map (λ x. shift x 0 1) elements.now) number (var 0)))) }
+{
+    let ty = ty.copy(alloc)?;
+    let under = elements_with_name(alloc, elements, number)?;
+    Ok(Term::vec_lit(alloc, ty, under))
+}
+
 // A vector of which one element has got its name.
 fn with_element_named(
     alloc: Global,
@@ -89,10 +126,13 @@ fn with_element_named(
     ensures { IfOk result (λ e. e ≡ let_of named.entry.ty named.entry.part.now
         (vec_lit ty.now (terms_of (set (map (λ x. shift x 0 1) elements.now) named.entry.number (var 0))))) }
 {
-    let mut under = elements_under(alloc, elements)?;
-    under[named.number] = new_name(alloc);
-    let body = Term::vec_lit(alloc, ty.copy(alloc)?, under);
-    let_one(alloc, named.ty, named.part, body)
+    let Named {
+        number,
+        ty: of,
+        part,
+    } = named;
+    let body = vector_with_name(alloc, ty, elements, number)?;
+    let_one(alloc, of, part, body)
 }
 
 /// `[.. e ..]` ==> `letrec { x = e } in [.. x ..]`, where e is the first element that needs a name. Not in heads.

@@ -28,7 +28,5 @@ returns c =
     let alts = alts_of c.args.alts.now in
     let t = c.in-Some.ty in
     let needs : NeedsNameOf o at e t = subst (AnswersName o at e) c.in-Some.is c.in_ok-ty.ensures in
-    let body =
-    c.in_ok-body.ensures ∙ (λ i. case_of (c.new_name.ensures i) (c.in_ok-alts_under.ensures i)) in
-    let made = c.in_ok-let_one.ensures ∙ ap (let_of t e) body in
+    let made = c.in_ok-let_one.ensures ∙ ap (let_of t e) c.in_ok-body.ensures in
     subst (OfOperands o at Anf (case_of e alts)) (sym made) (scrutinee_named e alts needs)
