@@ -1,0 +1,14 @@
+pub mod Constants
+pub mod Delays
+pub mod Example
+pub mod FieldLeaves
+pub mod FieldWires
+pub mod Follow
+pub mod Heads
+pub mod Names
+pub mod PartWires
+pub mod Ports
+pub mod Products
+pub mod Projections
+pub mod Signals
+pub mod Uses

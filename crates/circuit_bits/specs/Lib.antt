@@ -1,0 +1,5 @@
+pub mod Example
+pub mod Instances
+pub mod Laws
+pub mod Leaves
+pub mod Uses

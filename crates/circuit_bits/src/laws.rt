@@ -1,0 +1,71 @@
+//! Laws of right sides of circuits, each as the contract of a call that does nothing.
+ghost use Rattle.circuit_bits.specs.Laws.{NamesHave, CrossingsHave, ConstantsHave, RegistersHave, ProductsHave, ProjectionsHave};
+ghost use Rattle.circuit_bits.specs.Uses.{VariablesFollow, GroupsFollow, MembersFollow, CallsFollow, LiftsFollow, FollowersHave, WholesCall, WholesLift, UsesAreThere, PartsEnter, CallsHave, LiftsHave};
+
+use chw_types::laws::same_values;
+use type_laws::laws::fields_keep_same;
+
+/// A variable has the leaf of the variable that it names, and a signal from another domain that of the signal.
+pub fn copies_have()
+    ensures name { NamesHave }
+    ensures crossing { CrossingsHave }
+{
+    same_values();
+    fields_keep_same();
+}
+
+/// A constant has its bits; a register has those of its first value, or those that its signal had when it was taken last.
+pub fn delays_have()
+    ensures constant { ConstantsHave }
+    ensures register { RegistersHave }
+{
+    same_values();
+    fields_keep_same();
+}
+
+/// A product has the leaves of its fields' variables, and a projection those of the field that it takes.
+pub fn products_have()
+    ensures product { ProductsHave }
+    ensures projection { ProjectionsHave }
+{
+    same_values();
+    fields_keep_same();
+}
+
+/// Variables, groups, members of groups, calls and lifted functions have all that what they go on with has.
+pub fn thunks_follow()
+    ensures variable { VariablesFollow }
+    ensures group { GroupsFollow }
+    ensures member { MembersFollow }
+    ensures call { CallsFollow }
+    ensures lift { LiftsFollow }
+{}
+
+/// What has all that another thunk has, has its leaves.
+pub fn followers_have()
+    ensures { FollowersHave }
+{
+    same_values();
+    fields_keep_same();
+}
+
+/// As a whole a use of a made definition is one of the term for it.
+pub fn wholes_are_calls()
+    ensures call { WholesCall }
+    ensures lift { WholesLift }
+{}
+
+/// The cells of a use are a use at a place, and what is read goes in there.
+pub fn uses_are_there()
+    ensures place { UsesAreThere }
+    ensures enters { PartsEnter }
+{}
+
+/// A use has what the block of the module's body has inside: of a circuit at each leaf, of a lifted value on what its operands are at the history.
+pub fn uses_have()
+    ensures call { CallsHave }
+    ensures lift { LiftsHave }
+{
+    same_values();
+    fields_keep_same();
+}
