@@ -1,5 +1,5 @@
 -- The instances of a built net and their blocks, each with the thunks of its variables; and what is
--- to hold of all of them. It is stated here, and not proved yet.
+-- to hold of all of them. That is stated here, and not proved yet.
 use Rattle.std.specs.Prelude.{◌≡◌, ℕ, zero, ◌+◌, ◌<◌, List, [], ◌∷◌, ◌++◌, length, map}
 use Rattle.std.specs.Prelude.{reverse, Some, slice_get}
 use Rattle.chw_base.specs.declared.index.WireId.{WireId}
@@ -10,7 +10,8 @@ use Rattle.chw_terms.specs.declared.program.Program.{Program}
 use Rattle.chw_terms.specs.declared.scene.Made.{Made}
 use Rattle.chw_terms.specs.declared.scene.Sort.{Sort}
 use Rattle.chw_terms.specs.declared.scene.Sort.TheVariants.{Value, Circuit}
-use Rattle.chw_terms.specs.TermTree.{TermTree, var, made, letrec, case_of, Group, no_bindings, Alts}
+use Rattle.chw_terms.specs.TermTree.{TermTree, var, made, lam, letrec, case_of}
+use Rattle.chw_terms.specs.TermTree.{Group, no_bindings, Alts}
 use Rattle.chw_typing.specs.Programs.{IsSound}
 use Rattle.rewriting.specs.Origins.{setting_at, with_origins, with_origins_group}
 use Rattle.rewriting.specs.Steps.{origins_in}
@@ -24,9 +25,9 @@ use Rattle.netlist.specs.declared.net.Flat.{Flat}
 use Rattle.netlist.specs.declared.net.Module.{Module}
 use Rattle.netlist.specs.declared.net.Net.{Net}
 use Rattle.net_flat.specs.Flattened.{IsFlatOf}
-use Rattle.net_built.specs.Bodies.{BlockBuilt, GroupBuilt}
+use Rattle.net_built.specs.Bodies.{BlockBuilt, GroupBuilt, BodyBuilt}
 use Rattle.net_built.specs.Built.{Built, ground_of}
-use Rattle.net_built.specs.Circuits.{IsLifted, place_in}
+use Rattle.net_built.specs.Circuits.{Ground, IsLifted, place_in}
 use Rattle.net_built.specs.Data.{HasParts, variables_from}
 use Rattle.net_built.specs.Terms.{Variable, variable, wires_of_all}
 use Rattle.net_built.specs.Wires.{Piece, wire_count, new_wires}
@@ -98,6 +99,20 @@ pub data Parameters (datas : List Data) (sort : Sort)
       → Parameters datas sort (n + wire_count widths) ts
       (variable t (new_wires n widths) ∷ scope) all
       → Parameters datas sort n (t ∷ ts) scope all
+
+-- a term that is no lambda
+abbrev pub NoLambda : TermTree → Type 0
+NoLambda (lam t e) = ⊥
+NoLambda _ = Unit {0}
+
+-- the body of a function of these parameters is its block, with them in scope
+abbrev pub BodiesAreBlocks : Type 0
+BodiesAreBlocks =
+    (ground : Ground) (sort : Sort) (scope : List Variable) (n : ℕ) (params : List TypeTree)
+    (e : TermTree) (inputs : List ℕ) (p : Piece) (outputs : List WireId) → NoLambda e
+    → BodyBuilt ground sort scope n (under_lambdas params e) inputs p outputs
+    → (all : List Variable) × (m : ℕ) × Parameters ground.datas sort n params scope all
+    × BlockBuilt ground sort all m e p outputs
 
 mutual
   -- at the history the instance at this path is of this made definition, in this environment: the

@@ -1,9 +1,12 @@
 -- What is promised of right sides of circuits.
-use Rattle.std.specs.Prelude.{◌≡◌, ℕ, zero, suc, ◌+◌, List, [], ◌∷◌, Some}
+use Rattle.std.specs.Prelude.{◌≡◌, ℕ, zero, suc, ◌+◌, List, [], ◌∷◌, Some, slice_get}
 use Rattle.chw_base.specs.declared.index.ConId.{ConId}
+use Rattle.chw_base.specs.declared.index.WireId.{WireId}
 use Rattle.chw_clock.specs.Histories.{taken}
 use Rattle.chw_types.specs.TypeTree.{TypeTree, TypeTrees, domain}
 use Rattle.chw_prims.specs.declared.prim.Primitive.TheVariants.{Register, UnsafeSynchronizer}
+use Rattle.chw_terms.specs.declared.program.Program.{Program}
+use Rattle.chw_terms.specs.declared.scene.Sort.TheVariants.{Circuit}
 use Rattle.chw_terms.specs.declared.term.Pattern.TheVariants.{OfCon}
 use Rattle.chw_terms.specs.TermTree.{TermTree, var, con, prim, case_of, no_alts, alt}
 use Rattle.rewriting.specs.Origins.{Origins}
@@ -11,8 +14,9 @@ use Rattle.rewriting.specs.Shapes.{pure_of}
 use Rattle.normal_forms.specs.Circuits.{IsConstant, beginning_with}
 use Rattle.normal_forms.specs.Values.{on_names}
 use Rattle.chw_meaning.specs.Eval.{dom}
-use Rattle.chw_meaning.specs.Values.{History, closed, Thunks}
+use Rattle.chw_meaning.specs.Values.{History, Thunk, closed, Thunks}
 use Rattle.netlist.specs.declared.net.Net.{Net}
+use Rattle.net_built.specs.Data.{HasParts}
 use Rattle.net_built.specs.Terms.{Variable}
 use Rattle.net_built.specs.Wires.{Piece, last_wires}
 use Rattle.circuit_bits.specs.Leaves.{VariableLeaf, CircuitGiven, LeafHas, FieldLeaf}
@@ -71,3 +75,11 @@ ProjectionsHave =
     (c : ConId) (count x z i j : ℕ) (parts : List (List ℕ)) → z + suc i ≡ count
     → LeafBears (case_of (var x) (alt (OfCon c count) (var z) no_alts))
     (λ o net path scope γ h. ProjectedLeaf o.program net path scope γ h c count x parts i j) j
+
+-- a leaf without bits has none on each thunk and on any wires
+abbrev pub EmptyLeavesHave : Type 0
+EmptyLeavesHave =
+    (p : Program) (net : Net) (path : List ℕ) (h : History) (t : TypeTree) (th : Thunk)
+    (wires : List WireId) (widths : List ℕ) (k : ℕ)
+    → HasParts p.datas Circuit t widths → slice_get widths k ≡ Some zero
+    → LeafHas p net path h t th wires k

@@ -2,27 +2,33 @@
 use Rattle.std.specs.Prelude.{◌≡◌, ℕ, zero, ◌<◌, Bool, List, [], ◌∷◌, ◌++◌, length}
 use Rattle.std.specs.Prelude.{map, Some, slice_get}
 use Rattle.chw_base.specs.declared.index.WireId.{WireId}
+use Rattle.chw_types.specs.SameTypes.{SameTypes}
 use Rattle.chw_types.specs.TypeTree.{TypeTree, TypeTrees, signal}
 use Rattle.chw_terms.specs.declared.program.Program.{Program}
 use Rattle.chw_terms.specs.declared.scene.Sort.TheVariants.{Circuit}
 use Rattle.chw_terms.specs.TermTree.{TermTree, var, made, letrec, Group}
 use Rattle.chw_typing.specs.Programs.{IsSound, setting_of}
+use Rattle.chw_typing.specs.Scopes.{AreTermTypes}
+use Rattle.chw_typing.specs.Typing.{HasTypeUpTo}
 use Rattle.typing_laws.specs.Alike.{AreLike}
-use Rattle.rewriting.specs.Origins.{with_origins}
+use Rattle.rewriting.specs.Origins.{Origins, setting_at, with_origins}
 use Rattle.rewriting.specs.Shapes.{fmap_of, ap_of}
 use Rattle.normal_forms.specs.Values.{on_names}
 use Rattle.chw_meaning.specs.Values.{History, Thunk, closed, member, sample, Thunks, thunk_at}
 use Rattle.chw_meaning.specs.Values.{in_group, body_at}
+use Rattle.chw_layout.specs.Measured.{HasWidth}
+use Rattle.carrying.specs.Carrying.{Carries}
 use Rattle.carrying.specs.TermLaws.{onto, under_lambdas, each_closed}
 use Rattle.netlist.specs.declared.net.Module.{Module}
 use Rattle.netlist.specs.declared.net.Net.{Net}
 use Rattle.use_laws.specs.ValueIn.{HasUseAt, IsModuleAt}
 use Rattle.net_built.specs.Circuits.{Ground, place_in, used, IsLifted}
 use Rattle.net_built.specs.Data.{HasParts}
+use Rattle.net_built.specs.Terms.{Variable, wires_at}
 use Rattle.net_built.specs.Wires.{wire_count, new_wires}
 use Rattle.cell_bits.specs.Bearing.{HasCells, Bears}
-use Rattle.side_bits.specs.Sides.{SideHas}
-use Rattle.circuit_bits.specs.Leaves.{HasAllOf, part_wires, LeafHas}
+use Rattle.side_bits.specs.Sides.{types_in, SideHas}
+use Rattle.circuit_bits.specs.Leaves.{HasAllOf, part_wires, LeafHas, VariableLeaf}
 
 -- a variable has all that its thunk has
 abbrev pub VariablesFollow : Type 0
@@ -144,3 +150,22 @@ LiftsHave =
     → SideHas p (onto (samples (each_closed xs γ δ) h) γ) δ net (at.place ∷ path) h u e
     inner.outputs
     → LeafHas p net path h (signal d t) (closed f γ δ) (new_wires n widths) zero
+
+-- the sample of a signal of these values carries bits, and of its wires the first has them
+pub record SampleHas (p : Program) (net : Net) (path : List ℕ) (h : History) (t : TypeTree)
+    (th : Thunk) (wires : List WireId) : Type 0 where
+  pub width : ℕ
+  pub wide : HasWidth p.datas t width
+  pub bits : List Bool
+  pub carries : Carries p t (sample th h) bits
+  pub bears : Bears net path h (part_wires zero (width ∷ []) wires) bits
+
+-- so does that of a variable that is used as such a signal, where its leaf has bits
+abbrev pub SamplesHave : Type 0
+SamplesHave =
+    (o : Origins) (scope : List Variable) (γ : Thunks) (δ : TypeTrees) (net : Net)
+    (path : List ℕ) (h : History) (x : ℕ) (d a t : TypeTree)
+    → IsSound (setting_at o) → AreTermTypes (setting_at o) [] (types_in scope)
+    → HasTypeUpTo (setting_at o) [] (types_in scope) (var x) (signal d a) → SameTypes a t
+    → VariableLeaf o.program net path scope γ h x zero
+    → SampleHas o.program net path h t (closed (var x) γ δ) (wires_at scope x)

@@ -1,6 +1,7 @@
 //! Laws of right sides of circuits, each as the contract of a call that does nothing.
-ghost use Rattle.circuit_bits.specs.Laws.{NamesHave, CrossingsHave, ConstantsHave, RegistersHave, ProductsHave, ProjectionsHave};
-ghost use Rattle.circuit_bits.specs.Uses.{VariablesFollow, GroupsFollow, MembersFollow, CallsFollow, LiftsFollow, FollowersHave, WholesCall, WholesLift, UsesAreThere, PartsEnter, CallsHave, LiftsHave};
+ghost use Rattle.circuit_bits.specs.Laws.{NamesHave, CrossingsHave, ConstantsHave, RegistersHave, ProductsHave, ProjectionsHave, EmptyLeavesHave};
+ghost use Rattle.circuit_bits.specs.Instances.{BodiesAreBlocks};
+ghost use Rattle.circuit_bits.specs.Uses.{VariablesFollow, GroupsFollow, MembersFollow, CallsFollow, LiftsFollow, FollowersHave, WholesCall, WholesLift, UsesAreThere, PartsEnter, CallsHave, LiftsHave, SamplesHave};
 
 use chw_types::laws::same_values;
 use type_laws::laws::fields_keep_same;
@@ -65,6 +66,24 @@ pub fn uses_are_there()
 pub fn uses_have()
     ensures call { CallsHave }
     ensures lift { LiftsHave }
+{
+    same_values();
+    fields_keep_same();
+}
+
+/// A leaf without bits has none on each thunk and on any wires.
+pub fn empty_leaves_have()
+    ensures { EmptyLeavesHave }
+{}
+
+/// What is built of the body of a function is built of its block, with its parameters in scope.
+pub fn bodies_are_blocks()
+    ensures { BodiesAreBlocks }
+{}
+
+/// The sample of a signal carries the bits that the signal shows.
+pub fn samples_have()
+    ensures { SamplesHave }
 {
     same_values();
     fields_keep_same();
