@@ -1,4 +1,5 @@
 mod Equal
 mod Forms
+mod Functions
 mod Lists
 mod Nodes

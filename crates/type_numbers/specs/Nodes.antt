@@ -32,10 +32,10 @@ abbrev pub and_last : TypeTrees → TypeTree → TypeTrees
 and_last no_types u = type_and u no_types
 and_last (type_and t ts) u = type_and t (and_last ts u)
 
--- a data type at one more argument
+-- a data type at one more argument, and signals for any other type
 abbrev pub at_one_more : TypeTree → TypeTree → TypeTree
 at_one_more (data_of d ts) u = data_of d (and_last ts u)
-at_one_more t u = t
+at_one_more t u = signal t u
 
 -- the type of the form and of this number
 abbrev pub alone : AloneForm → ℕ → TypeTree
@@ -89,3 +89,7 @@ AreNodes ns =
 -- each type has the number that it had
 abbrev pub Grows : List TypeTree → List TypeTree → Type 0
 Grows ts us = (i : ℕ) (t : TypeTree) → slice_get ts i ≡ Some t → slice_get us i ≡ Some t
+
+-- no type of functions has this number
+abbrev pub HasNoFunction : List TypeTree → ℕ → Type 0
+HasNoFunction ts i = (a b : TypeTree) → slice_get ts i ≡ Some (fun a b) → ⊥

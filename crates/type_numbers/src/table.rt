@@ -1,8 +1,10 @@
 //! A table of types.
-ghost use Rattle.std.specs.Prelude.{◌≡◌, [], Some, IfOk, IfSome};
+ghost use Rattle.std.specs.Prelude.{◌≡◌, ℕ, [], Some, IfOk, IfSome, IfNone};
 ghost use Rattle.std.specs.List.{slice_get};
 ghost use Rattle.chw_types.specs.TypeTree.{TypeTree, fun};
-ghost use Rattle.type_numbers.specs.Nodes.{IsNode, Grows};
+ghost use Rattle.type_numbers.specs.Nodes.{IsNode, Grows, HasNoFunction};
+ghost use Rattle.type_numbers.specs.declared.node.Node.TheVariants.{OfPair};
+ghost use Rattle.type_numbers.specs.declared.node.Pair.TheVariants.{Fun};
 
 use crate::node::{Alone, Node, Pair, pair_of, sort_of};
 use chw_base::NoMemory;
@@ -97,14 +99,30 @@ impl TypeTable {
         Ok(place as u32)
     }
 
-    /// The numbers of the parameter's type and the result's, of a function type of this number.
+    /// The numbers of the parameter's type and the result's, of a function type of this number. Nothing comes exactly where no function type
+    /// has the number.
     pub fn function_parts(&self, number: u32) -> Option<(u32, u32)>
-        ensures { IfSome result (λ p. (a b : TypeTree) → slice_get self.now number ≡ Some (fun a b)
-            → (slice_get self.now p.0 ≡ Some a) × (slice_get self.now p.1 ≡ Some b)) }
+        ensures some { IfSome result (λ p. (a b : TypeTree) × (slice_get self.now number ≡ Some (fun a b))
+            × (slice_get self.now p.0 ≡ Some a) × (slice_get self.now p.1 ≡ Some b)) }
+        ensures none { IfNone result (HasNoFunction self.now number) }
     {
         match self.nodes.get_index(number as usize) {
-            Some(Node::OfPair(Pair::Fun, a, b)) => Some((*a, *b)),
-            _ => None,
+            Some(node) => parts_of(node),
+            None => None,
         }
+    }
+}
+
+// The numbers of a function type's parts, of what is made of them.
+fn parts_of(node: &Node) -> Option<(u32, u32)>
+    ensures some { IfSome result (λ p. node.now ≡ OfPair Fun p.0 p.1) }
+    ensures none { IfNone result ((a b : ℕ) → node.now ≡ OfPair Fun a b → ⊥) }
+{
+    match node {
+        Node::OfPair(pair, a, b) => match pair {
+            Pair::Fun => Some((*a, *b)),
+            Pair::Sum | Pair::Times | Pair::Vec | Pair::Signal | Pair::Applied => None,
+        },
+        Node::Alone(..) | Node::OfScalar(..) | Node::OfForall(..) => None,
     }
 }
