@@ -65,19 +65,30 @@ no_global (Case e alts) d none q = absurd cc
 bare_global : (d : ℕ) → IsBare (global d)
 bare_global d = record { itself = refl; alone = refl }
 
-pub not_called : {o : Origins} {at : Spot} {e : TermTree} {types : List TypeTree} {gives : TypeTree}
-    (h : Head) (args : List Arg) → ((d : _) → h ≡ Global d → ⊥) → applied (tree_of h) args ≡ e
-    → IsCall o at e types gives → ⊥
-not_called h args none q c =
-    no_global h c.of none
-    (head_is (tree_of h) (global c.of) args c.args (bare h) (bare_global c.of) (q ∙ c.is))
+-- the name of a definition on arguments none of which needs a name
+abbrev pub IsPlain : Origins → Spot → TermTree → Type 0
+IsPlain o at e =
+    (d : ℕ) × (args : List Arg) × (e ≡ applied (global d) args) × NoneNeedsName o at args
 
--- its arguments are these
-args_called : {o : Origins} {at : Spot} {e : TermTree} {types : List TypeTree} {gives : TypeTree}
-    (h : Head) (args : List Arg) → applied (tree_of h) args ≡ e → (c : IsCall o at e types gives)
-    → args ≡ c.args
-args_called h args q c =
-    args_are (tree_of h) (global c.of) args c.args (bare h) (bare_global c.of) (q ∙ c.is)
+pub not_plain : {o : Origins} {at : Spot} {e : TermTree} (h : Head) (args : List Arg)
+    → ((d : _) → h ≡ Global d → ⊥) → applied (tree_of h) args ≡ e → IsPlain o at e → ⊥
+not_plain h args none q p =
+    no_global h p.0 none
+    (head_is (tree_of h) (global p.0) args p.1 (bare h) (bare_global p.0) (q ∙ p.2))
+
+-- at the name of a definition the arguments tell
+pub plain_there : {o : Origins} {at : Spot} {e : TermTree} (h : Head) (d : DefId)
+    (args : List Arg) → h ≡ Global d → applied (tree_of h) args ≡ e → NoneNeedsName o at args
+    → IsPlain o at e
+plain_there h d args is q none =
+    (d.number, args, sym q ∙ ap (λ h. applied (tree_of h) args) is, none)
+
+pub plain_needs_none : {o : Origins} {at : Spot} {e : TermTree} (h : Head) (args : List Arg)
+    → applied (tree_of h) args ≡ e → IsPlain o at e → NoneNeedsName o at args
+plain_needs_none {o} {at} h args q p =
+    let same : args ≡ p.1 =
+    args_are (tree_of h) (global p.0) args p.1 (bare h) (bare_global p.0) (q ∙ p.2) in
+    subst (NoneNeedsName o at) (sym same) p.3
 
 -- without a type, or with one that isn't named, it is none
 pub untyped_call : {o : Origins} {at : Spot} {e : TermTree} {types : List TypeTree}
@@ -93,14 +104,15 @@ named_call {o} {at} {e} {types} {gives} t one f c =
     subst (IsNamed o.program.datas at.mode) (one (setting_at o) [] at.vars e gives t c.has f)
     c.named
 
--- no argument of one needs a name
-pub called_needs_none : {o : Origins} {at : Spot} {e : TermTree} {types : List TypeTree}
-    {gives : TypeTree} (h : Head) (args : List Arg) → applied (tree_of h) args ≡ e
-    → IsCall o at e types gives → NoneNeedsName o at args
-called_needs_none h args q c a there needs =
-    let here : Contains c.args (OfTerm a) =
-    subst (λ xs. Contains xs (OfTerm a)) (args_called h args q c) there in
-    needs.no_variable (c.on_variables a needs.type here needs.has needs.named)
+-- it is plain: no argument of one needs a name
+pub called_plain : {o : Origins} {at : Spot} {e : TermTree} {types : List TypeTree}
+    {gives : TypeTree} → IsCall o at e types gives → IsPlain o at e
+called_plain c = (
+  c.of,
+  c.args,
+  c.is,
+  λ a there needs. needs.no_variable (c.on_variables a needs.type there needs.has needs.named),
+)
 
 variable_there : (o : Origins) (at : Spot) (args : List Arg) (a : TermTree) (u : TypeTree)
     → NoneNeedsName o at args → Contains args (OfTerm a) → HasType (setting_at o) [] at.vars a u
@@ -120,21 +132,21 @@ called_types {o} {at} {e} {types} free q c =
     (record { are = c.free; named = c.free_named })
 
 -- and where all that is so, it is one, and becomes this
-pub is_called : {o : Origins} {at : Spot} (d : DefId) (h : Head) (args : List Arg) (e : TermTree)
-    (free : List ℕ) (types : List TypeTree) (gives : TypeTree) → h ≡ Global d
-    → applied (tree_of h) args ≡ e → Finds (setting_at o) [] at.vars e gives
-    → IsNamed o.program.datas at.mode gives → NoneNeedsName o at args → free ≡ free_in e
-    → HaveTypes o at free types → IsCall o at e types gives
-is_called {o} {at} d h args e free types gives is q f named none all have =
+pub is_called : {o : Origins} {at : Spot} (e : TermTree) (free : List ℕ) (types : List TypeTree)
+    (gives : TypeTree) → IsPlain o at e → Finds (setting_at o) [] at.vars e gives
+    → IsNamed o.program.datas at.mode gives → free ≡ free_in e → HaveTypes o at free types
+    → IsCall o at e types gives
+is_called {o} {at} e free types gives plain f named all have =
     let types_of : HaveTypes o at (free_in e) types =
     subst (λ xs. HaveTypes o at xs types) all have in
     record {
-      of = d.number;
-      args = args;
-      is = sym q ∙ ap (λ h. applied (tree_of h) args) is;
+      of = plain.0;
+      args = plain.1;
+      is = plain.2;
       has = f;
       named = named;
-      on_variables = λ a u there has it. variable_there o at args a u none there has it;
+      on_variables = λ a u there has it.
+          variable_there o at plain.1 a u plain.3 there has it;
       free = types_of.are;
       free_named = types_of.named;
     }

@@ -1,6 +1,6 @@
 -- Which lifted functions have a lambda for each parameter.
-use Rattle.std.proofs.Common.{◌≡◌, ◌∙◌, ◌↔◌, sym, ap, refl, subst, ℕ, ◌≤◌, ◌==◌, Bool, true, false}
-use Rattle.std.proofs.Common.{IsTrue, List, [], ◌∷◌, length, Contains, Option, Some, None, arith}
+use Rattle.std.proofs.Common.{◌≡◌, ◌∙◌, ◌↔◌, sym, ap, refl, subst, ℕ, zero, suc, ◌<◌, ◌≤◌, ◌==◌, Bool}
+use Rattle.std.proofs.Common.{true, false, IsTrue, List, [], ◌∷◌, length, Contains, Option, Some, None, arith}
 use Rattle.std.proofs.Common.{eq-eqb, eqb-true}
 use Rattle.std.specs.Prelude.{IfNone}
 use Rattle.std.proofs.lemmas.Bool.{true≢false}
@@ -69,42 +69,65 @@ of_values o at g u t one f l = record {
   result = l.lifted.gives;
 }
 
-pub none_valued : (o : Origins) (at : Spot) (g : TermTree) (t : TypeTree) → OneFound
-    → Finds (setting_at o) [] at.vars g t → NoValues o.program.datas t
-    → (u : TypeTree) → HasLambdas o at g u → ⊥
-none_valued o at g t one f none u l = none (l.first ∷ l.others) (of_values o at g u t one f l)
-
 -- the parameters are those that are counted
 same_params : (datas : List Data) (t : TypeTree) (ps qs : List TypeTree) → IsOfValues datas t ps
     → IsOfValues datas t qs → ps ≡ qs
 same_params datas t ps qs v w =
     (function_same datas ps qs v.gives w.gives v.result w.result (sym v.is ∙ w.is)).params
 
-pub none_counted : (o : Origins) (at : Spot) (g : TermTree) (t : TypeTree) (n : ℕ) → OneFound
-    → Finds (setting_at o) [] at.vars g t → AnswersCount o.program.datas t (Some n) → n ≡ 0
-    → (u : TypeTree) → HasLambdas o at g u → ⊥
-none_counted o at g t n one f c zero u l =
-    let same =
-    same_params o.program.datas t c.0 (l.first ∷ l.others) c.2 (of_values o at g u t one f l) in
-    let count : length c.0 ≡ length (l.first ∷ l.others) = ap length same in
-    let is = c.1 in
-    omega (arith, count, is, zero)
+-- a type whose parameters are counted
+pub some_values : (datas : List Data) (t : TypeTree) (r : Option ℕ) (n : ℕ) → r ≡ Some n
+    → AnswersCount datas t r → AnswersCount datas t (Some n)
+some_values datas t r n q h = subst (AnswersCount datas t) q h
 
-pub too_few : (o : Origins) (at : Spot) (g : TermTree) (t : TypeTree) (n : ℕ) → OneFound
-    → Finds (setting_at o) [] at.vars g t → AnswersCount o.program.datas t (Some n)
-    → (n ≤ leading_lambdas g → ⊥) → (u : TypeTree) → HasLambdas o at g u → ⊥
-too_few o at g t n one f c few u l =
-    let same =
-    same_params o.program.datas t c.0 (l.first ∷ l.others) c.2 (of_values o at g u t one f l) in
-    let count : length c.0 ≡ length (l.first ∷ l.others) = ap length same in
-    few (subst (λ k. k ≤ leading_lambdas g) (sym (c.1 ∙ count)) l.lambdas)
+counts : (datas : List Data) (t : TypeTree) (n : ℕ) → AnswersCount datas t (Some n)
+    → (ps : List TypeTree) → IsOfValues datas t ps → n ≡ length ps
+counts datas t n c ps v = c.1 ∙ ap length (same_params datas t c.0 ps c.2 v)
+
+pub none_valued_at : (datas : List Data) (t : TypeTree) (n : ℕ) → AnswersCount datas t (Some n)
+    → n ≡ 0 → (ps : List TypeTree) → IsOfValues datas t ps → 0 < length ps → ⊥
+none_valued_at datas t n c none ps v some =
+    let count = counts datas t n c ps v in
+    omega (arith, count, none, some)
+
+-- a function of that type, with a lambda for each of them
+abbrev pub LambdaEach : List Data → TypeTree → TermTree → Type 0
+LambdaEach datas t g =
+    (ps : List TypeTree) × IsOfValues datas t ps × (0 < length ps)
+    × (length ps ≤ leading_lambdas g)
+
+some_length : (n k : ℕ) → n ≡ k → (n ≡ 0 → ⊥) → 0 < k
+some_length n zero q some = absurd (some q)
+some_length n (suc k) q some = omega arith
+
+pub lambdas_counted : (datas : List Data) (t : TypeTree) (g : TermTree) (n : ℕ)
+    → AnswersCount datas t (Some n) → (n ≡ 0 → ⊥) → n ≤ leading_lambdas g → LambdaEach datas t g
+lambdas_counted datas t g n c some enough = (
+  c.0,
+  c.2,
+  some_length n (length c.0) c.1 some,
+  subst (λ k. k ≤ leading_lambdas g) c.1 enough,
+)
+
+pub counted_lambdas : (datas : List Data) (t : TypeTree) (g : TermTree) (n : ℕ)
+    → AnswersCount datas t (Some n) → (ps : List TypeTree) → IsOfValues datas t ps
+    → length ps ≤ leading_lambdas g → n ≤ leading_lambdas g
+counted_lambdas datas t g n c ps v enough =
+    subst (λ k. k ≤ leading_lambdas g) (sym (counts datas t n c ps v)) enough
+
+pub no_lambdas : (o : Origins) (at : Spot) (g : TermTree) (t : TypeTree) (datas : List Data)
+    → datas ≡ o.program.datas → OneFound → Finds (setting_at o) [] at.vars g t
+    → (LambdaEach datas t g → ⊥) → (u : TypeTree) → HasLambdas o at g u → ⊥
+no_lambdas o at g t datas q one f none u l =
+    subst (λ ds. LambdaEach ds t g → ⊥) q none
+    (l.first ∷ l.others, of_values o at g u t one f l, omega arith, l.lambdas)
 
 -- one with a lambda for each
 each_has : (o : Origins) (at : Spot) (g : TermTree) (t : TypeTree) (ps : List TypeTree)
     → IsClosed g → (IsMade g → ⊥) → Finds (setting_at o) [] at.vars g t
-    → IsOfValues o.program.datas t ps → (length ps ≡ 0 → ⊥) → length ps ≤ leading_lambdas g
+    → IsOfValues o.program.datas t ps → 0 < length ps → length ps ≤ leading_lambdas g
     → HasLambdas o at g t
-each_has o at g t [] closed named f v some enough = absurd (some refl)
+each_has o at g t [] closed named f v some enough = absurd (omega (arith, some))
 each_has o at g t (p ∷ ps) closed named f v some enough = record {
   first = p;
   others = ps;
@@ -120,21 +143,15 @@ each_has o at g t (p ∷ ps) closed named f v some enough = record {
   lambdas = enough;
 }
 
-pub has_each : (o : Origins) (at : Spot) (g : TermTree) (t : TypeTree) (n : ℕ) → IsClosed g
-    → (IsMade g → ⊥) → Finds (setting_at o) [] at.vars g t
-    → AnswersCount o.program.datas t (Some n) → (n ≡ 0 → ⊥) → n ≤ leading_lambdas g
-    → HasLambdas o at g t
-has_each o at g t n closed named f c some enough =
-    each_has o at g t c.0 closed named f c.2 (λ z. some (c.1 ∙ z))
-    (subst (λ k. k ≤ leading_lambdas g) c.1 enough)
+pub has_each : (o : Origins) (at : Spot) (g : TermTree) (t : TypeTree) (datas : List Data)
+    → datas ≡ o.program.datas → IsClosed g → (IsMade g → ⊥) → Finds (setting_at o) [] at.vars g t
+    → LambdaEach datas t g → HasLambdas o at g t
+has_each o at g t datas q closed named f l =
+    let here : LambdaEach o.program.datas t g = subst (λ ds. LambdaEach ds t g) q l in
+    each_has o at g t here.0 closed named f here.1 here.2 here.3
 
 -- what an answer says of parameters
 pub no_values : (datas : List Data) (t : TypeTree) (r : Option ℕ) → ((n : ℕ) → r ≡ Some n → ⊥)
     → AnswersCount datas t r → NoValues datas t
 no_values datas t None none h = h
 no_values datas t (Some n) none h = absurd (none n refl)
-
-pub counted : (datas : List Data) (t : TypeTree) (seen : List Data) (r : Option ℕ) (n : ℕ)
-    → r ≡ Some n → seen ≡ datas → AnswersCount seen t r → AnswersCount datas t (Some n)
-counted datas t seen r n q s h =
-    subst (λ ds. AnswersCount ds t (Some n)) s (subst (AnswersCount seen t) q h)

@@ -1,6 +1,6 @@
 -- What the rule of made definitions makes, by the number of the made definition.
 use Rattle.std.proofs.Common.{◌≡◌, ◌∙◌, ap, sym, refl, subst, inl, inr, ℕ, ◌+◌, ◌<◌, List, [], ◌∷◌, ◌++◌, length, length-append, map, Option, Some, None, arith}
-use Rattle.std.specs.Prelude.{IfSome}
+use Rattle.std.specs.Prelude.{IfSome, MatchOption}
 use Rattle.std.proofs.lemmas.List.{length-map}
 use Rattle.chw_types.specs.TypeTree.{TypeTree}
 use Rattle.chw_prims.specs.declared.prim.Primitive.{Primitive as Prim}
@@ -36,7 +36,8 @@ use Rattle.rule_parts.proofs.Heads.{bare}
 use Rattle.specialise.specs.Calls.{IsOnGlobal}
 use Rattle.specialise.specs.Closed.{closed}
 use Rattle.specialise.specs.declared.trial.Special.{Special}
-use Rattle.specialise.specs.Seeds.{IsNumbered, IsOfCall, HasLambdas}
+use Rattle.specialise.specs.declared.numbers.Seed.{Seed}
+use Rattle.specialise.specs.Seeds.{IsNumbered, IsOfCall, HasLambdas, made_of_seed}
 use Rattle.specialise.specs.Special.{with_new, IsSpecial, AnswersSpecial}
 use Rattle.specialise.proofs.Closed.{closed_at_once}
 
@@ -259,27 +260,50 @@ pub none_special : (p : Program) (list seen : List Made) (at : Spot) (e : TermTr
     → AnswersSpecial p seen at e None
 none_special p list seen at e q none = subst (λ ms. AnswersSpecial p ms at e None) q none
 
-pub lifted_made : (p : Program) (list : List Made) (at : Spot) (d a b : TypeTree) (g signal : TermTree) (own rest : List Arg) (ty : TypeTree) (origin : TermTree) (m : ℕ) (s : Special)
-    → IsOfCircuit at.mode → HasTypeAt (origins_in p list) at (applied (prim Fmap) (own ++ rest)) → own ≡ types_then (d ∷ a ∷ b ∷ []) (g ∷ signal ∷ []) → HasLambdas (origins_in p list) at g ty
-    → origin ≡ origin_of (origins_in p list) g → IsNumbered p list (record { origin = origin; ty = ty; sort = Value }) m s.definition
-    → s.new ≡ applied (fmap_of d a b (made m) signal) rest → IsSpecial p list at (applied (prim Fmap) (own ++ rest)) s
-lifted_made p list at d a b g signal own rest ty origin m s circuit typed are l is n new =
-    let o = origins_in p list in
-    let whole : applied (prim Fmap) (own ++ rest) ≡ applied (fmap_of d a b g signal) rest =
-    ap (λ xs. applied (prim Fmap) (xs ++ rest)) are ∙ applied_more (prim Fmap) (types_then (d ∷ a ∷ b ∷ []) (g ∷ signal ∷ [])) rest in
-    subst (λ e. IsSpecial p list at e s) (sym whole)
-    (lifted_special p list at d a b g signal rest ty m s circuit (subst (HasTypeAt o at) whole typed) l
-    (subst (λ e. IsNumbered p list (record { origin = e; ty = ty; sort = Value }) m s.definition) is n) new)
+-- the seed of a lifted function
+abbrev pub IsLiftedSeed : Origins → Spot → TermTree → Seed → Type 0
+IsLiftedSeed o at g s =
+    HasLambdas o at g s.ty × (s.origin ≡ closed o (to_lambdas []) g) × (s.sort ≡ Value)
+
+seed_is : (o : Origins) (at : Spot) (g : TermTree) (s : Seed) → IsLiftedSeed o at g s
+    → made_of_seed s ≡ record { origin = origin_of o g; ty = s.ty; sort = Value }
+seed_is o at g s is =
+    let origin = is.1 ∙ closed_at_once o g in
+    let sort = is.2 in
+    λ i. record { origin = origin i; ty = s.ty; sort = sort i }
 
 -- what is answered at a lifted function, by what is made in turn
-pub lifted_done : (p : Program) (list seen : List Made) (at : Spot) (d a b : TypeTree) (g signal : TermTree) (own rest : List Arg) (ty : TypeTree) (origin name core : TermTree) (m : ℕ) (s : Special)
+pub lifted_done : (p : Program) (list seen : List Made) (at : Spot) (d a b : TypeTree) (g signal : TermTree) (own rest : List Arg) (seed : Seed) (m : ℕ) (s : Special)
     → list ≡ seen → IsOfCircuit at.mode → HasTypeAt (origins_in p list) at (applied (prim Fmap) (own ++ rest)) → own ≡ types_then (d ∷ a ∷ b ∷ []) (g ∷ signal ∷ [])
-    → HasLambdas (origins_in p list) at g ty → origin ≡ closed (origins_in p list) (to_lambdas []) g → IsNumbered p seen (record { origin = origin; ty = ty; sort = Value }) m s.definition
-    → name ≡ made m → core ≡ fmap_of d a b name signal → s.new ≡ applied core rest → IsSpecial p seen at (applied (prim Fmap) (own ++ rest)) s
-lifted_done p list seen at d a b g signal own rest ty origin name core m s q circuit typed are l is n named made_core new =
+    → IsLiftedSeed (origins_in p list) at g seed → IsNumbered p seen (made_of_seed seed) m s.definition
+    → s.new ≡ applied (fmap_of d a b (made m) signal) rest → IsSpecial p seen at (applied (prim Fmap) (own ++ rest)) s
+lifted_done p list seen at d a b g signal own rest seed m s q circuit typed are is n new =
     let o = origins_in p list in
-    let it : MadeOf = record { origin = origin; ty = ty; sort = Value } in
-    let numbered : IsNumbered p list it m s.definition = subst (λ ms. IsNumbered p ms it m s.definition) (sym q) n in
-    let whole : s.new ≡ applied (fmap_of d a b (made m) signal) rest = new ∙ ap (λ e. applied e rest) (made_core ∙ ap (λ (f : TermTree). fmap_of d a b f signal) named) in
+    let it : MadeOf = record { origin = origin_of o g; ty = seed.ty; sort = Value } in
+    let numbered : IsNumbered p list it m s.definition =
+    subst (λ (it : MadeOf). IsNumbered p list it m s.definition) (seed_is o at g seed is)
+    (subst (λ ms. IsNumbered p ms (made_of_seed seed) m s.definition) (sym q) n) in
+    let whole : applied (prim Fmap) (own ++ rest) ≡ applied (fmap_of d a b g signal) rest =
+    ap (λ xs. applied (prim Fmap) (xs ++ rest)) are ∙ applied_more (prim Fmap) (types_then (d ∷ a ∷ b ∷ []) (g ∷ signal ∷ [])) rest in
     subst (λ ms. IsSpecial p ms at (applied (prim Fmap) (own ++ rest)) s) q
-    (lifted_made p list at d a b g signal own rest ty origin m s circuit typed are l (is ∙ closed_at_once o g) numbered whole)
+    (subst (λ e. IsSpecial p list at e s) (sym whole)
+    (lifted_special p list at d a b g signal rest seed.ty m s circuit (subst (HasTypeAt o at) whole typed) is.0 numbered new))
+
+-- what is answered at a call, by its seed and its number
+abbrev pub AnswersCalled : Origins → Program → List Made → Spot → TermTree → List ℕ → Option Special → Type 0
+AnswersCalled o p seen at e free r =
+    MatchOption r
+    ((types : List TypeTree) (gives : TypeTree) → IsCall o at e types gives → ⊥)
+    (λ (s : Special). (it : MadeOf) × (m : ℕ) × IsOfCall o at e it × IsNumbered p seen it m s.definition
+    × (s.new ≡ applied (made m) (map (λ x. OfTerm (var x)) free)))
+
+pub call_answer : (p : Program) (list seen : List Made) (at : Spot) (e : TermTree) (free : List ℕ) (r : Option Special) → list ≡ seen → HasLets at.mode
+    → HasTypeAt (origins_in p list) at e → IsOnGlobal e → free ≡ free_in e → AnswersCalled (origins_in p list) p seen at e free r → AnswersSpecial p seen at e r
+call_answer p list seen at e free None q lets typed on all none =
+    none_special p list seen at e q (λ e' i. let it = call_in on i in none it.types it.gives it.call)
+call_answer p list seen at e free (Some s) q lets typed on all h =
+    let it = h.0 in
+    let m = h.1 in
+    subst (λ ms. IsSpecial p ms at e s) q
+    (call_special p list at e it m s lets typed h.2 (subst (λ ms. IsNumbered p ms it m s.definition) (sym q) h.3)
+    (h.4 ∙ ap (λ xs. applied (made m) (map (λ x. OfTerm (var x)) xs)) all))

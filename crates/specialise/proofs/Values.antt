@@ -1,7 +1,8 @@
 -- The parameters of functions of values.
-use Rattle.std.proofs.Common.{◌≡◌, ◌∙◌, sym, ap, refl, subst, List, [], ◌∷◌, ◌++◌, length}
+use Rattle.std.proofs.Common.{◌≡◌, ◌∙◌, sym, ap, refl, subst, List, [], ◌∷◌, ◌++◌, ◌+◌, length}
 use Rattle.std.proofs.Common.{Some, ℕ}
 use Rattle.std.specs.List.{AllByRecursion}
+use Rattle.std.proofs.lemmas.List.{length-append}
 use Rattle.chw_types.specs.declared.declarations.Data.{Data}
 use Rattle.chw_types.specs.declared.ty.TyNode.{TyNode}
 use Rattle.chw_types.specs.declared.ty.TyNode.TheVariants.{Var, NatLit, Sum, Times, DomOf}
@@ -38,6 +39,12 @@ passed_one datas t rest a b params next p form r n = record {
       ∙ ap (λ ps. from_each ps b) (sym n);
   takes = subst (IsRepresented datas) (sym n) (all_push datas params a p.takes r);
 }
+
+-- and there is one more of them
+pub next_count : (a : TypeTree) (params : List TypeTree) (n m : ℕ) → n ≡ length params → m ≡ n + 1
+    → m ≡ length (params ++ a ∷ [])
+next_count a params n m q one =
+    one ∙ ap (λ n. n + 1) q ∙ sym (length-append params (a ∷ []))
 
 -- where all are passed there are as many as were
 pub count_of : (datas : List Data) (t rest : TypeTree) (params : List TypeTree) (n : ℕ)

@@ -1,15 +1,20 @@
 //! Calls that become made definitions.
-ghost use Rattle.std.specs.Prelude.{◌≡◌, ◌↔◌, [], reverse, option_map, IfOk, IsTrue, MatchOption};
+ghost use Rattle.std.specs.Prelude.{◌≡◌, ◌↔◌, ℕ, List, [], reverse, option_map, IfOk, IsTrue, MatchOption};
 ghost use Rattle.chw_types.specs.References.{HasNoCycle};
-ghost use Rattle.chw_types.specs.TypeTree.{TypeTree};
+ghost use Rattle.chw_types.specs.TypeTree.{TypeTree, fun};
+ghost use Rattle.chw_terms.specs.declared.term.Arg.{Arg};
 ghost use Rattle.chw_terms.specs.declared.term.Arg.TheVariants.{OfTerm};
-ghost use Rattle.chw_terms.specs.TermTree.{TermTree};
+ghost use Rattle.chw_terms.specs.TermTree.{TermTree, global, lam};
+ghost use Rattle.chw_terms.specs.TermView.{applied};
+ghost use Rattle.rewriting.specs.Calls.{IsCall};
+ghost use Rattle.rewriting.specs.Named.{IsNamed};
 ghost use Rattle.rewriting.specs.Operands.{NeedsName};
 ghost use Rattle.rewriting.specs.Shapes.{IsVariable};
 ghost use Rattle.chw_terms.specs.FreeVariables.{free_in};
 ghost use Rattle.chw_typing.specs.HeadTypes.{from_each};
 ghost use Rattle.chw_typing.specs.Scopes.{setting_in};
-ghost use Rattle.rewriting.specs.Origins.{origins_of, under_each};
+ghost use Rattle.typing_laws.specs.Finding.{Finds};
+ghost use Rattle.rewriting.specs.Origins.{origins_of, setting_at, under_each};
 ghost use Rattle.rewriting.specs.Spots.{spot_of};
 ghost use Rattle.rewriting.specs.Runs.{sort_at};
 ghost use Rattle.term_types.specs.Answers.{IsReady};
@@ -41,6 +46,16 @@ fn sort_at(mode: Mode) -> Sort
     }
 }
 
+// A lambda around the term, and the type of functions from this type.
+fn over_one(alloc: Global, ty: Ty, term: Term, gives: Ty) -> Result<(Term, Ty), NoMemory>
+    ensures { IfOk result (λ r. (r.0 ≡ lam ty term) × (r.1 ≡ fun ty gives)) }
+{
+    let from = ty.copy(alloc)?;
+    let done = Term::lam(alloc, from, term)?;
+    let whole = Ty::fun(alloc, ty, gives)?;
+    Ok((done, whole))
+}
+
 // The term under a lambda for each of these types, and the type of functions of these that give the type.
 fn over_each(alloc: Global, types: Vec<Ty>, term: Term, gives: Ty) -> Result<(Term, Ty), NoMemory>
     ensures { IfOk result (λ r. (r.0 ≡ under_each types.items term) × (r.1 ≡ from_each types.items gives)) }
@@ -49,8 +64,9 @@ fn over_each(alloc: Global, types: Vec<Ty>, term: Term, gives: Ty) -> Result<(Te
     let mut done = term;
     let mut whole = gives;
     while let Some(ty) = types.pop() {
-        done = Term::lam(alloc, ty.copy(alloc)?, done)?;
-        whole = Ty::fun(alloc, ty, whole)?;
+        let next = over_one(alloc, ty, done, whole)?;
+        done = next.0;
+        whole = next.1;
     }
     Ok((done, whole))
 }
@@ -174,6 +190,84 @@ fn named_types(
     Ok(Some(types))
 }
 
+// The type of a call, where it is found and named there.
+fn named_result(
+    alloc: Global,
+    scene: &Scene,
+    signature: &Signature,
+    place: &Place,
+    at: &Term,
+) -> Result<Option<Ty>, NoMemory>
+    requires order { HasNoCycle scene.now.program.now.datas }
+    requires ready { IsReady (setting_in scene.now) [] (reverse place.now.vars) }
+    requires table { IsSignature scene.now.program.now signature.now }
+    ensures { IfOk result (λ r. MatchOption r
+        ((types : List TypeTree) (gives : TypeTree) → IsCall (origins_of scene.now) (spot_of place.now) at.now types gives → ⊥)
+        (λ t. Finds (setting_at (origins_of scene.now)) [] (reverse place.now.vars) at.now t
+        × IsNamed scene.now.program.now.datas place.now.mode t)) }
+{
+    found_is_type();
+    one_found();
+    let Some(gives) = type_at(alloc, scene, signature, place, at)? else {
+        return Ok(None);
+    };
+    if is_named(alloc, scene.program.datas.as_slice(), place.mode, &gives)? {
+        Ok(Some(gives))
+    } else {
+        Ok(None)
+    }
+}
+
+// Whether the term is the name of a definition on arguments none of which needs a name.
+fn is_plain(
+    alloc: Global,
+    scene: &Scene,
+    signature: &Signature,
+    place: &Place,
+    at: &Term,
+) -> Result<bool, NoMemory>
+    requires order { HasNoCycle scene.now.program.now.datas }
+    requires ready { IsReady (setting_in scene.now) [] (reverse place.now.vars) }
+    requires table { IsSignature scene.now.program.now signature.now }
+    ensures { IfOk result (λ yes. IsTrue yes ↔ (d : ℕ) × (args : List Arg) × (at.now ≡ applied (global d) args)
+        × NoneNeedsName (origins_of scene.now) (spot_of place.now) args) }
+{
+    match &at.head {
+        Head::Global(_) => none_needs_name(alloc, scene, signature, place, &at.args),
+        _ => Ok(false),
+    }
+}
+
+// What a call that gives this type becomes a made definition of.
+fn seed_of(
+    alloc: Global,
+    scene: &Scene,
+    signature: &Signature,
+    place: &Place,
+    at: &Term,
+    free: &[VarIx],
+    gives: Ty,
+) -> Result<Option<Seed>, NoMemory>
+    requires order { HasNoCycle scene.now.program.now.datas }
+    requires ready { IsReady (setting_in scene.now) [] (reverse place.now.vars) }
+    requires table { IsSignature scene.now.program.now signature.now }
+    requires free { numbers free.now ≡ free_in at.now }
+    requires found { Finds (setting_at (origins_of scene.now)) [] (reverse place.now.vars) at.now gives }
+    requires named { IsNamed scene.now.program.now.datas place.now.mode gives }
+    ensures { IfOk result (AnswersCall (origins_of scene.now) (spot_of place.now) at.now) }
+{
+    if !is_plain(alloc, scene, signature, place, at)? {
+        return Ok(None);
+    }
+    let Some(types) = named_types(alloc, scene, place, free)? else {
+        return Ok(None);
+    };
+    let inner = close(alloc, scene, free, 0, at)?;
+    let (origin, ty) = over_each(alloc, types, inner, gives)?;
+    let sort = sort_at(place.mode);
+    Ok(Some(Seed { origin, ty, sort }))
+}
+
 /// What the call of a definition becomes a made definition of: the call under a lambda for each of its free variables, with origins for
 /// made definitions. These are the free variables.
 pub(crate) fn call_seed(
@@ -190,25 +284,8 @@ pub(crate) fn call_seed(
     requires free { numbers free.now ≡ free_in at.now }
     ensures { IfOk result (AnswersCall (origins_of scene.now) (spot_of place.now) at.now) }
 {
-    let Head::Global(_) = &at.head else {
+    let Some(gives) = named_result(alloc, scene, signature, place, at)? else {
         return Ok(None);
     };
-    found_is_type();
-    one_found();
-    let Some(gives) = type_at(alloc, scene, signature, place, at)? else {
-        return Ok(None);
-    };
-    if !is_named(alloc, scene.program.datas.as_slice(), place.mode, &gives)? {
-        return Ok(None);
-    }
-    if !none_needs_name(alloc, scene, signature, place, &at.args)? {
-        return Ok(None);
-    }
-    let Some(types) = named_types(alloc, scene, place, free)? else {
-        return Ok(None);
-    };
-    let inner = close(alloc, scene, free, 0, at)?;
-    let (origin, ty) = over_each(alloc, types, inner, gives)?;
-    let sort = sort_at(place.mode);
-    Ok(Some(Seed { origin, ty, sort }))
+    seed_of(alloc, scene, signature, place, at, free, gives)
 }

@@ -1,8 +1,8 @@
 //! Lifted functions that become made definitions.
-ghost use Rattle.std.specs.Prelude.{◌≡◌, ◌↔◌, ◌≤◌, suc, [], ◌∷◌, reverse, IfOk, IfSome, IfNone, IsTrue, MatchOption};
+ghost use Rattle.std.specs.Prelude.{◌≡◌, ◌↔◌, ◌<◌, ◌≤◌, suc, List, [], ◌∷◌, length, reverse, IfOk, IfSome, IfNone, IsTrue, MatchOption};
 ghost use Rattle.chw_types.specs.References.{HasNoCycle};
 ghost use Rattle.chw_types.specs.TypeTree.{TypeTree};
-ghost use Rattle.chw_terms.specs.TermTree.{TermTree};
+ghost use Rattle.chw_terms.specs.TermTree.{TermTree, made, app, ty_app};
 ghost use Rattle.chw_typing.specs.Scopes.{setting_in};
 ghost use Rattle.typing_laws.specs.Finding.{Finds};
 ghost use Rattle.rewriting.specs.Origins.{origins_of, setting_at};
@@ -11,13 +11,13 @@ ghost use Rattle.rewriting.specs.Spots.{spot_of};
 ghost use Rattle.rewriting.specs.Shapes.{IsClosed, IsMade, IsOfCircuit, fmap_of, leading_lambdas};
 ghost use Rattle.term_types.specs.Answers.{HasNoType, IsReady};
 ghost use Rattle.term_types.specs.Signatures.{IsSignature};
-ghost use Rattle.specialise.specs.Seeds.{AnswersLambdas};
+ghost use Rattle.specialise.specs.Seeds.{AnswersLambdas, IsOfValues};
 
 use crate::parameters::parameter_count;
-use chw_base::NoMemory;
+use chw_base::{MadeId, NoMemory};
 use chw_prims::Prim;
 use chw_terms::{Arg, Head, Mode, Place, Scene, Term};
-use chw_types::Ty;
+use chw_types::{Data, Ty};
 use free_variables::free_in;
 use rewriting::scene_laws::settings_of_scenes;
 use std::alloc::Global;
@@ -112,25 +112,32 @@ pub(crate) fn as_lifted<'t>(args: &'t [Arg]) -> Option<Lifted<'t>>
     }
 }
 
-/// `fmap` with another function.
-pub(crate) fn lifting(alloc: Global, at: Lifted<'_>, function: Term) -> Result<Term, NoMemory>
-    ensures { IfOk result (λ e. e ≡ fmap_of at.entry.dom.now at.entry.from.now at.entry.to.now function at.entry.signal.now) }
+// The term on a copy of this type.
+fn on_type(alloc: Global, term: Term, ty: &Ty) -> Result<Term, NoMemory>
+    ensures { IfOk result (λ e. e ≡ ty_app term ty.now) }
 {
-    let dom = at.dom.copy(alloc)?;
-    let from = at.from.copy(alloc)?;
-    let to = at.to.copy(alloc)?;
-    let signal = at.signal.copy(alloc)?;
-    let args = vec![in alloc;
-        Arg::OfType(dom),
-        Arg::OfType(from),
-        Arg::OfType(to),
-        Arg::OfTerm(function),
-        Arg::OfTerm(signal),
-    ]?;
-    Ok(Term {
-        head: Head::PrimOf(Prim::Fmap),
-        args,
-    })
+    let ty = ty.copy(alloc)?;
+    Term::ty_app(term, ty)
+}
+
+// The term on a copy of this one.
+fn on_term(alloc: Global, term: Term, arg: &Term) -> Result<Term, NoMemory>
+    ensures { IfOk result (λ e. e ≡ app term arg.now) }
+{
+    let arg = arg.copy(alloc)?;
+    Term::app(term, arg)
+}
+
+/// `fmap` with a made definition as its function.
+pub(crate) fn lifting(alloc: Global, at: Lifted<'_>, number: MadeId) -> Result<Term, NoMemory>
+    ensures { IfOk result (λ e. e ≡ fmap_of at.entry.dom.now at.entry.from.now at.entry.to.now (made number.number) at.entry.signal.now) }
+{
+    let fmap = Term::prim_of(alloc, Prim::Fmap);
+    let on_domain = on_type(alloc, fmap, at.dom)?;
+    let on_one = on_type(alloc, on_domain, at.from)?;
+    let on_types = on_type(alloc, on_one, at.to)?;
+    let on_function = Term::app(on_types, Term::made(alloc, number))?;
+    on_term(alloc, on_function, at.signal)
 }
 
 /// The type of the term at the place.
@@ -149,6 +156,26 @@ pub(crate) fn type_at(
     settings_of_scenes();
     let vars = place.vars.as_slice();
     type_of_in(alloc, scene, signature, &[], vars, term)
+}
+
+// Whether the type is that of functions of values that give a value, and so many lambdas lead the function as there are parameters: one
+// or more.
+fn has_lambda_each(
+    alloc: Global,
+    datas: &[Data],
+    ty: &Ty,
+    function: &Term,
+) -> Result<bool, NoMemory>
+    requires { HasNoCycle datas.now }
+    ensures { IfOk result (λ yes. IsTrue yes ↔ (ps : List TypeTree) × IsOfValues datas.now ty.now ps × (0 < length ps) × (length ps ≤ leading_lambdas function.now)) }
+{
+    let Some(count) = parameter_count(alloc, datas, ty)? else {
+        return Ok(false);
+    };
+    if count == 0 {
+        return Ok(false);
+    }
+    Ok(has_lambdas(function, count))
 }
 
 /// The type of a lifted function that becomes a made definition: closed, none itself, of values, with a lambda for each of its parameters.
@@ -175,14 +202,7 @@ pub(crate) fn lifted_type(
     let Some(ty) = type_at(alloc, scene, signature, place, function)? else {
         return Ok(None);
     };
-    let datas = scene.program.datas.as_slice();
-    let Some(count) = parameter_count(alloc, datas, &ty)? else {
-        return Ok(None);
-    };
-    if count == 0 {
-        return Ok(None);
-    }
-    if has_lambdas(function, count) {
+    if has_lambda_each(alloc, scene.program.datas.as_slice(), &ty, function)? {
         Ok(Some(ty))
     } else {
         Ok(None)

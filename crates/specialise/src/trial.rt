@@ -1,29 +1,35 @@
 //! The rule of made definitions, tried on a term at a place.
-ghost use Rattle.std.specs.Prelude.{◌≡◌, ◌↔◌, ◌++◌, [], map, reverse, length, IfOk, IsTrue};
+ghost use Rattle.std.specs.Prelude.{◌≡◌, ◌↔◌, ◌++◌, ℕ, List, [], map, reverse, length, IfOk, IsTrue, MatchOption};
 ghost use Rattle.chw_types.specs.References.{HasNoCycle};
+ghost use Rattle.chw_types.specs.TypeTree.{TypeTree};
 ghost use Rattle.chw_prims.specs.declared.prim.Primitive.TheVariants.{Fmap};
 ghost use Rattle.chw_terms.specs.declared.term.Arg.TheVariants.{OfTerm};
+ghost use Rattle.chw_terms.specs.declared.scene.Sort.TheVariants.{Value};
+ghost use Rattle.chw_terms.specs.FreeVariables.{free_in};
 ghost use Rattle.chw_terms.specs.TermTree.{var, made, prim};
 ghost use Rattle.chw_terms.specs.TermView.{tree_of, applied};
 ghost use Rattle.chw_typing.specs.Scopes.{setting_in};
 ghost use Rattle.looks.specs.Looking.{looked};
-ghost use Rattle.rewriting.specs.Origins.{origins_of};
+ghost use Rattle.rewriting.specs.Calls.{IsCall, to_lambdas};
+ghost use Rattle.rewriting.specs.Origins.{MadeOf, origins_of};
+ghost use Rattle.rewriting.specs.Shapes.{fmap_of};
 ghost use Rattle.rewriting.specs.Spots.{HasLets, spot_of};
 ghost use Rattle.rule_parts.specs.Cores.{HasTypeAt};
 ghost use Rattle.term_types.specs.Answers.{IsReady};
 ghost use Rattle.term_types.specs.Signatures.{IsSignature};
 ghost use Rattle.specialise.specs.Calls.{IsOnGlobal};
-ghost use Rattle.specialise.specs.Closed.{numbers};
+ghost use Rattle.specialise.specs.Closed.{closed, numbers};
+ghost use Rattle.specialise.specs.Seeds.{HasLambdas, IsNumbered, IsOfCall, made_of_seed};
 ghost use Rattle.specialise.specs.Special.{AnswersSpecial};
 
 use crate::calls::call_seed;
 use crate::closing::close;
-use crate::lifted::{as_lifted, is_of_circuit, lifted_type, lifting};
+use crate::lifted::{Lifted, as_lifted, is_of_circuit, lifted_type, lifting};
 use crate::numbers::{Seed, number_for};
 use crate::opened::with_args;
 use chw_base::{MadeId, NoMemory, VarIx};
 use chw_prims::Prim;
-use chw_terms::{Arg, Head, Made, Mode, Place, Scene, Sort, Term};
+use chw_terms::{Arg, Head, Made, Mode, Place, Program, Scene, Sort, Term};
 use free_variables::free_in;
 use looks::Looks;
 use made_table::Table;
@@ -64,6 +70,37 @@ fn on_free(alloc: Global, number: MadeId, free: &[VarIx]) -> Result<Term, NoMemo
     })
 }
 
+// The made definition of a call on its free variables, with the definition if it is new.
+fn called_on(
+    alloc: Global,
+    table: &Table,
+    scene: &Scene,
+    signature: &Signature,
+    at: &Term,
+    place: &Place,
+    free: &[VarIx],
+) -> Result<Option<Special>, NoMemory>
+    requires order { HasNoCycle scene.now.program.now.datas }
+    requires ready { IsReady (setting_in scene.now) [] (reverse place.now.vars) }
+    requires table { IsSignature scene.now.program.now signature.now }
+    requires free { numbers free.now ≡ free_in at.now }
+    ensures { IfOk result (λ r. MatchOption r
+        ((types : List TypeTree) (gives : TypeTree) → IsCall (origins_of scene.now) (spot_of place.now) at.now types gives → ⊥)
+        (λ s. (it : MadeOf) × (m : ℕ) × IsOfCall (origins_of scene.now) (spot_of place.now) at.now it
+        × IsNumbered scene.now.program.now table.now it m s.definition
+        × (s.new ≡ applied (made m) (map (λ x. OfTerm (var x)) (numbers free.now))))) }
+{
+    let Some(seed) = call_seed(alloc, scene, signature, place, at, free)? else {
+        return Ok(None);
+    };
+    let made = number_for(alloc, table, scene.program, seed)?;
+    let new = on_free(alloc, made.number, free)?;
+    Ok(Some(Special {
+        new,
+        definition: made.definition,
+    }))
+}
+
 // What the rule makes of the call of a definition.
 fn special_call(
     alloc: Global,
@@ -85,15 +122,65 @@ fn special_call(
         return Ok(None);
     }
     let free = free_in(alloc, at)?;
-    let Some(seed) = call_seed(alloc, scene, signature, place, at, &free)? else {
+    let outcome = called_on(alloc, table, scene, signature, at, place, &free);
+    drop(free);
+    outcome
+}
+
+// What a lifted function becomes a made definition of.
+fn lifted_seed(
+    alloc: Global,
+    scene: &Scene,
+    signature: &Signature,
+    place: &Place,
+    function: &Term,
+) -> Result<Option<Seed>, NoMemory>
+    requires order { HasNoCycle scene.now.program.now.datas }
+    requires ready { IsReady (setting_in scene.now) [] (reverse place.now.vars) }
+    requires table { IsSignature scene.now.program.now signature.now }
+    ensures { IfOk result (λ r. MatchOption r
+        ((t : TypeTree) → HasLambdas (origins_of scene.now) (spot_of place.now) function.now t → ⊥)
+        (λ s. HasLambdas (origins_of scene.now) (spot_of place.now) function.now s.ty
+        × (s.origin ≡ closed (origins_of scene.now) (to_lambdas []) function.now)
+        × (s.sort ≡ Value))) }
+{
+    let Some(ty) = lifted_type(alloc, scene, signature, place, function)? else {
         return Ok(None);
     };
-    let made = number_for(alloc, table, scene.program, seed)?;
-    let new = on_free(alloc, made.number, &free)?;
-    Ok(Some(Special {
+    let origin = close(alloc, scene, &[], 0, function)?;
+    Ok(Some(Seed {
+        origin,
+        ty,
+        sort: Sort::Value,
+    }))
+}
+
+// `fmap` with a made definition as its function, on these arguments behind its own.
+fn lifting_on(alloc: Global, at: Lifted<'_>, number: MadeId, rest: &[Arg]) -> Result<Term, NoMemory>
+    ensures { IfOk result (λ e. e ≡ applied (fmap_of at.entry.dom.now at.entry.from.now at.entry.to.now (made number.number) at.entry.signal.now) rest.now) }
+{
+    let core = lifting(alloc, at, number)?;
+    with_args(alloc, core, rest)
+}
+
+// The same with the made definition of this, and the definition if it is new.
+fn lifted_with(
+    alloc: Global,
+    table: &Table,
+    program: &Program,
+    at: Lifted<'_>,
+    seed: Seed,
+    rest: &[Arg],
+) -> Result<Special, NoMemory>
+    ensures { IfOk result (λ s. (m : ℕ) × IsNumbered program.now table.now (made_of_seed seed) m s.definition
+        × (s.new ≡ applied (fmap_of at.entry.dom.now at.entry.from.now at.entry.to.now (made m) at.entry.signal.now) rest.now)) }
+{
+    let made = number_for(alloc, table, program, seed)?;
+    let new = lifting_on(alloc, at, made.number, rest)?;
+    Ok(Special {
         new,
         definition: made.definition,
-    }))
+    })
 }
 
 // What the rule makes of `fmap` on its five arguments, and on those behind them.
@@ -120,22 +207,10 @@ fn special_lifted(
     let Some(at) = as_lifted(own) else {
         return Ok(None);
     };
-    let Some(ty) = lifted_type(alloc, scene, signature, place, at.function)? else {
+    let Some(seed) = lifted_seed(alloc, scene, signature, place, at.function)? else {
         return Ok(None);
     };
-    let origin = close(alloc, scene, &[], 0, at.function)?;
-    let seed = Seed {
-        origin,
-        ty,
-        sort: Sort::Value,
-    };
-    let made = number_for(alloc, table, scene.program, seed)?;
-    let core = lifting(alloc, at, Term::made(alloc, made.number))?;
-    let new = with_args(alloc, core, rest)?;
-    Ok(Some(Special {
-        new,
-        definition: made.definition,
-    }))
+    Ok(Some(lifted_with(alloc, table, scene.program, at, seed, rest)?))
 }
 
 // What the rule makes of a primitive on arguments.

@@ -1,6 +1,5 @@
 use Rattle.std.proofs.Common.{◌∙◌, ap, sym, arith}
 use Rattle.std.proofs.lemmas.List.{nil_from_length}
-use Rattle.chw_terms.specs.TermTree.{lam}
 use Rattle.chw_typing.specs.HeadTypes.{from_each}
 use Rattle.rewriting.specs.Origins.{under_each}
 use Rattle.specialise.proofs.Lambdas.{under_last, from_last}
@@ -12,11 +11,10 @@ loop-ty-preserved c =
     let t = c.in-Some.ty in
     let done = c.loop-ty.done in
     let whole = c.loop-ty.whole in
-    let items = sym c.in-Some.ensures.items in
-    let lambda = c.in_ok-done.ensures ∙ ap (λ t. lam t done) c.in_ok-copy.ensures in (
-      ap (under_each left) lambda ∙ sym (under_last left t done)
+    let items = sym c.in-Some.ensures.items in (
+      ap (under_each left) c.in_ok-next.ensures.0 ∙ sym (under_last left t done)
           ∙ ap (λ ts. under_each ts done) items ∙ c.loop-ty.invariant.0,
-      ap (from_each left) c.in_ok-whole.ensures ∙ sym (from_last left t whole)
+      ap (from_each left) c.in_ok-next.ensures.1 ∙ sym (from_last left t whole)
           ∙ ap (λ ts. from_each ts whole) items ∙ c.loop-ty.invariant.1,
     )
 
