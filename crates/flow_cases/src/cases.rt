@@ -1,11 +1,12 @@
 //! What the rule makes of a case on a case.
-ghost use Rattle.std.specs.Prelude.{◌≡◌, [], reverse, IfOk};
+ghost use Rattle.std.specs.Prelude.{◌≡◌, ◌↔◌, [], reverse, IfOk, IsTrue};
 ghost use Rattle.chw_types.specs.References.{HasNoCycle};
 ghost use Rattle.chw_terms.specs.declared.rule.Rule.TheVariants.{CaseCase};
-ghost use Rattle.chw_terms.specs.TermTree.{case_of};
+ghost use Rattle.chw_terms.specs.TermTree.{case_of, binders};
 ghost use Rattle.chw_terms.specs.TermView.{alts_of};
 ghost use Rattle.chw_typing.specs.Scopes.{setting_in};
 ghost use Rattle.typing_laws.specs.Groups.{each_body};
+ghost use Rattle.rewriting.specs.Named.{IsNamed};
 ghost use Rattle.rewriting.specs.Origins.{origins_of};
 ghost use Rattle.rewriting.specs.Spots.{spot_of};
 ghost use Rattle.rewriting.specs.Shapes.{shift_alts};
@@ -17,7 +18,8 @@ ghost use Rattle.flow_cases.specs.Moves.{looked_at};
 use crate::alternatives::alts_under;
 use crate::parts::bare_head;
 use chw_base::NoMemory;
-use chw_terms::{Alt, Head, Place, Scene, Term};
+use chw_terms::{Alt, Head, Mode, Place, Scene, Term};
+use chw_types::{Data, Ty};
 use chw_typing::laws::{one_type, types_are_term_types};
 use rewriting::scene_laws::{names_of_modes, settings_of_scenes};
 use rule_parts::named::is_named;
@@ -25,13 +27,21 @@ use std::alloc::Global;
 use term_types::{Signature, type_of_in};
 use typing_laws::found_laws::found_is_type;
 
+// The body of an alternative, which is looked at by a case with these alternatives.
+fn body_looked_at(alloc: Global, alt: &Alt, outer: &[Alt]) -> Result<Term, NoMemory>
+    ensures { IfOk result (λ e. e ≡ case_of alt.now.body (shift_alts (alts_of outer.now) 0 (binders alt.now.pattern))) }
+{
+    let inside = alts_under(alloc, outer, alt.pattern.binders())?;
+    let body = alt.body.copy(alloc)?;
+    Term::case(alloc, body, inside)
+}
+
 // An alternative whose body is looked at by a case with these alternatives.
 fn looked_at(alloc: Global, alt: &Alt, outer: &[Alt]) -> Result<Alt, NoMemory>
     ensures { IfOk result (λ made. made ≡ looked_at outer.now alt.now) }
 {
-    let inside = alts_under(alloc, outer, alt.pattern.binders())?;
+    let body = body_looked_at(alloc, alt, outer)?;
     let pattern = alt.pattern.copy(alloc)?;
-    let body = Term::case(alloc, alt.body.copy(alloc)?, inside)?;
     Ok(Alt { pattern, body })
 }
 
@@ -45,6 +55,16 @@ fn each_looked_at(alloc: Global, on: &Term, inner: &[Alt], outer: &[Alt]) -> Res
     }
     let on = on.copy(alloc)?;
     Term::case(alloc, on, done)
+}
+
+// Whether a type that is used no more is named in a mode.
+fn is_type_named(alloc: Global, datas: &[Data], mode: Mode, ty: Ty) -> Result<bool, NoMemory>
+    requires { HasNoCycle datas.now }
+    ensures { IfOk result (λ is. IsTrue is ↔ IsNamed datas.now mode ty) }
+{
+    let outcome = is_named(alloc, datas, mode, &ty);
+    drop(ty);
+    outcome
 }
 
 /// A case whose type isn't named moves out of a scrutinee.
@@ -76,7 +96,7 @@ pub(crate) fn case_case(
     let Some(ty) = type_of_in(alloc, scene, signature, &[], place.vars.as_slice(), on)? else {
         return Ok(None);
     };
-    if is_named(alloc, scene.program.datas.as_slice(), place.mode, &ty)? {
+    if is_type_named(alloc, scene.program.datas.as_slice(), place.mode, ty)? {
         return Ok(None);
     }
     Ok(Some(each_looked_at(alloc, first, inner, alts)?))

@@ -1,8 +1,10 @@
 //! What the rule makes of a case on a constructor or on a literal.
-ghost use Rattle.std.specs.Prelude.{◌≡◌, length, IfOk};
+ghost use Rattle.std.specs.Prelude.{◌≡◌, length, map, IfOk};
 ghost use Rattle.chw_terms.specs.declared.rule.Rule.TheVariants.{CaseCon};
+ghost use Rattle.chw_terms.specs.TermMoves.{shift};
 ghost use Rattle.chw_terms.specs.TermTree.{con, lit};
-ghost use Rattle.chw_terms.specs.TermView.{applied};
+ghost use Rattle.chw_terms.specs.TermView.{applied, group_of};
+ghost use Rattle.chw_terms.specs.Unrolled.{named};
 ghost use Rattle.rewriting.specs.Shapes.{with_fields};
 ghost use Rattle.flow_cases.specs.Answered.{AnswersAnywhere, AnswersOver};
 ghost use Rattle.flow_cases.specs.Given.{terms_in, types_in};
@@ -14,25 +16,50 @@ use crate::given::{are_just, terms_under, types_in};
 use crate::parts::{fields_at, named, or_body};
 use chw_base::{ConId, NoMemory, narrow};
 use chw_bits::Bits;
-use chw_terms::{Alt, Arg, Head, Pattern, Scalar, Term};
+use chw_terms::{Alt, Arg, Binding, Head, Pattern, Scalar, Term};
 use chw_types::Ty;
 use con_places::Constructors;
 use std::alloc::Global;
+
+// The types of fields at the types among these arguments.
+fn types_at(alloc: Global, fields: &[Ty], args: &[Arg]) -> Result<Vec<Ty>, NoMemory>
+    ensures { IfOk result (λ ts. ts.items ≡ fields_put fields.now (types_in args.now)) }
+{
+    let types = types_in(alloc, args)?;
+    let outcome = fields_at(alloc, fields, types.as_slice());
+    drop(types);
+    outcome
+}
+
+// The terms among these arguments under so many more binders.
+fn terms_below(alloc: Global, count: usize, args: &[Arg]) -> Result<Vec<Term>, NoMemory>
+    ensures { IfOk result (λ es. es.items ≡ map (λ e. shift e 0 count) (terms_in args.now)) }
+{
+    let by = narrow(count)?;
+    terms_under(alloc, args, by)
+}
+
+// The fields of a constructor as names for the terms among these arguments.
+fn fields_named(alloc: Global, fields: &[Ty], args: &[Arg]) -> Result<Vec<Binding>, NoMemory>
+    ensures { IfOk result (λ group. group_of group.items
+        ≡ named (fields_put fields.now (types_in args.now)) (map (λ e. shift e 0 (length fields.now)) (terms_in args.now))) }
+{
+    let types = types_at(alloc, fields, args)?;
+    let sides = terms_below(alloc, fields.len(), args)?;
+    named(alloc, types, sides)
+}
 
 // An alternative's body, where the names of its pattern stand for the terms among these arguments.
 fn with_fields(alloc: Global, alt: &Alt, fields: &[Ty], args: &[Arg]) -> Result<Term, NoMemory>
     ensures { length (terms_in args.now) ≡ length fields.now
         → IfOk result (λ e. e ≡ with_fields alt.now.pattern (fields_put fields.now (types_in args.now)) (terms_in args.now) alt.now.body) }
 {
-    let body = alt.body.copy(alloc)?;
     if let Pattern::OfCon(_, _) = alt.pattern {
-        let types = types_in(alloc, args)?;
-        let types = fields_at(alloc, fields, types.as_slice())?;
-        let sides = terms_under(alloc, args, narrow(fields.len())?)?;
-        let group = named(alloc, types, sides)?;
+        let group = fields_named(alloc, fields, args)?;
+        let body = alt.body.copy(alloc)?;
         return or_body(alloc, group, body);
     }
-    Ok(body)
+    alt.body.copy(alloc)
 }
 
 // case C @types es of { ..; C xs -> e; .. }  ==>  letrec { xs = es } in e

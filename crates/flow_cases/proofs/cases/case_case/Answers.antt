@@ -41,7 +41,7 @@ returns-then-branch c e' m =
     let here : Finds s [] at.vars on t = subst (λ vars. Finds s [] (reverse vars) on t) c.as_slice.ensures found in
     let typed : HasType (setting_at o) [] at.vars on t = c.found_is_type.ensures (setting_at o) [] at.vars on t (subst (λ s. Finds s [] at.vars on t) setting here) in
     let ready : IsReady (setting_at o) [] at.vars = subst (λ s. IsReady s [] at.vars) setting c.requires.ready in
-    let named : IsNamed o.program.datas at.mode t = subst (λ ds. IsNamed ds at.mode t) c.as_slice-2.ensures (c.in_ok-is_named.ensures.0 c.if-branch.true) in
+    let named : IsNamed o.program.datas at.mode t = subst (λ ds. IsNamed ds at.mode t) c.as_slice-2.ensures (c.in_ok-is_type_named.ensures.0 c.if-branch.true) in
     h.unnamed (named_again c.one_type.ensures c.types_are_term_types.ensures c.names_of_modes.ensures.kept (setting_at o) at.vars at.mode on t h.type ready.0 ready.1 typed h.has named)
 
 pub returns : goal.returns
@@ -60,7 +60,7 @@ returns c =
     case_moved o at on c.in-Case.first.value (alts_of c.in-Case.inner.items) outer t c.in_ok-each_looked_at.field-0
     (sym c.in-Some.ensures ∙ ap tree_of c.in-Case.is) typed
     (λ n.
-    let yes = c.in_ok-is_named.ensures.1 (subst (λ ds. IsNamed ds at.mode t) (sym c.as_slice-2.ensures) n) in
+    let yes = c.in_ok-is_type_named.ensures.1 (subst (λ ds. IsNamed ds at.mode t) (sym c.as_slice-2.ensures) n) in
     let no = c.if-branch.false in
     absurd cc)
     (c.in_ok-each_looked_at.ensures
