@@ -98,7 +98,7 @@ pub data CallShape (o : Origins) : TermTree → Type 0 where
 pub call_shape : {o : Origins} {e : TermTree} → IsCircuitSide o e → CallShape o e
 call_shape of_variable = no_call tt
 call_shape (of_register k) = no_call (λ e. cc, λ e. cc)
-call_shape (of_block_ram k) = no_call (λ e. cc, λ e. cc)
+call_shape (of_block_ram k h) = no_call (λ e. cc, λ e. cc)
 call_shape of_synchronizer = no_call (λ e. cc, λ e. cc)
 call_shape (of_pure k) = no_call (λ e. cc, λ e. cc)
 call_shape (of_lifted m {it = it} known value lifted) = a_lifted m it known value lifted

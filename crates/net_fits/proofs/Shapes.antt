@@ -57,7 +57,7 @@ lifted_other (lifted_on_more more) = λ e. cc
 shape_of : {o : Origins} {e : TermTree} → IsCircuitSide o e → Shape o.program.datas e
 shape_of of_variable = a_variable
 shape_of (of_register k) = another (λ e. cc)
-shape_of (of_block_ram k) = another (λ e. cc)
+shape_of (of_block_ram k h) = another (λ e. cc)
 shape_of of_synchronizer = a_crossing
 shape_of (of_pure k) = another (λ e. cc)
 shape_of (of_lifted m is v lifted) = another (lifted_other lifted)

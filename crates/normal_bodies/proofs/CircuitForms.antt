@@ -44,7 +44,7 @@ lifted_on o {m} {n} (lifted_on_more {d = d} {a = a} {b = b} {u = u} {x = x} more
 circuit_on : {o : Origins} {e : TermTree} → IsCircuitSide o e → CircuitOn o (head_of e) (args_of e)
 circuit_on of_variable = refl
 circuit_on (of_register k) = inl (k, tt)
-circuit_on (of_block_ram k) = inl (k, (tt, tt))
+circuit_on (of_block_ram {w = w} k h) = inl (k, (tt, tt), (w, h))
 circuit_on of_synchronizer = inl tt
 circuit_on (of_pure k) = inl k
 circuit_on {o} (of_lifted m {it} is v chain) = lifted_on o chain (it, is, v, refl)
@@ -62,7 +62,7 @@ register_side o (OfType d ∷ OfType a ∷ OfTerm c ∷ OfTerm _ ∷ []) h = abs
 register_side o _ h = absurd h
 
 block_ram_side : (o : Origins) (args : List Arg) → IsBlockRam o.program.datas args → IsCircuitSide o (applied (prim BlockRam) args)
-block_ram_side o (OfType d ∷ OfType n ∷ OfType k ∷ OfType a ∷ OfTerm c ∷ OfTerm (var x) ∷ OfTerm (var y) ∷ []) h = of_block_ram h.0
+block_ram_side o (OfType d ∷ OfType n ∷ OfType k ∷ OfType a ∷ OfTerm c ∷ OfTerm (var x) ∷ OfTerm (var y) ∷ []) h = of_block_ram h.0 h.2.1
 block_ram_side o (OfType d ∷ OfType n ∷ OfType k ∷ OfType a ∷ OfTerm c ∷ OfTerm (var x) ∷ OfTerm _ ∷ []) h = absurd h.1.1
 block_ram_side o (OfType d ∷ OfType n ∷ OfType k ∷ OfType a ∷ OfTerm c ∷ OfTerm _ ∷ OfTerm y ∷ []) h = absurd h.1.0
 block_ram_side o _ h = absurd h

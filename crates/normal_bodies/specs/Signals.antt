@@ -14,8 +14,9 @@ use Rattle.chw_terms.specs.TermTree.{TermTree, var, prim, Alts, no_alts, alt}
 use Rattle.chw_terms.specs.TermView.{applied}
 use Rattle.rewriting.specs.Origins.{Origins}
 use Rattle.rewriting.specs.Shapes.{IsVariable}
-use Rattle.normal_forms.specs.Circuits.{IsConstant, IsLiftedCall, IsCircuitSide}
+use Rattle.normal_forms.specs.Circuits.{IsConstant, content_type, IsLiftedCall, IsCircuitSide}
 use Rattle.normal_bodies.specs.Heads.{MadeAsksFor}
+use Rattle.normal_bodies.specs.Widths.{HasSomeWidth}
 
 -- `register @d @a c x`
 abbrev pub IsRegister : List Data → List Arg → Type 0
@@ -23,11 +24,11 @@ IsRegister datas (OfType d ∷ OfType a ∷ OfTerm c ∷ OfTerm x ∷ []) =
     IsConstant datas c × IsVariable x
 IsRegister datas _ = ⊥
 
--- `blockRam @d @n @k @a c x y`
+-- `blockRam @d @n @k @a c x y`, of which the content has a width
 abbrev pub IsBlockRam : List Data → List Arg → Type 0
 IsBlockRam datas
     (OfType d ∷ OfType n ∷ OfType k ∷ OfType a ∷ OfTerm c ∷ OfTerm x ∷ OfTerm y ∷ []) =
-    IsConstant datas c × (IsVariable x × IsVariable y)
+    IsConstant datas c × (IsVariable x × IsVariable y) × HasSomeWidth datas (content_type n a)
 IsBlockRam datas _ = ⊥
 
 -- `unsafeSynchronizer @d @e @a x`

@@ -93,12 +93,18 @@ fn is_circuit_binding(
     if leaves(alloc, &binding.ty, datas)?.is_none() {
         return Ok(false);
     }
-    is_circuit_side(scene, signature, &binding.body)
+    is_circuit_side(alloc, scene, signature, &binding.body)
 }
 
 // Whether a term is a right side of a circuit.
-fn is_circuit_side(scene: &Scene, signature: &Signature, term: &Term) -> Result<bool, NoMemory>
-    requires { IsSignature scene.now.program.now signature.now }
+fn is_circuit_side(
+    alloc: Global,
+    scene: &Scene,
+    signature: &Signature,
+    term: &Term,
+) -> Result<bool, NoMemory>
+    requires order { HasNoCycle scene.now.program.now.datas }
+    requires table { IsSignature scene.now.program.now signature.now }
     ensures { IfOk result (λ is. IsTrue is ↔ IsCircuitSide (origins_of scene.now) term.now) }
 {
     let args = term.args.as_slice();
@@ -107,7 +113,7 @@ fn is_circuit_side(scene: &Scene, signature: &Signature, term: &Term) -> Result<
         Head::Con(at) => Ok(is_con_on_names(&signature.constructors, *at, args)),
         Head::Made(at) => Ok(is_call(scene, Sort::Circuit, *at, args)),
         Head::Case(on, alts) => Ok(takes_part(on, alts, args)),
-        Head::PrimOf(which) => is_prim_side(scene, signature, *which, args, term),
+        Head::PrimOf(which) => is_prim_side(alloc, scene, signature, *which, args, term),
         _ => Ok(false),
     }
 }
@@ -124,12 +130,14 @@ fn is_lifting(which: Prim) -> bool
 
 // Whether a term, which is this primitive on these arguments, is a right side of a circuit.
 fn is_prim_side(
+    alloc: Global,
     scene: &Scene,
     signature: &Signature,
     which: Prim,
     args: &[Arg],
     term: &Term,
 ) -> Result<bool, NoMemory>
+    requires order { HasNoCycle scene.now.program.now.datas }
     requires table { IsSignature scene.now.program.now signature.now }
     requires is { term.now ≡ applied (prim which) args.now }
     ensures { IfOk result (λ is. IsTrue is ↔ IsPrimSide (origins_of scene.now) which args.now) }
@@ -137,5 +145,6 @@ fn is_prim_side(
     if is_lifting(which) {
         return is_lifted_side(scene, term);
     }
-    Ok(is_signal_side(&signature.constructors, which, args))
+    let datas = scene.program.datas.as_slice();
+    is_signal_side(alloc, datas, &signature.constructors, which, args)
 }

@@ -6,6 +6,7 @@ mod bodies;
 mod calls;
 mod circuits;
 mod constants;
+mod contents;
 mod counts;
 mod cycles;
 mod declared;

@@ -16,8 +16,8 @@ use chw_terms::Term;
 use chw_types::{Data, Leaf, Ty, leaves, representable};
 use std::alloc::Global;
 
-// Whether a type has a width.
-fn has_width(alloc: Global, datas: &[Data], ty: &Ty) -> Result<bool, NoMemory>
+/// Whether a type has a width.
+pub(crate) fn has_width(alloc: Global, datas: &[Data], ty: &Ty) -> Result<bool, NoMemory>
     requires { HasNoCycle datas.now }
     ensures { IfOk result (λ is. IsTrue is ↔ HasSomeWidth datas.now ty.now) }
 {

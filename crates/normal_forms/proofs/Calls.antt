@@ -224,7 +224,7 @@ circuit_side_calls {o} (of_variable {x = x}) = var_calls o x
 circuit_side_calls {o} (of_register {d = d} {a = a} {c = c} {x = x} k) =
     on_names_calls o [] (x ∷ []) (applied (prim Register) (types_then (d ∷ a ∷ []) (c ∷ [])))
     (spine_calls o (d ∷ a ∷ []) (c ∷ []) (prim Register) (prim_calls o Register) (constant_calls o k, tt))
-circuit_side_calls {o} (of_block_ram {d = d} {n = n} {k = w} {a = a} {c = c} {x = x} {y = y} k) =
+circuit_side_calls {o} (of_block_ram {d = d} {n = n} {k = w} {a = a} {c = c} {x = x} {y = y} k h) =
     on_names_calls o [] (x ∷ y ∷ []) (applied (prim BlockRam) (types_then (d ∷ n ∷ w ∷ a ∷ []) (c ∷ [])))
     (spine_calls o (d ∷ n ∷ w ∷ a ∷ []) (c ∷ []) (prim BlockRam) (prim_calls o BlockRam) (constant_calls o k, tt))
 circuit_side_calls {o} (of_synchronizer {d = d} {e = e} {a = a} {x = x}) =

@@ -76,7 +76,7 @@ circuit_side_plain {o} (of_variable {x = x}) = plain_var o.program.datas x
 circuit_side_plain {o} (of_register {d = d} {a = a} {c = c} {x = x} k) =
     on_names_plain o.program.datas [] (x ∷ []) _
     (spine_plain o.program.datas (d ∷ a ∷ []) (c ∷ []) (prim Register) (record { wires = tt; no_type_lambda = λ h. h; looks = tt }) (one_plain o.program.datas c (constant_plain k)))
-circuit_side_plain {o} (of_block_ram {d = d} {n = n} {k = w} {a = a} {c = c} {x = x} {y = y} k) =
+circuit_side_plain {o} (of_block_ram {d = d} {n = n} {k = w} {a = a} {c = c} {x = x} {y = y} k h) =
     on_names_plain o.program.datas [] (x ∷ y ∷ []) _
     (spine_plain o.program.datas (d ∷ n ∷ w ∷ a ∷ []) (c ∷ []) (prim BlockRam) (record { wires = tt; no_type_lambda = λ h. h; looks = tt }) (one_plain o.program.datas c (constant_plain k)))
 circuit_side_plain {o} (of_synchronizer {d = d} {e = e} {a = a} {x = x}) =

@@ -123,7 +123,7 @@ no_chain (lifted_on_more more) is = absurd cc
 no_lambda_in_circuits : {o : Origins} {e : TermTree} → IsCircuitSide o e → e ≡ identity → ⊥
 no_lambda_in_circuits of_variable is = absurd cc
 no_lambda_in_circuits (of_register k) is = absurd cc
-no_lambda_in_circuits (of_block_ram k) is = absurd cc
+no_lambda_in_circuits (of_block_ram k h) is = absurd cc
 no_lambda_in_circuits of_synchronizer is = absurd cc
 no_lambda_in_circuits (of_pure k) is = absurd cc
 no_lambda_in_circuits (of_lifted m k v chain) is = no_chain chain is
@@ -150,7 +150,7 @@ no_lifted_register (lifted_on_more more) is = absurd cc
 begins_refused : {o : Origins} {e : TermTree} → IsCircuitSide o e → e ≡ register_of (var 0) 1 → ⊥
 begins_refused of_variable is = absurd cc
 begins_refused (of_register {c = c} k) is = let same : c ≡ var 0 = cc in no_constant k same
-begins_refused (of_block_ram k) is = absurd cc
+begins_refused (of_block_ram k h) is = absurd cc
 begins_refused of_synchronizer is = absurd cc
 begins_refused (of_pure k) is = absurd cc
 begins_refused (of_lifted m k v chain) is = no_lifted_register chain (ap head_of is)
@@ -184,7 +184,7 @@ head_ap e args one is = head_is e (prim Ap) args (lifted_on_two 1) one refl is
 too_many_refused : {e : TermTree} → IsCircuitSide here e → e ≡ lifted_on_two 1 → ⊥
 too_many_refused of_variable is = absurd cc
 too_many_refused (of_register k) is = absurd cc
-too_many_refused (of_block_ram k) is = absurd cc
+too_many_refused (of_block_ram k h) is = absurd cc
 too_many_refused of_synchronizer is = absurd cc
 too_many_refused (of_pure k) is = absurd cc
 too_many_refused (of_lifted m {it} k v chain) is = let at = on_two chain is in wrong_count m it k at.0 at.1

@@ -5,7 +5,7 @@ use Rattle.chw_base.specs.declared.index.ConId.{ConId}
 use Rattle.chw_types.specs.declared.declarations.Data.{Data}
 use Rattle.chw_types.specs.declared.kind.Scalar.{Scalar}
 use Rattle.chw_types.specs.Ports.{IsPort}
-use Rattle.chw_types.specs.TypeTree.{TypeTree}
+use Rattle.chw_types.specs.TypeTree.{TypeTree, nat_lit, nat_sum, vector}
 use Rattle.chw_prims.specs.declared.prim.Primitive.{Primitive as Prim}
 use Rattle.chw_prims.specs.declared.prim.Primitive.TheVariants.{Register, BlockRam}
 use Rattle.chw_prims.specs.declared.prim.Primitive.TheVariants.{UnsafeSynchronizer}
@@ -16,6 +16,7 @@ use Rattle.chw_terms.specs.TermTree.{TermTree, var, made, letrec, con, prim, lit
 use Rattle.chw_terms.specs.TermTree.{Group, no_bindings, bind, no_alts, alt}
 use Rattle.chw_terms.specs.TermView.{applied, terms_of}
 use Rattle.chw_typing.specs.HeadTypes.{con_type}
+use Rattle.chw_layout.specs.Measured.{HasWidth}
 use Rattle.typing_laws.specs.Given.{types_then}
 use Rattle.rewriting.specs.Origins.{MadeOf, Origins}
 use Rattle.rewriting.specs.Spots.{asked_for}
@@ -43,6 +44,10 @@ mutual
 abbrev pub beginning_with : Prim → List TypeTree → TermTree → List ℕ → TermTree
 beginning_with p types c xs = on_names (applied (prim p) (types_then types (c ∷ []))) [] xs
 
+-- the type of a block RAM's content: a word for each address up to this one
+abbrev pub content_type : TypeTree → TypeTree → TypeTree
+content_type n a = vector (nat_sum n (nat_lit 1)) a
+
 -- `ap (.. (ap (fmap m x1) x2) ..) xn`: a made definition, lifted, on so many variables
 pub data IsLiftedCall (m : ℕ) : TermTree → ℕ → Type 0 where
   lifted_on_one : {d a b : TypeTree} {x : ℕ} → IsLiftedCall m (fmap_of d a b (made m) (var x)) 1
@@ -56,8 +61,9 @@ pub data IsCircuitSide (o : Origins) : TermTree → Type 0 where
   of_register : {d a : TypeTree} {c : TermTree} {x : ℕ}
       → IsConstant o.program.datas c
       → IsCircuitSide o (beginning_with Register (d ∷ a ∷ []) c (x ∷ []))
-  of_block_ram : {d n k a : TypeTree} {c : TermTree} {x y : ℕ}
-      → IsConstant o.program.datas c
+  -- of a block RAM also the content has a width
+  of_block_ram : {d n k a : TypeTree} {c : TermTree} {x y w : ℕ}
+      → IsConstant o.program.datas c → HasWidth o.program.datas (content_type n a) w
       → IsCircuitSide o (beginning_with BlockRam (d ∷ n ∷ k ∷ a ∷ []) c (x ∷ y ∷ []))
   of_synchronizer : {d e a : TypeTree} {x : ℕ}
       → IsCircuitSide o (on_names (prim UnsafeSynchronizer) (d ∷ e ∷ a ∷ []) (x ∷ []))

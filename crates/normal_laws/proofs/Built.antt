@@ -107,12 +107,12 @@ around_linked : {s : Setting} {kinds ks : List Kind} {vars vs : List TypeTree} {
 around_linked {s} {kinds} {vars = vars} {e = e} {alts = alts} {i = i} (in_branch {bound = bound} {u = u} {a = a} at d b here) h g t has = case_linked s kinds vars bound e u t alts a i h g has at d b
 
 -- of a type that is the same up to naturals as one whose widths hold
-record Held (o : Origins) (at : Spot) (e : TermTree) : Type 0 where
-  declared : TypeTree
-  widths : HoldsWidths o.program.datas declared
-  type : TypeTree
-  has : HasType (setting_at o) [] at.vars e type
-  same : SameTypes declared type
+pub record Held (o : Origins) (at : Spot) (e : TermTree) : Type 0 where
+  pub declared : TypeTree
+  pub widths : HoldsWidths o.program.datas declared
+  pub type : TypeTree
+  pub has : HasType (setting_at o) [] at.vars e type
+  pub same : SameTypes declared type
 
 -- the laws that are cited
 pub record Laws : Type 0 where
@@ -120,7 +120,7 @@ pub record Laws : Type 0 where
   pub kept : SameKeepsMeasure
   pub keep : FieldsKeepSame
 
-representable_asks_none : {datas : List Data} {t : TypeTree} → Representable datas t → AsksForNone t
+pub representable_asks_none : {datas : List Data} {t : TypeTree} → Representable datas t → AsksForNone t
 representable_asks_none representable_scalar = tt
 representable_asks_none (representable_vector r) = tt
 representable_asks_none (representable_data known many all) = tt
@@ -170,7 +170,7 @@ module _ (o : Origins) (sound : IsSound (setting_at o)) (laws : Laws) where
   root_place : (it : MadeOf) (body x : TermTree) (path : List ℕ) (at : Spot) (r : IsPlaceOf o it body path at x) → IsPlaceOf o it body (r.root ++ []) (spot (mode_of it.sort) true r.vars) r.term
   root_place it body x path at r = record { root = r.root; vars = r.vars; term = r.term; under = r.under; rest = []; active = at_it; is = refl }
 
-  held_place : (it : MadeOf) (body x : TermTree) (path : List ℕ) (at : Spot) → IsNormalBody o it body → IsPlaceOf o it body path at x → HasLets at.mode → Held o at x
+  pub held_place : (it : MadeOf) (body x : TermTree) (path : List ℕ) (at : Spot) → IsNormalBody o it body → IsPlaceOf o it body path at x → HasLets at.mode → Held o at x
   held_place it body x path at h r lets =
       let root = place_around o it body r.term (r.root ++ []) (spot (mode_of it.sort) true r.vars) sound h.typed (root_place it body x path at r) in
       let typed = part_typed root sound tt h.typed.type h.typed.has in

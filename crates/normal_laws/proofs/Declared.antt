@@ -56,7 +56,7 @@ lifted_on_signals p args (on_lifted d a b is are l) = on_signals p _ is tt
 
 circuit_on_signals : (datas : List Data) (p : Prim) (args : List Arg) → CircuitPrim datas p args → IsRowOnSignals (row_of p)
 circuit_on_signals datas p args (as_register d a x is are k) = on_signals p _ is tt
-circuit_on_signals datas p args (as_ram d n w a x y is are k) = on_signals p _ is tt
+circuit_on_signals datas p args (as_ram d n w a x y is are k h) = on_signals p _ is tt
 circuit_on_signals datas p args (as_synchronizer d e a x is are) = on_signals p _ is tt
 circuit_on_signals datas p args (as_pure d a is are k) = on_signals p _ is tt
 circuit_on_signals datas p args (as_lifted l) = lifted_on_signals p args l

@@ -13,7 +13,8 @@ use Rattle.typing_laws.specs.Given.{types_then}
 use Rattle.rewriting.specs.Origins.{Origins}
 use Rattle.rewriting.specs.Spots.{IsOnWords, TakesElement}
 use Rattle.rewriting.proofs.Spines.{head_of, head_applied, head_is, args_are}
-use Rattle.normal_forms.specs.Circuits.{IsConstant, constant_literal, constant_constructor, constant_vector, AreConstants, constant_and, IsLiftedCall, lifted_on_one, lifted_on_more}
+use Rattle.chw_layout.specs.Measured.{HasWidth}
+use Rattle.normal_forms.specs.Circuits.{IsConstant, constant_literal, constant_constructor, constant_vector, AreConstants, constant_and, content_type, IsLiftedCall, lifted_on_one, lifted_on_more}
 use Rattle.normal_forms.specs.Circuits.{IsCircuitSide, of_variable, of_register, of_block_ram, of_synchronizer, of_pure, of_lifted, of_call, of_constructor, of_projection}
 use Rattle.normal_forms.specs.Values.{IsSide, side_variable, side_literal, side_constructor, side_vector, side_primitive, side_call, side_case, AreBlocks}
 
@@ -47,7 +48,7 @@ lifted_no_let g e (lifted_on_more more) q = cc
 pub circuit_side_no_let : {o : Origins} {f : TermTree} (g : Group) (e : TermTree) → IsCircuitSide o f → letrec g e ≡ f → ⊥
 circuit_side_no_let g e of_variable q = cc
 circuit_side_no_let g e (of_register k) q = cc
-circuit_side_no_let g e (of_block_ram k) q = cc
+circuit_side_no_let g e (of_block_ram k h) q = cc
 circuit_side_no_let g e of_synchronizer q = cc
 circuit_side_no_let g e (of_pure k) q = cc
 circuit_side_no_let g e (of_lifted m is v l) q = lifted_no_let g e l q
@@ -87,7 +88,7 @@ lifted_no_case s alts (lifted_on_more more) q = cc
 pub circuit_side_of_case : {o : Origins} {f : TermTree} (s : TermTree) (alts : Alts) → IsCircuitSide o f → case_of s alts ≡ f → (x : ℕ) × (s ≡ var x)
 circuit_side_of_case s alts of_variable q = absurd cc
 circuit_side_of_case s alts (of_register k) q = absurd cc
-circuit_side_of_case s alts (of_block_ram k) q = absurd cc
+circuit_side_of_case s alts (of_block_ram k h) q = absurd cc
 circuit_side_of_case s alts of_synchronizer q = absurd cc
 circuit_side_of_case s alts (of_pure k) q = absurd cc
 circuit_side_of_case s alts (of_lifted m is v l) q = absurd (lifted_no_case s alts l q)
@@ -179,8 +180,8 @@ lifted_prim p args (lifted_on_more {d = d} {a = a} {b = b} {u = u} {x = x} l) q 
 -- a primitive among right sides of circuits
 pub data CircuitPrim (datas : List Data) (p : Prim) (args : List Arg) : Type 0 where
   as_register : {c : TermTree} (d a : TypeTree) (x : ℕ) → p ≡ Register → args ≡ OfType d ∷ OfType a ∷ OfTerm c ∷ OfTerm (var x) ∷ [] → IsConstant datas c → CircuitPrim datas p args
-  as_ram : {c : TermTree} (d n k a : TypeTree) (x y : ℕ) → p ≡ BlockRam → args ≡ OfType d ∷ OfType n ∷ OfType k ∷ OfType a ∷ OfTerm c ∷ OfTerm (var x) ∷ OfTerm (var y) ∷ [] → IsConstant datas c
-      → CircuitPrim datas p args
+  as_ram : {c : TermTree} {w : ℕ} (d n k a : TypeTree) (x y : ℕ) → p ≡ BlockRam → args ≡ OfType d ∷ OfType n ∷ OfType k ∷ OfType a ∷ OfTerm c ∷ OfTerm (var x) ∷ OfTerm (var y) ∷ [] → IsConstant datas c
+      → HasWidth datas (content_type n a) w → CircuitPrim datas p args
   as_synchronizer : (d e a : TypeTree) (x : ℕ) → p ≡ UnsafeSynchronizer → args ≡ OfType d ∷ OfType e ∷ OfType a ∷ OfTerm (var x) ∷ [] → CircuitPrim datas p args
   as_pure : {c : TermTree} (d a : TypeTree) → p ≡ Pure → args ≡ OfType d ∷ OfType a ∷ OfTerm c ∷ [] → IsConstant datas c → CircuitPrim datas p args
   as_lifted : LiftedPrim p args → CircuitPrim datas p args
@@ -190,9 +191,9 @@ circuit_prim p args of_variable q = let h = prim_headed p args (sym q) in absurd
 circuit_prim p args (of_register {d = d} {a = a} {c = c} {x = x} k) q =
     let more : List Arg = OfType d ∷ OfType a ∷ OfTerm c ∷ OfTerm (var x) ∷ [] in
     as_register d a x (same_prim p Register args more q) (same_args p Register args more q) k
-circuit_prim p args (of_block_ram {d = d} {n = n} {k = w} {a = a} {c = c} {x = x} {y = y} k) q =
+circuit_prim p args (of_block_ram {d = d} {n = n} {k = w} {a = a} {c = c} {x = x} {y = y} k h) q =
     let more : List Arg = OfType d ∷ OfType n ∷ OfType w ∷ OfType a ∷ OfTerm c ∷ OfTerm (var x) ∷ OfTerm (var y) ∷ [] in
-    as_ram d n w a x y (same_prim p BlockRam args more q) (same_args p BlockRam args more q) k
+    as_ram d n w a x y (same_prim p BlockRam args more q) (same_args p BlockRam args more q) k h
 circuit_prim p args (of_synchronizer {d = d} {e = e} {a = a} {x = x}) q =
     let more : List Arg = OfType d ∷ OfType e ∷ OfType a ∷ OfTerm (var x) ∷ [] in
     as_synchronizer d e a x (same_prim p UnsafeSynchronizer args more q) (same_args p UnsafeSynchronizer args more q)

@@ -170,7 +170,7 @@ module _ (o : Origins) (ground : Ground o) where
       let same : a ≡ t = cc in
       let has = subst (λ r. HasType (setting_at o) [] at.vars (applied (prim r) (OfType d ∷ OfType a ∷ OfTerm c ∷ OfTerm (var x) ∷ [])) ported.type) is (subst (λ xs. HasType (setting_at o) [] at.vars (applied (prim p) xs) ported.type) are ported.has) in
       subst (Representable o.program.datas) same (register_held at.vars d a c (var x) ported.type typed has ported.port)
-  circuit_held at p args j t (as_ram {c = c} d n w a x y is are k) h get typed ported =
+  circuit_held at p args j t (as_ram {c = c} d n w a x y is are k f) h get typed ported =
       let place : j ≡ 3 = subst (λ r. HasPayload r j) is h in
       let there : slice_get args 3 ≡ Some (OfType t) = subst (λ n. slice_get args n ≡ Some (OfType t)) place get in
       let known : slice_get (OfType d ∷ OfType n ∷ OfType w ∷ OfType a ∷ OfTerm c ∷ OfTerm (var x) ∷ OfTerm (var y) ∷ []) 3 ≡ Some (OfType t) = subst (λ xs. slice_get xs 3 ≡ Some (OfType t)) are there in

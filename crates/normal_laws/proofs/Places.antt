@@ -232,7 +232,7 @@ module _ (o : Origins) where
 
   circuit_looks : (at : Spot) (p : Prim) (args : List Arg) (i : ℕ) (a : TermTree) → at.mode ≡ HC → CircuitPrim o.program.datas p args → LooksAt p i → slice_get args i ≡ Some (OfTerm a) → Stands o at a
   circuit_looks at p args i a m (as_register d s x is are c) looks h = absurd (subst (λ r. LooksAt r i) is looks)
-  circuit_looks at p args i a m (as_ram d n k s x y is are c) looks h = absurd (subst (λ r. LooksAt r i) is looks)
+  circuit_looks at p args i a m (as_ram d n k s x y is are c f) looks h = absurd (subst (λ r. LooksAt r i) is looks)
   circuit_looks at p args i a m (as_synchronizer d e s x is are) looks h = absurd (subst (λ r. LooksAt r i) is looks)
   circuit_looks at p args i a m (as_pure d s is are c) looks h = absurd (subst (λ r. LooksAt r i) is looks)
   circuit_looks at p args i a m (as_lifted l) looks h = lifted_looks at p args i a m l looks h
@@ -263,7 +263,7 @@ module _ (o : Origins) where
       let known : slice_get (OfType d ∷ OfType s ∷ OfTerm c ∷ OfTerm (var x) ∷ []) 2 ≡ Some (OfTerm a) = subst (λ xs. slice_get xs 2 ≡ Some (OfTerm a)) are there in
       let same : c ≡ a = cc in
       constant_below at a (subst (IsConstant o.program.datas) same k)
-  circuit_begins at p args i j a (as_ram {c = c} d n w s x y is are k) b h =
+  circuit_begins at p args i j a (as_ram {c = c} d n w s x y is are k f) b h =
       let place : i ≡ 4 = (subst (λ r. BeginsWith r i j) is b).0 in
       let there : slice_get args 4 ≡ Some (OfTerm a) = subst (λ n. slice_get args n ≡ Some (OfTerm a)) place h in
       let known : slice_get (OfType d ∷ OfType n ∷ OfType w ∷ OfType s ∷ OfTerm c ∷ OfTerm (var x) ∷ OfTerm (var y) ∷ []) 4 ≡ Some (OfTerm a) = subst (λ xs. slice_get xs 4 ≡ Some (OfTerm a)) are there in

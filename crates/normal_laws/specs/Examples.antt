@@ -1,5 +1,5 @@
--- A body in normal form that is blocked: the content of its block RAM is wider than data may be.
-use Rattle.std.specs.Prelude.{false, [], ◌∷◌, replicate}
+-- The width of a block RAM's content: a body at the limit, in normal form, and one past it.
+use Rattle.std.specs.Prelude.{ℕ, suc, false, List, [], ◌∷◌, replicate}
 use Rattle.chw_types.specs.declared.kind.Scalar.TheVariants.{U}
 use Rattle.chw_types.specs.TypeTree.{TypeTree, nat_lit, domain, scalar, signal}
 use Rattle.chw_prims.specs.declared.prim.Primitive.TheVariants.{BlockRam}
@@ -14,15 +14,15 @@ use Rattle.normal_forms.specs.Circuits.{beginning_with}
 use Rattle.normal_forms.specs.Examples.{here}
 use Rattle.normal_forms.specs.Normal.{IsNormalBody}
 
--- `Unsigned 128`, its zero, and 33 of them, which are 4,224 bits
+-- `Unsigned 128`, its zero, and one of it for each address up to this one
 abbrev pub wide : TypeTree
 wide = scalar U (nat_lit 128)
 
 abbrev pub wide_zero : TermTree
 wide_zero = lit U (replicate 128 false)
 
-abbrev pub content : TermTree
-content = vec_lit wide (terms_of (replicate 33 wide_zero))
+abbrev pub content : ℕ → TermTree
+content last = vec_lit wide (terms_of (replicate (suc last) wide_zero))
 
 -- signals of places, of writes and of what is read
 abbrev pub place : TypeTree
@@ -37,21 +37,29 @@ writes = signal (domain 0) (maybe (pair place wide))
 abbrev pub reads : TypeTree
 reads = signal (domain 0) wide
 
--- `letrec { r : Signal A (Unsigned 128) = blockRam @A @32 @6 @(Unsigned 128) content p w; p : ..
+-- `letrec { r : Signal A (Unsigned 128) = blockRam @A @last @6 @(Unsigned 128) content p w; p : ..
 -- = p; w : .. = w; } in r`
-abbrev pub ram : TermTree
-ram = beginning_with BlockRam (domain 0 ∷ nat_lit 32 ∷ nat_lit 6 ∷ wide ∷ []) content (1 ∷ 0 ∷ [])
+abbrev pub ram : ℕ → TermTree
+ram last =
+    let types : List TypeTree = domain 0 ∷ nat_lit last ∷ nat_lit 6 ∷ wide ∷ [] in
+    beginning_with BlockRam types (content last) (1 ∷ 0 ∷ [])
 
-abbrev pub memory : TermTree
-memory = letrec (bind reads ram (bind places (var 1) (bind writes (var 0) no_bindings))) (var 2)
+abbrev pub memory : ℕ → TermTree
+memory last =
+    letrec (bind reads (ram last) (bind places (var 1) (bind writes (var 0) no_bindings))) (var 2)
 
 abbrev pub remembering : MadeOf
 remembering = record { origin = var 0; ty = reads; sort = Circuit }
 
--- it is in normal form
+-- 32 words have 4,096 bits, and the body is in normal form
 abbrev pub MemoryIsNormal : Type 0
-MemoryIsNormal = IsNormalBody here remembering memory
+MemoryIsNormal = IsNormalBody here remembering (memory 31)
 
--- and it is blocked at the block RAM's content, whose width is 33 times 128
-abbrev pub MemoryIsBlocked : Type 0
-MemoryIsBlocked = IsBlocked here remembering memory (0 ∷ 0 ∷ 0 ∷ 1 ∷ []) (limit (OverData 4224))
+-- 33 words have 4,224 bits, and the body isn't
+abbrev pub LargerIsNotNormal : Type 0
+LargerIsNotNormal = IsNormalBody here remembering (memory 32) → ⊥
+
+-- it is blocked at the block RAM's content
+abbrev pub LargerIsBlocked : Type 0
+LargerIsBlocked =
+    IsBlocked here remembering (memory 32) (0 ∷ 0 ∷ 0 ∷ 1 ∷ []) (limit (OverData 4224))

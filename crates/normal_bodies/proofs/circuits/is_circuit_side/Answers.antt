@@ -29,7 +29,7 @@ returns-in-Con c =
     let args = c.term.inside.args.items in
     let r = c.is_con_on_names.result in
     let n = c.in-Con.at.number in
-    let known = subst (λ datas. IsTrue r ↔ IsConOnNames datas n c.as_slice-args.result.now) c.requires.constructors c.is_con_on_names.ensures in
+    let known = subst (λ datas. IsTrue r ↔ IsConOnNames datas n c.as_slice-args.result.now) c.requires.table.constructors c.is_con_on_names.ensures in
     let own = subst (λ xs. IsTrue r ↔ IsConOnNames o.program.datas n xs) c.as_slice-args.ensures.value known in
     subst (λ e. IsTrue r ↔ IsCircuitSide o e) c.term.view_is
     (through r _ _ (subst (λ k. IsTrue r ↔ CircuitOn o (tree_of k) args) (sym c.in-Con.is) own) (circuit_told o (tree_of h) args (bare h)))
@@ -59,7 +59,8 @@ returns-in-Case c =
 pub is_prim_side-requires : goal.is_prim_side-requires
 is_prim_side-requires c =
     record {
-      table = c.requires;
+      order = c.requires.order;
+      table = c.requires.table;
       is = sym c.term.view_is ∙ ap (λ k. applied (tree_of k) c.term.inside.args.items) c.in-PrimOf.is ∙ ap (applied (prim c.in-PrimOf.which)) (sym c.as_slice-args.ensures.value);
     }
 

@@ -19,6 +19,6 @@ returns c =
     let o = origins_of c.args.scene.now in
     let p = c.args.which in
     let args = c.args.args.now in
-    let r = c.is_signal_side.result in
-    signal_told o p args r (not_told c.is_lifting.result _ c.if-is_lifting.false c.is_lifting.ensures)
-    (subst (λ datas. IsTrue r ↔ IsSignalSide datas p args) c.requires.table.constructors c.is_signal_side.ensures)
+    ok_more c.is_signal_side.result (λ b. IsTrue b ↔ IsSignalSide c.as_slice-datas.result.now p args) (λ b. IsTrue b ↔ IsPrimSide o p args)
+    (λ b is. signal_told o p args b (not_told c.is_lifting.result _ c.if-is_lifting.false c.is_lifting.ensures) (subst (λ datas. IsTrue b ↔ IsSignalSide datas p args) c.as_slice-datas.ensures is))
+    c.is_signal_side.ensures
