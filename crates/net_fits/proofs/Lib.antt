@@ -1,3 +1,4 @@
+pub mod Beginning
 pub mod CallShapes
 pub mod Calls
 pub mod CircuitBodies

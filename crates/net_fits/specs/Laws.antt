@@ -7,6 +7,7 @@ use Rattle.chw_clock.specs.declared.event.Ports.{Ports}
 use Rattle.chw_types.specs.TypeTree.{TypeTree}
 use Rattle.chw_terms.specs.declared.program.Def.{Def}
 use Rattle.chw_terms.specs.declared.program.Program.{Program}
+use Rattle.chw_terms.specs.declared.rule.Rule.{Rule}
 use Rattle.chw_terms.specs.declared.scene.Made.{Made}
 use Rattle.chw_terms.specs.declared.scene.Sort.TheVariants.{Value, Circuit}
 use Rattle.chw_terms.specs.TermTree.{TermTree}
@@ -22,6 +23,7 @@ use Rattle.net_rules.specs.WellFormed.{DriversHold, LimitsHold, NamesExist, Name
 use Rattle.net_rules.specs.WellFormed.{Together, WellFormed, WidthsHold}
 use Rattle.rewriting.specs.Named.{UnderLambdas}
 use Rattle.rewriting.specs.Origins.{Origins, setting_at}
+use Rattle.rewriting.specs.Runs.{Run, Step}
 use Rattle.normal_forms.specs.Circuits.{IsCircuitBody}
 use Rattle.normal_forms.specs.Normal.{IsNormal}
 use Rattle.rule_types.specs.States.{IsTypedState}
@@ -91,6 +93,12 @@ pub record BeginsWithTop (p : Program) (state : List Made) : Type 0 where
   pub type : (it : Made) (top : Def) → slice_get state 0 ≡ Some it
       → slice_get p.defs p.top.«def».number ≡ Some top → it.ty ≡ top.ty
 
+-- each state of a run does so
+abbrev pub RunsBeginWithTop : Type 0
+RunsBeginWithTop =
+    (rules : List Rule) (p : Program) (n : ℕ) (steps : List Step) (made : List Made)
+    → Run rules p n steps made → BeginsWithTop p made
+
 -- the module at this place of the net keeps the rule on names, and its first wires, which are its
 -- inputs, are as wide as the ports
 pub record TopKept (net : Net) (i : ℕ) (m : Module) : Type 0 where
@@ -120,6 +128,13 @@ BuiltIsWellFormed =
     (p : Program) (state : List Made) (net : Net)
     → IsTypedState p state → IsNormal p state → Built p state net
     → BeginsWithTop p state → KeepsTheRest net → WellFormed net
+
+-- so is what is built of a typed normal state to which a run leads
+abbrev pub RunsBuildWellFormed : Type 0
+RunsBuildWellFormed =
+    (rules : List Rule) (p : Program) (n : ℕ) (steps : List Step) (state : List Made) (net : Net)
+    → Run rules p n steps state → IsTypedState p state → IsNormal p state → Built p state net
+    → KeepsTheRest net → WellFormed net
 
 -- the ports of a typed state's program keep the rules on ports
 abbrev pub PortsAreKept : Type 0

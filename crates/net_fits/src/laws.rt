@@ -1,5 +1,5 @@
 //! The laws, each as the contract of a call that does nothing.
-ghost use Rattle.net_fits.specs.Laws.{ValueBodiesDriveInOrder, CircuitBodiesDriveInOrder, DriversAreKept, HasModules, NamesAreThere, TopsAreKept, BuiltIsWellFormed, PortsAreKept};
+ghost use Rattle.net_fits.specs.Laws.{ValueBodiesDriveInOrder, CircuitBodiesDriveInOrder, DriversAreKept, HasModules, NamesAreThere, TopsAreKept, BuiltIsWellFormed, PortsAreKept, RunsBeginWithTop, RunsBuildWellFormed};
 
 use layout_laws::laws::same_types_keep_layout;
 use rule_types::laws::steps_keep;
@@ -50,6 +50,11 @@ pub fn names_are_there()
     steps_keep();
 }
 
+/// Each state of a run begins with the top.
+pub fn runs_begin_with_top()
+    ensures { RunsBeginWithTop }
+{}
+
 /// The last module that is built keeps the rule on names, and has inputs as wide as the ports.
 pub fn tops_are_kept()
     ensures { TopsAreKept }
@@ -68,9 +73,11 @@ pub fn ports_are_kept()
     steps_keep();
 }
 
-/// What is built is well formed, if it keeps the rules of which this isn't proved.
+/// What is built is well formed, if it keeps the rules of which this isn't proved: of a state that
+/// begins with the top, and so of one to which a run leads.
 pub fn built_is_well_formed()
-    ensures { BuiltIsWellFormed }
+    ensures states { BuiltIsWellFormed }
+    ensures runs { RunsBuildWellFormed }
 {
     fields_keep_same();
     same_types_keep_layout();
