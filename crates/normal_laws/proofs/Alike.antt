@@ -41,7 +41,7 @@ leaves_beside s [] ms (k ∷ ks) ns a b = absurd a
 leaves_beside s (l ∷ ls) ms [] ns a b = absurd a
 
 -- the leaf at this place
-leaf_like : (s : Setting) (ls ms : List Leaf) (i : ℕ) (l : Leaf) → LikeLeaves s ls ms → slice_get ls i ≡ Some l → (m : Leaf) × (slice_get ms i ≡ Some m) × AreLike s l.payload m.payload
+pub leaf_like : (s : Setting) (ls ms : List Leaf) (i : ℕ) (l : Leaf) → LikeLeaves s ls ms → slice_get ls i ≡ Some l → (m : Leaf) × (slice_get ms i ≡ Some m) × AreLike s l.payload m.payload
 leaf_like s [] ms i l like h = absurd cc
 leaf_like s (k ∷ ls) [] i l like h = absurd like
 leaf_like s (k ∷ ls) (m ∷ ms) zero l like h = let same : k ≡ l = cc in (m, refl, subst (λ (x : Leaf). AreLike s x.payload m.payload) same like.0)
@@ -49,7 +49,7 @@ leaf_like s (k ∷ ls) (m ∷ ms) (suc i) l like h = leaf_like s ls ms i l like.
 
 module _ (s : Setting) (sound : IsSound s) (keep : FieldsKeepSame) where
   mutual
-    leaves_like : {t u : TypeTree} {ls : List Leaf} → Leaves s.datas t ls → AreLike s t u → (ms : List Leaf) × Leaves s.datas u ms × LikeLeaves s ls ms
+    pub leaves_like : {t u : TypeTree} {ls : List Leaf} → Leaves s.datas t ls → AreLike s t u → (ms : List Leaf) × Leaves s.datas u ms × LikeLeaves s ls ms
     leaves_like (one_leaf {dom = dom} {t = t} r) l =
         let at = as_signal l.same in
         let like = payload_like s (domain dom.number) t at.1 l.kind l.has at.4 in

@@ -50,11 +50,11 @@ declared_holds P (bind t e g) (suc i) b all h = declared_holds P g i b all.1 h
 on_signals : (p r : Prim) → p ≡ r → IsRowOnSignals (row_of r) → IsRowOnSignals (row_of p)
 on_signals p r q h = subst (λ x. IsRowOnSignals (row_of x)) (sym q) h
 
-lifted_on_signals : (p : Prim) (args : List Arg) → LiftedPrim p args → IsRowOnSignals (row_of p)
+pub lifted_on_signals : (p : Prim) (args : List Arg) → LiftedPrim p args → IsRowOnSignals (row_of p)
 lifted_on_signals p args (on_made d a b is are) = on_signals p _ is tt
 lifted_on_signals p args (on_lifted d a b is are l) = on_signals p _ is tt
 
-circuit_on_signals : (datas : List Data) (p : Prim) (args : List Arg) → CircuitPrim datas p args → IsRowOnSignals (row_of p)
+pub circuit_on_signals : (datas : List Data) (p : Prim) (args : List Arg) → CircuitPrim datas p args → IsRowOnSignals (row_of p)
 circuit_on_signals datas p args (as_register d a x is are k) = on_signals p _ is tt
 circuit_on_signals datas p args (as_ram d n w a x y is are k h) = on_signals p _ is tt
 circuit_on_signals datas p args (as_synchronizer d e a x is are) = on_signals p _ is tt

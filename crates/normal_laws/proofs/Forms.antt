@@ -1,17 +1,18 @@
 -- The forms of right sides and of constants, by their heads.
-use Rattle.std.proofs.Common.{◌≡◌, ◌⊎◌, ℕ, zero, suc, List, [], ◌∷◌, map, Some, refl, sym, ap, ◌∙◌, subst}
+use Rattle.std.proofs.Common.{◌≡◌, ◌⊎◌, ℕ, zero, suc, ◌+◌, List, [], ◌∷◌, map, length, Some, refl, sym, ap, ◌∙◌, subst}
 use Rattle.std.specs.List.{slice_get}
 use Rattle.chw_types.specs.declared.declarations.Data.{Data}
 use Rattle.chw_types.specs.TypeTree.{TypeTree}
 use Rattle.chw_prims.specs.declared.prim.Primitive.{Primitive as Prim}
 use Rattle.chw_prims.specs.declared.prim.Primitive.TheVariants.{Fmap, Ap, Pure, Register, BlockRam, UnsafeSynchronizer}
+use Rattle.chw_prims.specs.Schemas.{schema_type}
 use Rattle.chw_terms.specs.declared.term.Arg.{Arg}
 use Rattle.chw_terms.specs.declared.term.Arg.TheVariants.{OfTerm, OfType}
 use Rattle.chw_terms.specs.TermTree.{TermTree, var, made, letrec, con, prim, vec_lit, case_of, Terms, Group, Alts}
 use Rattle.chw_terms.specs.TermView.{applied, terms_of}
 use Rattle.typing_laws.specs.Given.{types_then}
 use Rattle.rewriting.specs.Origins.{Origins}
-use Rattle.rewriting.specs.Spots.{IsOnWords, TakesElement}
+use Rattle.rewriting.specs.Spots.{asked_for, IsOnWords, TakesElement}
 use Rattle.rewriting.proofs.Spines.{head_of, head_applied, head_is, args_are}
 use Rattle.chw_layout.specs.Measured.{HasWidth}
 use Rattle.normal_forms.specs.Circuits.{IsConstant, constant_literal, constant_constructor, constant_vector, AreConstants, constant_and, content_type, IsLiftedCall, lifted_on_one, lifted_on_more}
@@ -137,6 +138,7 @@ pub record SidePrim (p : Prim) (args : List Arg) : Type 0 where
   pub xs : List ℕ
   pub are : args ≡ types_then types (map (λ x. var x) xs)
   pub sort : IsOnWords p ⊎ TakesElement p
+  pub many : length types + length xs ≡ asked_for (schema_type p)
 
 pub side_prim : {o : Origins} {vars : List TypeTree} {f : TermTree} (p : Prim) (args : List Arg) → IsSide o vars f → applied (prim p) args ≡ f → SidePrim p args
 side_prim p args side_variable q = let h = prim_headed p args (sym q) in absurd cc
@@ -152,6 +154,7 @@ side_prim p args (side_primitive r types xs w n) q =
       xs = xs;
       are = args_are (prim p) (prim r) args (types_then types (map (λ x. var x) xs)) (record { itself = refl; alone = refl }) (record { itself = refl; alone = refl }) q;
       sort = subst (λ x. IsOnWords x ⊎ TakesElement x) same w;
+      many = subst (λ x. length types + length xs ≡ asked_for (schema_type x)) same n;
     }
 side_prim p args (side_call m xs is v n) q =
     let h : prim p ≡ made m = head_is (prim p) (made m) args (types_then [] (map (λ x. var x) xs)) (record { itself = refl; alone = refl }) (record { itself = refl; alone = refl }) q in absurd cc

@@ -1,9 +1,14 @@
 pub mod Alike
+pub mod Along
+pub mod Begins
 pub mod Built
 pub mod Declared
+pub mod Fits
 pub mod Forms
 pub mod Memory
 pub mod Payloads
 pub mod Places
 pub mod Recursion
+pub mod Sizes
 pub mod Typed
+pub mod Unblocked

@@ -283,7 +283,7 @@ module _ (o : Origins) where
   begun_below at p args i j a m (in_circuits v c) b h = circuit_begins at p args i j a c b h
   begun_below at p args i j a m (in_lifted v l) b h = absurd cc
 
-  no_prim_in_constants : (at : Spot) (p : Prim) (args : List Arg) → at.mode ≡ K → PrimStands o at p args → ⊥
+  pub no_prim_in_constants : (at : Spot) (p : Prim) (args : List Arg) → at.mode ≡ K → PrimStands o at p args → ⊥
   no_prim_in_constants at p args m (in_values v s) = cc
   no_prim_in_constants at p args m (in_circuits v s) = cc
   no_prim_in_constants at p args m (in_lifted v s) = cc

@@ -17,8 +17,8 @@ use Rattle.rewriting.specs.Origins.{Origins, made_of}
 use Rattle.rewriting.specs.Spots.{Spot, HasLets, TakesElement}
 use Rattle.rewriting.specs.Steps.{origins_in}
 use Rattle.rule_types.specs.States.{IsTypedState}
-use Rattle.normal_forms.specs.Blocked.{recursion, payload, limit, IsBlocked, Passes, Size, sizes_in}
-use Rattle.normal_forms.specs.Blocked.{IsOver, types_asked}
+use Rattle.normal_forms.specs.Blocked.{Block, recursion, payload, limit, IsBlocked, Passes, Size}
+use Rattle.normal_forms.specs.Blocked.{sizes_in, IsOver, types_asked}
 use Rattle.normal_forms.specs.Normal.{IsNormalBody}
 
 -- no cycle of bindings blocks a body in normal form
@@ -69,3 +69,11 @@ NormalBuildsNoLimit =
     → IsNormalBody (origins_in p state) (made_of it) it.body
     → IsPlaceOf (origins_in p state) (made_of it) it.body path at e → HasLets at.mode
     → FindsAt (origins_in p state) at e t → Passes p.datas t l → ⊥
+
+-- so nothing blocks one
+abbrev pub NormalIsNotBlocked : Type 0
+NormalIsNotBlocked =
+    (p : Program) (state : List Made) (m : ℕ) (it : Made) (path : List ℕ) (b : Block)
+    → IsTypedState p state → slice_get state m ≡ Some it
+    → IsNormalBody (origins_in p state) (made_of it) it.body
+    → IsBlocked (origins_in p state) (made_of it) it.body path b → ⊥

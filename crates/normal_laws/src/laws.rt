@@ -1,12 +1,12 @@
 //! The laws, each as the contract of a call that does nothing.
-ghost use Rattle.normal_laws.specs.Laws.{NormalHasNoRecursion, NormalHasNoPayload, NormalDeclaresNoLimit, NormalBuildsNoLimit};
+ghost use Rattle.normal_laws.specs.Laws.{NormalHasNoRecursion, NormalHasNoPayload, NormalDeclaresNoLimit, NormalBuildsNoLimit, NormalIsNotBlocked};
 
-use chw_layout::laws::one_measure;
-use layout_laws::laws::same_types_keep_layout;
+use chw_layout::laws::{measured_types, one_measure};
+use layout_laws::laws::{same_naturals_mean_one_number, same_types_keep_layout};
 use rewriting::scene_laws::names_of_modes;
 use rule_types::laws::steps_keep;
 use type_laws::laws::fields_keep_same;
-use typing_laws::spine_laws::saturated_spines;
+use typing_laws::spine_laws::{saturated_spines, spines_are_saturated};
 
 /// No cycle of bindings blocks a body in normal form.
 pub fn normal_has_no_recursion()
@@ -39,5 +39,20 @@ pub fn normal_builds_no_limit()
     fields_keep_same();
     one_measure();
     same_types_keep_layout();
+    steps_keep();
+}
+
+/// Nothing blocks a body in normal form.
+pub fn normal_is_not_blocked()
+    ensures { NormalIsNotBlocked }
+{
+    fields_keep_same();
+    measured_types();
+    names_of_modes();
+    one_measure();
+    same_naturals_mean_one_number();
+    same_types_keep_layout();
+    saturated_spines();
+    spines_are_saturated();
     steps_keep();
 }
