@@ -23,7 +23,7 @@ use Rattle.net_fits.proofs.EachOnce.{DrivesEachOnce}
 use Rattle.net_fits.proofs.Outputs.{outputs_counted}
 
 -- a made definition with an output
-abbrev Outputting : List Data → List Made → ℕ → Type 0
+abbrev pub Outputting : List Data → List Made → ℕ → Type 0
 Outputting datas state m = (it : Made) × (count : ℕ) × (slice_get state m ≡ Some it) × HasOutputs datas it (suc count)
 
 -- so each in this list
@@ -82,7 +82,7 @@ none_output : (datas : List Data) (state : List Made) → EachOutputs datas stat
 none_output datas state = record { each = λ i m e. absurd cc }
 
 -- the module of a made definition with an output has one
-has_output : FieldsKeepSame → SameKeepsMeasure → StatesHaveTypedOrigins → (p : Program) (state : List Made) (order : List ℕ) (m : ℕ) (it : Made) (built : Module) (count : ℕ) → IsTypedState p state → IsNormal p state → slice_get state m ≡ Some it → IsModuleOf (ground_of p order) it built → HasOutputs p.datas it (suc count) → 1 ≤ length built.outputs
+pub has_output : FieldsKeepSame → SameKeepsMeasure → StatesHaveTypedOrigins → (p : Program) (state : List Made) (order : List ℕ) (m : ℕ) (it : Made) (built : Module) (count : ℕ) → IsTypedState p state → IsNormal p state → slice_get state m ≡ Some it → IsModuleOf (ground_of p order) it built → HasOutputs p.datas it (suc count) → 1 ≤ length built.outputs
 has_output keep law typed_origins p state order m it built count typed normal is made_of some =
     let body = normal.bodies m it is in
     let sound = (typed_origins p state typed).sound in
@@ -92,22 +92,26 @@ has_output keep law typed_origins p state order m it built count typed normal is
     let are = some.are in
     omega (arith, counted, are)
 
+-- each made definition with a module but the last has an output
+pub some_outputs : (p : Program) (state : List Made) (net : Net) (of : Built p state net) (i m : ℕ) → i + 1 < length net.modules → slice_get of.order i ≡ Some m → Outputting p.datas state m
+some_outputs p state net of i m less here =
+    let below : List ℕ = of.is_order.below in
+    let many = as_many (ground_of p of.order) state of.order net.modules of.modules in
+    let whole : of.order ≡ below ++ 0 ∷ [] = of.is_order.whole in
+    let longer : length (below ++ 0 ∷ []) ≡ length below + 1 = length-append below (0 ∷ []) in
+    let size : length of.order ≡ length (below ++ 0 ∷ []) = ap (λ (l : List ℕ). length l) whole in
+    let within : i < length below = omega (arith, less, many, size, longer) in
+    let before = before_last below 0 i m within (subst (λ l. slice_get l i ≡ Some m) whole here) in
+    (all_output of.is_order.visited (none_output p.datas state)).each i m before
+
 pub drivers_hold : FieldsKeepSame → SameKeepsMeasure → StatesHaveTypedOrigins → (p : Program) (state : List Made) (net : Net) (i : ℕ) (built : Module) → IsTypedState p state → IsNormal p state → (of : Built p state net) → slice_get net.modules i ≡ Some built → DrivesEachOnce built → DriversHold net i built
 drivers_hold keep law typed_origins p state net i built typed normal of here drives =
     record {
       inputs = drives.inputs;
       drivers = drives.once;
       outputs = λ less.
-          let below : List ℕ = of.is_order.below in
-          let ground : Ground = ground_of p of.order in
-          let at = module_at ground state of.order net.modules i built of.modules here in
-          let many = as_many ground state of.order net.modules of.modules in
-          let whole : of.order ≡ below ++ 0 ∷ [] = of.is_order.whole in
-          let longer : length (below ++ 0 ∷ []) ≡ length below + 1 = length-append below (0 ∷ []) in
-          let size : length of.order ≡ length (below ++ 0 ∷ []) = ap (λ (l : List ℕ). length l) whole in
-          let within : i < length below = omega (arith, less, many, size, longer) in
-          let before = before_last below 0 i at.number within (subst (λ l. slice_get l i ≡ Some at.number) whole at.here) in
-          let out = (all_output of.is_order.visited (none_output p.datas state)).each i at.number before in
+          let at = module_at (ground_of p of.order) state of.order net.modules i built of.modules here in
+          let out = some_outputs p state net of i at.number less at.here in
           has_output keep law typed_origins p state of.order at.number at.it built out.1 typed normal at.is at.made_of (subst (λ it. HasOutputs p.datas it (suc out.1)) (sym (same_some at.is out.2)) out.3);
     }
 

@@ -55,7 +55,7 @@ choice_sized w [] rs at h = h
 choice_sized w (t ∷ ts) rs at h = count_from _ (wire_count (w ∷ []))
 
 -- there is an alternative
-abbrev HasOne : Alts → Type 0
+abbrev pub HasOne : Alts → Type 0
 HasOne no_alts = ⊥
 HasOne (alt q e more) = Unit {0}
 

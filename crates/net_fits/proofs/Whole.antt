@@ -20,6 +20,7 @@ use Rattle.net_fits.specs.Laws.{BeginsWithTop, KeepsTheRest}
 use Rattle.net_fits.proofs.Drivers.{drivers_hold, has_module}
 use Rattle.net_fits.proofs.Modules.{net_drives}
 use Rattle.net_fits.proofs.Names.{names_there}
+use Rattle.net_fits.proofs.OutputWidths.{some_wires}
 use Rattle.net_fits.proofs.Tops.{last_kept}
 
 module _ (keep : FieldsKeepSame) (law : SameKeepsMeasure) (con_args : ConAtArguments) (saturated : ConIsSaturated) (prim_args : PrimAtArguments) (typed_origins : StatesHaveTypedOrigins) (p : Program) (state : List Made) (net : Net) (of : Built p state net) (typed : IsTypedState p state) (normal : IsNormal p state) (begins : BeginsWithTop p state) (rules : PortsHold net.ports) (rest : KeepsTheRest net) where
@@ -29,7 +30,7 @@ module _ (keep : FieldsKeepSame) (law : SameKeepsMeasure) (con_args : ConAtArgum
       let within = slice_get_within net.modules i m here in
       let other = eqb-false (i + 1) (length net.modules) e in
       let there = names_there keep law con_args saturated prim_args typed_origins p state net of typed normal i m here in
-      record { cells = there.cells; outputs = there.outputs (rest.wires i m here (omega (arith, within, other))); top = λ last. absurd (omega (arith, last, other)) }
+      record { cells = there.cells; outputs = there.outputs (some_wires keep law con_args saturated prim_args typed_origins p state net of typed normal i m here (omega (arith, within, other))); top = λ last. absurd (omega (arith, last, other)) }
 
   each_rule : (i : ℕ) (m : Module) → slice_get net.modules i ≡ Some m → EachRuleHolds net i m
   each_rule i m here Name = names_by i m here (i + 1 == length net.modules) refl

@@ -1,5 +1,5 @@
 -- What is promised of what is built.
-use Rattle.std.specs.Prelude.{◌≡◌, ℕ, ◌+◌, ◌<◌, ◌≤◌, List, [], length, take, Some, slice_get}
+use Rattle.std.specs.Prelude.{◌≡◌, ℕ, ◌+◌, ◌<◌, ◌≤◌, List, [], ◌∷◌, length, take, Some, slice_get}
 use Rattle.std.specs.List.{AllByRecursion}
 use Rattle.chw_base.specs.declared.index.WireId.{WireId}
 use Rattle.chw_clock.specs.declared.event.Port.{Port}
@@ -11,6 +11,7 @@ use Rattle.chw_terms.specs.declared.rule.Rule.{Rule}
 use Rattle.chw_terms.specs.declared.scene.Made.{Made}
 use Rattle.chw_terms.specs.declared.scene.Sort.TheVariants.{Value, Circuit}
 use Rattle.chw_terms.specs.TermTree.{TermTree}
+use Rattle.chw_layout.specs.Measured.{HasWidth as TypeHasWidth}
 use Rattle.chw_meaning.specs.Means.{HasPorts}
 use Rattle.chw_typing.specs.Programs.{IsSound}
 use Rattle.chw_typing.specs.Scopes.{Setting}
@@ -28,11 +29,14 @@ use Rattle.normal_forms.specs.Circuits.{IsCircuitBody}
 use Rattle.normal_forms.specs.Normal.{IsNormal}
 use Rattle.rule_types.specs.States.{IsTypedState}
 use Rattle.net_built.specs.Bodies.{BodyBuilt}
-use Rattle.net_built.specs.Built.{Built}
+use Rattle.net_built.specs.Built.{Built, ground_of}
 use Rattle.net_built.specs.Circuits.{Ground}
 use Rattle.net_built.specs.InOrder.{DrivesInOrder}
 use Rattle.net_built.specs.Loops.{HasNoLoops}
-use Rattle.net_built.specs.Wires.{Piece}
+use Rattle.net_built.specs.Modules.{IsModuleOf}
+use Rattle.net_built.specs.Terms.{result_of}
+use Rattle.net_built.specs.Wires.{Piece, present}
+use Rattle.net_fits.specs.Widths.{AreWide}
 
 -- what terms typed over this are built over, with modules in this order
 abbrev pub ground_over : Setting → List ℕ → Ground
@@ -87,6 +91,22 @@ NamesAreThere =
     → IsTypedState p state → IsNormal p state → Built p state net
     → slice_get net.modules i ≡ Some m → NamesThere net i m
 
+-- the outputs of the module at a place of the order, which is that of a made definition of values,
+-- are as wide as what it gives
+abbrev pub ValueOutputsAreWide : Type 0
+ValueOutputsAreWide =
+    (p : Program) (state : List Made) (net : Net) (number w : ℕ) (it : Made) (m : Module)
+    → IsTypedState p state → IsNormal p state → (of : Built p state net)
+    → slice_get state number ≡ Some it → it.sort ≡ Value → IsModuleOf (ground_of p of.order) it m
+    → TypeHasWidth p.datas (result_of it.ty) w → AreWide m.widths m.outputs (present (w ∷ []))
+
+-- each module but the last that is built of a typed normal state has a wire
+abbrev pub WiresAreThere : Type 0
+WiresAreThere =
+    (p : Program) (state : List Made) (net : Net) (i : ℕ) (m : Module)
+    → IsTypedState p state → IsNormal p state → Built p state net
+    → slice_get net.modules i ≡ Some m → i + 1 < length net.modules → 1 ≤ length m.widths
+
 -- the state's first made definition is a circuit of the type of the program's top
 pub record BeginsWithTop (p : Program) (state : List Made) : Type 0 where
   pub circuit : (it : Made) → slice_get state 0 ≡ Some it → it.sort ≡ Circuit
@@ -113,11 +133,8 @@ TopsAreKept =
     → BeginsWithTop p state
     → slice_get net.modules i ≡ Some m → i + 1 ≡ length net.modules → TopKept net i m
 
--- what isn't proved of the nets that are built: each module but the last has a wire, and each
--- module keeps the rules on widths and on limits
+-- what isn't proved of the nets that are built: each module keeps the rules on widths and on limits
 pub record KeepsTheRest (net : Net) : Type 0 where
-  pub wires : (i : ℕ) (m : Module) → slice_get net.modules i ≡ Some m
-      → i + 1 < length net.modules → 1 ≤ length m.widths
   pub widths : (i : ℕ) (m : Module) → slice_get net.modules i ≡ Some m → WidthsHold net i m
   pub limits : (i : ℕ) (m : Module) → slice_get net.modules i ≡ Some m → LimitsHold net i m
 

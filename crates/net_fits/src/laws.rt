@@ -1,5 +1,6 @@
 //! The laws, each as the contract of a call that does nothing.
 ghost use Rattle.net_fits.specs.Laws.{ValueBodiesDriveInOrder, CircuitBodiesDriveInOrder, DriversAreKept, HasModules, NamesAreThere, TopsAreKept, BuiltIsWellFormed, PortsAreKept, RunsBeginWithTop, RunsBuildWellFormed};
+ghost use Rattle.net_fits.specs.Laws.{ValueOutputsAreWide, WiresAreThere};
 
 use layout_laws::laws::same_types_keep_layout;
 use rule_types::laws::steps_keep;
@@ -42,6 +43,19 @@ pub fn modules_are_there()
 /// What the cells and the outputs of a module that is built name exists.
 pub fn names_are_there()
     ensures { NamesAreThere }
+{
+    fields_keep_same();
+    same_types_keep_layout();
+    saturated_spines();
+    spines_are_saturated();
+    steps_keep();
+}
+
+/// The outputs of a module of values are as wide as what the made definition gives, and each module
+/// but the last has a wire.
+pub fn outputs_are_wide()
+    ensures values { ValueOutputsAreWide }
+    ensures wires { WiresAreThere }
 {
     fields_keep_same();
     same_types_keep_layout();
