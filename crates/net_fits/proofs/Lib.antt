@@ -26,3 +26,5 @@ pub mod ValueReads
 pub mod ValueWidths
 pub mod Whole
 pub mod Wide
+pub mod WordSides
+pub mod WordWidths

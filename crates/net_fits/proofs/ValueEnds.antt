@@ -62,7 +62,7 @@ reduced_end op (suc n) at a = ends_alone (reduced op (suc n) at a) 1 refl
 along : (p : Piece) (v w : ℕ) → v ≡ w → Ends p v → Ends p w
 along p v w e h = subst (Ends p) e h
 
-extended_end : (x : Scalar) (n m at : ℕ) (a : List WireId) → Ends (extended x n m at a) (n + m)
+pub extended_end : (x : Scalar) (n m at : ℕ) (a : List WireId) → Ends (extended x n m at a) (n + m)
 extended_end x n zero at a = along (extended x n zero at a) n (n + 0) (omega arith) (ends_alone (extended x n zero at a) n refl)
 extended_end x zero (suc m) at a = along (extended x zero (suc m) at a) (suc m) (0 + suc m) (omega arith) (ends_alone (extended x zero (suc m) at a) (suc m) refl)
 extended_end U (suc n) (suc m) at a = record { front = suc m ∷ []; is = refl }
@@ -175,13 +175,13 @@ none_left : (more : List Arg) → length more ≡ 0 → more ≡ []
 none_left [] e = refl
 none_left (a ∷ more) e = absurd (omega (arith, e))
 
-types_after : (f : TermTree) (types : List TypeTree) (es : List TermTree) → types_of (applied f (types_then types es)) ≡ types_of f ++ types
+pub types_after : (f : TermTree) (types : List TypeTree) (es : List TermTree) → types_of (applied f (types_then types es)) ≡ types_of f ++ types
 types_after f [] [] = sym (append-nil (types_of f))
 types_after f [] (e ∷ es) = types_after (app f e) [] es
 types_after f (t ∷ types) es = types_after (ty_app f t) types es ∙ append_assoc (types_of f) (t ∷ []) types
 
 -- what has a width asks for nothing
-wide_asks : {datas : List _} {t u : TypeTree} {m : Measure} → Measured datas t m → SameTypes t u → AsksForNone u
+pub wide_asks : {datas : List _} {t u : TypeTree} {m : Measure} → Measured datas t m → SameTypes t u → AsksForNone u
 wide_asks measured_scalar same = let at = as_scalar same in subst AsksForNone (sym at.1) tt
 wide_asks (measured_vector a) same = let at = as_vector same in subst AsksForNone (sym at.2) tt
 wide_asks (measured_data known many a) same = let at = as_data same in subst AsksForNone (sym at.1) tt

@@ -1,7 +1,7 @@
 -- The wires of typed values are as wide as their types. Which wires a binding has is told by
 -- induction along the references of bindings, which lead back to none.
-use Rattle.std.proofs.Common.{◌≡◌, ℕ, zero, suc, ◌+◌, ◌-◌, ◌<◌, ◌==◌, true, arith, List, [], ◌∷◌, ◌++◌, length, reverse, Some, refl, sym, ap, ◌∙◌, subst, eq-eqb, append_assoc}
-use Rattle.std.specs.List.{slice_get, AllByRecursion}
+use Rattle.std.proofs.Common.{◌≡◌, ℕ, zero, suc, ◌+◌, ◌-◌, ◌<◌, ◌==◌, true, arith, List, [], ◌∷◌, ◌++◌, length, reverse, refl, sym, ap, ◌∙◌, subst, eq-eqb, append_assoc}
+use Rattle.std.specs.List.{AllByRecursion}
 use Rattle.std.proofs.lemmas.Bool.{or_left, or_right}
 use Rattle.chw_base.specs.declared.index.WireId.{WireId}
 use Rattle.chw_types.specs.declared.declarations.Data.{Data}
@@ -32,23 +32,13 @@ use Rattle.net_built.specs.Wires.{wire_count, new_wires, present, Piece, ◌▸�
 use Rattle.net_built.proofs.Parts.{width_once}
 use Rattle.net_built.proofs.ValueWires.{along_references}
 use Rattle.net_fits.specs.Laws.{ground_over}
-use Rattle.net_fits.specs.Widths.{AreWide, StandFrom}
+use Rattle.net_fits.specs.Widths.{AreWide, StandFrom, IsWide, WideAt}
 use Rattle.net_fits.proofs.CallShapes.{case_side}
 use Rattle.net_fits.proofs.Outputs.{result_alone, results_same}
 use Rattle.net_fits.proofs.Scopes.{Fits, found, var_at, width_kept, wires_there}
 use Rattle.net_fits.proofs.ValueDrivers.{HasOne, bound_count, side_in_group, same_place, case_typed, same_found, alternative, inside_group}
 use Rattle.net_fits.proofs.ValueEnds.{prim_gives, value_ends}
 use Rattle.net_fits.proofs.Wide.{choice_wide, ends_wide, stand_parts, wide_from}
-
--- a type's width, and wires with it
-pub record IsWide (datas : List Data) (all : List ℕ) (t : TypeTree) (wires : List WireId) : Type 0 where
-  pub width : ℕ
-  pub has : HasWidth datas t width
-  pub wide : AreWide all wires (present (width ∷ []))
-
--- the variable of this number has wires as wide as its type
-abbrev pub WideAt : List Data → List ℕ → List Variable → ℕ → Type 0
-WideAt datas all scope x = (v : Variable) → slice_get scope x ≡ Some v → IsWide datas all v.ty v.wires
 
 module _ (datas : List Data) (all : List ℕ) where
   pub none_wide : (x : ℕ) → WideAt datas all [] x

@@ -1,7 +1,9 @@
 //! The laws, each as the contract of a call that does nothing.
 ghost use Rattle.net_fits.specs.Laws.{ValueBodiesDriveInOrder, CircuitBodiesDriveInOrder, DriversAreKept, HasModules, NamesAreThere, TopsAreKept, BuiltIsWellFormed, PortsAreKept, RunsBeginWithTop, RunsBuildWellFormed};
 ghost use Rattle.net_fits.specs.Laws.{ValueOutputsAreWide, WiresAreThere};
+ghost use Rattle.net_fits.specs.WidthLaws.{WordSidesAgree};
 
+use chw_types::laws::same_values;
 use layout_laws::laws::same_types_keep_layout;
 use rule_types::laws::steps_keep;
 use type_laws::laws::fields_keep_same;
@@ -62,6 +64,15 @@ pub fn outputs_are_wide()
     saturated_spines();
     spines_are_saturated();
     steps_keep();
+}
+
+/// The cells of a typed primitive on words agree in width, where its operands are as wide as their
+/// types.
+pub fn word_sides_agree()
+    ensures { WordSidesAgree }
+{
+    same_values();
+    same_types_keep_layout();
 }
 
 /// Each state of a run begins with the top.

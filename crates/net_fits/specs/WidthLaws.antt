@@ -1,0 +1,40 @@
+-- What is promised of the widths of cells.
+use Rattle.std.specs.Prelude.{◌≡◌, ℕ, List, [], map}
+use Rattle.std.specs.List.{AllByRecursion}
+use Rattle.chw_types.specs.declared.kind.Kind.{Kind}
+use Rattle.chw_types.specs.TypeTree.{TypeTree}
+use Rattle.chw_prims.specs.declared.prim.Primitive.{Primitive as Prim}
+use Rattle.chw_terms.specs.TermTree.{TermTree, prim}
+use Rattle.chw_typing.specs.Programs.{IsSound}
+use Rattle.chw_typing.specs.Scopes.{AreTermTypes, HasKind}
+use Rattle.chw_typing.specs.Typing.{HasTypeUpTo}
+use Rattle.rewriting.specs.Origins.{Origins, setting_at}
+use Rattle.rewriting.specs.Spots.{IsOnWords}
+use Rattle.normal_forms.specs.Values.{IsSide}
+use Rattle.chw_layout.specs.Measured.{HasWidth}
+use Rattle.netlist.specs.declared.net.Module.{Module}
+use Rattle.net_rules.specs.WellFormed.{WidthsAgree}
+use Rattle.net_built.specs.Bodies.{ValueCells}
+use Rattle.net_built.specs.Terms.{head_of, types_of, operands_of, Variable}
+use Rattle.net_built.specs.Wires.{Piece}
+use Rattle.net_fits.specs.Laws.{ground_over}
+use Rattle.net_fits.specs.Widths.{StandFrom, WideAt}
+
+-- the types of the variables in scope
+abbrev pub types_in : List Variable → List TypeTree
+types_in scope = map (λ (v : Variable). v.ty) scope
+
+-- the cells of a typed right side that is a primitive on words agree in width, where the wires of
+-- the variables in scope are as wide as their types
+abbrev pub WordSidesAgree : Type 0
+WordSidesAgree =
+    (o : Origins) (order all : List ℕ) (earlier : List Module) (scope : List Variable) (n w : ℕ)
+    (e : TermTree) (t : TypeTree) (k : Kind) (q : Prim) (p : Piece)
+    → IsSound (setting_at o) → AreTermTypes (setting_at o) [] (types_in scope)
+    → HasTypeUpTo (setting_at o) [] (types_in scope) e t → HasKind (setting_at o) [] t k
+    → HasWidth o.program.datas t w
+    → IsSide o (types_in scope) e → head_of e ≡ prim q → IsOnWords q
+    → ValueCells (ground_over (setting_at o) order) scope n w (head_of e) (types_of e)
+    (operands_of e) p
+    → ((x : ℕ) → WideAt o.program.datas all scope x) → StandFrom all n p.widths
+    → AllByRecursion (WidthsAgree earlier all) p.cells
