@@ -1,19 +1,17 @@
-//! Rows of parts of terms at paths: the numbers of a row are the path, and beside it stands what the call gives.
-#![tactic(auto)]
-
+//! Parts of terms at paths: the numbers of a row are the path.
 use chw_base::{NoMemory, Or};
 use row_notation::{Parts, put_term, read};
-use row_tables::{Unread, print_rows};
+use row_tables::Unread;
 use std::alloc::Global;
-use std::io;
 use typing_laws::{part, set_part};
 
-fn main(rt: HostRuntime) -> io::Result<()> {
-    print_rows(&rt, answer)
-}
-
-// Writes what a call gives.
-fn answer(alloc: Global, call: &str, text: &str, out: &mut Vec<u8>) -> Result<(), Or<Unread>> {
+/// Writes what a call gives.
+pub(crate) fn answer(
+    alloc: Global,
+    call: &str,
+    text: &str,
+    out: &mut Vec<u8>,
+) -> Result<(), Or<Unread>> {
     let parts = read(alloc, text)?;
     match call {
         "part" => put_part(alloc, &parts, out),

@@ -1,22 +1,20 @@
-//! Rows of primitives at types and terms: what each unrolls to, and which can be unrolled.
-#![tactic(auto)]
-
+//! Primitives at types and terms: what each unrolls to, and which can be unrolled.
 use chw_base::Or;
 use chw_prims::Prim;
 use chw_terms::{Arg, Head, Term};
 use chw_types::Ty;
 use prim_vec::{can_unroll, unroll};
 use row_notation::{put_term, read};
-use row_tables::{Unread, print_rows, put};
+use row_tables::{Unread, put};
 use std::alloc::Global;
-use std::io;
 
-fn main(rt: HostRuntime) -> io::Result<()> {
-    print_rows(&rt, answer)
-}
-
-// Writes what a call gives.
-fn answer(alloc: Global, call: &str, text: &str, out: &mut Vec<u8>) -> Result<(), Or<Unread>> {
+/// Writes what a call gives.
+pub(crate) fn answer(
+    alloc: Global,
+    call: &str,
+    text: &str,
+    out: &mut Vec<u8>,
+) -> Result<(), Or<Unread>> {
     let mut parts = read(alloc, text)?;
     let term = parts.terms.pop().ok_or(Or::Fault(Unread))?;
     let use_of = Use::of(alloc, term)?;

@@ -3,7 +3,7 @@ use Rattle.std.proofs.lemmas.List.{append-nil}
 use Rattle.chw_types.specs.Arguments.{all_fields}
 use Rattle.chw_types.specs.References.{HasNoCycle}
 use Rattle.chw_types.proofs.NoCycles.{two_variables}
-use Rattle.type_rows.proofs.ports.both.Goals as goal
+use Rattle.term_rows.proofs.ports.both.Goals as goal
 
 pub returns : goal.returns
 returns c =

@@ -1,21 +1,19 @@
-//! Rows of data types with their kinds, and of cycles of data types and of definitions.
-#![tactic(auto)]
-
+//! Data types with their kinds, and cycles of data types and of definitions.
 use chw_base::{Name, Or};
 use chw_terms::{Def, Term};
 use chw_types::{Data, Ty};
 use data_kinds::{definition_cycle, find_kinds};
 use row_notation::{kind_name, put_number, read};
-use row_tables::{Unread, print_rows, put};
+use row_tables::{Unread, put};
 use std::alloc::Global;
-use std::io;
 
-fn main(rt: HostRuntime) -> io::Result<()> {
-    print_rows(&rt, answer)
-}
-
-// Writes what a call gives.
-fn answer(alloc: Global, call: &str, text: &str, out: &mut Vec<u8>) -> Result<(), Or<Unread>> {
+/// Writes what a call gives.
+pub(crate) fn answer(
+    alloc: Global,
+    call: &str,
+    text: &str,
+    out: &mut Vec<u8>,
+) -> Result<(), Or<Unread>> {
     let parts = read(alloc, text)?;
     match call {
         "kinds" => put_kinds(alloc, parts.datas, out),

@@ -1,24 +1,20 @@
-//! Rows of types: each call on every form of type, and the type of each primitive.
-#![tactic(auto)]
-
-mod ports;
-
+//! Types: each call on every form of type, and the type of each primitive.
+use crate::ports::{both, put_leaves};
 use chw_base::{Name, Or};
 use chw_prims::schema;
 use chw_terms::Head;
 use chw_types::{Ty, kind_of, put_arguments, put_type, representable, same, shift_type, type_text};
-use ports::{both, put_leaves};
 use row_notation::{Parts, kind_name, read};
-use row_tables::{Unread, print_rows, put};
+use row_tables::{Unread, put};
 use std::alloc::Global;
-use std::io;
 
-fn main(rt: HostRuntime) -> io::Result<()> {
-    print_rows(&rt, answer)
-}
-
-// Writes what a call gives.
-fn answer(alloc: Global, call: &str, text: &str, out: &mut Vec<u8>) -> Result<(), Or<Unread>> {
+/// Writes what a call gives.
+pub(crate) fn answer(
+    alloc: Global,
+    call: &str,
+    text: &str,
+    out: &mut Vec<u8>,
+) -> Result<(), Or<Unread>> {
     let parts = read(alloc, text)?;
     match call {
         "kind_of" => put_kind(alloc, &parts, out),
