@@ -1,11 +1,13 @@
 #!/usr/bin/env bash
 # Times each rule of flow on a term of 10,000 nodes that has no instance of it at its root.
 # Usage: bench/rules.sh
-# The time of a trial is that of the program rule_speed with 2,000,000 trials, less that with none.
+# The time of a trial is that of the row of rule_rows with 2,000,000 trials, less that with none.
 set -eu
 top=$(cd "$(dirname "$0")/.." && pwd)
-"$top/tools/build-program" rule_speed
-program=$top/crates/rule_speed/out/rule_speed
+work=$(mktemp -d)
+trap 'rm -rf "$work"' EXIT
+"$top/tools/build-program" rule_rows
+program=$top/crates/rule_rows/out/rule_rows
 times=2000000
 
 # The least of five times, in nanoseconds.
@@ -18,10 +20,10 @@ least() {
 }
 
 printf '%10s %10s\n' rule 'ns a trial'
-number=0
 for rule in TYBETA BETA APPLET APPCASE CASECON CASELET CASECASE PROJ PRIMLET PRIMCASE FLAT; do
-  number=$((number + 1))
-  none=$(least "$program" "$number" 0)
-  all=$(least "$program" "$number" "$times")
+  echo "trials $rule 0" >"$work/none"
+  echo "trials $rule $times" >"$work/all"
+  none=$(least "$program" "$work/none")
+  all=$(least "$program" "$work/all")
   printf '%10s %10s\n' "$rule" "$(awk "BEGIN { printf \"%.1f\", ($all - $none) / $times }")"
 done

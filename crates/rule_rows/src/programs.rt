@@ -13,6 +13,9 @@ use chw_terms::Program;
 use row_tables::Unread;
 use std::alloc::Global;
 
+/// A description of one definition.
+pub(crate) const DESCRIPTION: &[u8] = b"domain A; def one : Unsigned 8 = 1u8; top one () (o);";
+
 // The program that a description means, where its names are all right.
 fn read(alloc: Global, text: &[u8]) -> Option<Program>
     ensures { IfSome result IsTidy }

@@ -1,7 +1,6 @@
-//! A rule that is tried so many times.
-ghost use Rattle.std.specs.Prelude.{[], reverse, IfSome};
+//! A rule that is tried so many times, to be timed.
+ghost use Rattle.std.specs.Prelude.{[], reverse};
 ghost use Rattle.chw_types.specs.References.{HasNoCycle};
-ghost use Rattle.chw_terms.specs.Tidy.{IsTidy};
 ghost use Rattle.chw_typing.specs.Programs.{IsSound, setting_of};
 ghost use Rattle.chw_typing.specs.Scopes.{setting_in};
 ghost use Rattle.rewriting.specs.Origins.{origins_of};
@@ -11,39 +10,18 @@ ghost use Rattle.rules_flow.specs.Rules.{IsOfFlow};
 ghost use Rattle.term_types.specs.Answers.{IsReady};
 ghost use Rattle.term_types.specs.Signatures.{IsSignature};
 
-use crate::terms::sums;
-use chw_base::{NoMemory, Seq};
-use chw_check::kinds::first_unkinded;
-use chw_check::laws::what_fits_is_sound;
-use chw_lexer::lex;
-use chw_parser::parse;
-use chw_resolve::resolve;
+use crate::names::flow_named;
+use crate::programs::{DESCRIPTION, program_of};
+use crate::sums::sums;
+use chw_base::{NoMemory, Or, Seq};
 use chw_terms::{Mode, Place, Program, Rule, Scene, Term};
 use looks::LookCount;
+use row_tables::{Unread, put_number};
 use rules_flow::try_typed;
 use std::alloc::Global;
 use term_types::Signature;
 use typed_places::is_typed;
 use typing_laws::named_laws::data_types_in_order;
-
-// The description of the scene.
-const DESCRIPTION: &[u8] = b"domain A; def one : Unsigned 8 = 1u8; top one () (o);";
-
-// The program of the scene.
-fn program(alloc: Global) -> Option<Program>
-    ensures { IfSome result IsTidy }
-{
-    let Ok(tokens) = lex(alloc, DESCRIPTION) else {
-        return None;
-    };
-    let Ok(tree) = parse(alloc, DESCRIPTION, tokens.as_slice()) else {
-        return None;
-    };
-    match resolve(alloc, DESCRIPTION, &tree) {
-        Ok(program) => Some(program),
-        Err(_) => None,
-    }
-}
 
 // How often the rule has no instance on the term, of so many times.
 fn count_at(
@@ -109,17 +87,18 @@ fn count_of(alloc: Global, rule: Rule, times: u32, program: &Program) -> Result<
     count
 }
 
-/// How often a rule has no instance on a term of 10,000 nodes, of so many times.
-pub(crate) fn count_none(alloc: Global, rule: Rule, times: u32) -> Result<u32, NoMemory>
-    requires { IsOfFlow rule }
-{
-    let Some(program) = program(alloc) else {
-        return Err(NoMemory);
+/// Writes how often the rule of flow of a name has no instance on a term of 10,000 nodes, of so many times.
+pub(crate) fn put_trials(alloc: Global, text: &str, out: &mut Vec<u8>) -> Result<(), Or<Unread>> {
+    let Some((name, times)) = text.split_once(' ') else {
+        return Err(Or::Fault(Unread));
     };
-    what_fits_is_sound();
+    let Some(rule) = flow_named(name) else {
+        return Err(Or::Fault(Unread));
+    };
+    let Ok(times) = times.parse::<u32>() else {
+        return Err(Or::Fault(Unread));
+    };
+    let program = program_of(alloc, DESCRIPTION)?;
     data_types_in_order();
-    match first_unkinded(alloc, &program) {
-        Ok(None) => count_of(alloc, rule, times, &program),
-        _ => Err(NoMemory),
-    }
+    Ok(put_number(out, "", count_of(alloc, rule, times, &program)?)?)
 }
