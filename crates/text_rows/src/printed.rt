@@ -1,17 +1,12 @@
 //! The canonical text of a text.
-ghost use Rattle.std.specs.Prelude.{◌<◌, ◌^◌, length};
-
+use crate::trees::tree_of;
 use chw_base::Or;
-use chw_lexer::lex;
-use chw_parser::parse;
 use chw_text::print;
 use row_tables::{Unread, put, put_bytes};
 use std::alloc::Global;
 
 /// Writes the canonical text, and behind it that of the canonical text, where it is another.
-pub fn put_printed(alloc: Global, text: &[u8], out: &mut Vec<u8>) -> Result<(), Or<Unread>>
-    requires { length text.now < 2 ^ 32 }
-{
+pub fn put_printed(alloc: Global, text: &[u8], out: &mut Vec<u8>) -> Result<(), Or<Unread>> {
     let once = canonical(alloc, text)?;
     let twice = canonical(alloc, &once)?;
     put_bytes(out, &once)?;
@@ -24,14 +19,6 @@ pub fn put_printed(alloc: Global, text: &[u8], out: &mut Vec<u8>) -> Result<(), 
 
 // The canonical text of a text that is a description.
 fn canonical(alloc: Global, text: &[u8]) -> Result<Vec<u8>, Or<Unread>> {
-    if text.len() > 2_000_000 {
-        return Err(Or::Fault(Unread));
-    }
-    let Ok(tokens) = lex(alloc, text) else {
-        return Err(Or::Fault(Unread));
-    };
-    let Ok(tree) = parse(alloc, text, tokens.as_slice()) else {
-        return Err(Or::Fault(Unread));
-    };
+    let tree = tree_of(alloc, text).ok_or(Or::Fault(Unread))?;
     Ok(print(alloc, &tree)?)
 }

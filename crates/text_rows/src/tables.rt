@@ -1,0 +1,127 @@
+//! Tables of names: where names are found that were declared or bound.
+use crate::names::put_found;
+use chw_base::{NoMemory, Or};
+use name_tables::{Declared, Scope};
+use row_tables::{Unread, put, put_number, words_of};
+use std::alloc::Global;
+
+/// Declares names, of which it writes whether each is new and how many there are then, and seeks those behind `?`.
+pub fn put_names(alloc: Global, text: &str, out: &mut Vec<u8>) -> Result<(), Or<Unread>> {
+    let words = words_of(alloc, text)?;
+    let mut declared = Declared::new(alloc);
+    for word in words.as_slice() {
+        put_name(&mut declared, word.as_slice(), out)?;
+    }
+    Ok(())
+}
+
+// Declares a name, or seeks it.
+fn put_name<'t>(
+    declared: &mut Declared<'t>,
+    word: &'t [u8],
+    out: &mut Vec<u8>,
+) -> Result<(), NoMemory> {
+    put_comma(out)?;
+    match word {
+        [b'?', name @ ..] => put_found(out, "at ", declared.find(name)),
+        name => {
+            let is_new = declared.declare(name)?;
+            put_number(out, if is_new { "new " } else { "old " }, declared.len())
+        }
+    }
+}
+
+// Writes what stands before an answer: nothing before the first one.
+fn put_comma(out: &mut Vec<u8>) -> Result<(), NoMemory> {
+    put(out, if out.is_empty() { "" } else { ", " })
+}
+
+/// Binds and unbinds names, and seeks those behind `?`.
+pub fn put_binders(alloc: Global, text: &str, out: &mut Vec<u8>) -> Result<(), Or<Unread>> {
+    let mut scope = Scope::new(alloc);
+    for word in text.split(' ') {
+        put_binder(&mut scope, word, out)?;
+    }
+    Ok(())
+}
+
+// Binds a name, unbinds names, or tells of them.
+fn put_binder<'t>(
+    scope: &mut Scope<'t>,
+    word: &'t str,
+    out: &mut Vec<u8>,
+) -> Result<(), Or<Unread>> {
+    if let Some(name) = word.strip_prefix('?') {
+        put_comma(out)?;
+        Ok(put_found(out, "", scope.find(name.as_bytes()))?)
+    } else if let Some(count) = word.strip_prefix('-') {
+        unbind(scope, count)
+    } else if word == "#" {
+        put_comma(out)?;
+        Ok(put_number(out, "open ", scope.len())?)
+    } else {
+        Ok(scope.bind(word.as_bytes())?)
+    }
+}
+
+// Unbinds the last name, or as many as the count says.
+fn unbind(scope: &mut Scope<'_>, count: &str) -> Result<(), Or<Unread>> {
+    if count.is_empty() {
+        scope.unbind();
+        return Ok(());
+    }
+    match count.parse::<usize>() {
+        Ok(count) => Ok(scope.unbind_all(count)),
+        Err(_) => Err(Or::Fault(Unread)),
+    }
+}
+
+// The names of which the walk binds one and the other.
+const NAMES: [&[u8]; 5] = [b"a", b"b", b"ab", b"", b"a_"];
+
+/// Binds and unbinds names in turn, in so many steps, and writes the steps after which a name is found elsewhere than by a search
+/// through all binders.
+pub fn put_walk(alloc: Global, text: &str, out: &mut Vec<u8>) -> Result<(), Or<Unread>> {
+    let Ok(steps) = text.parse::<u32>() else {
+        return Err(Or::Fault(Unread));
+    };
+    let mut scope = Scope::new(alloc);
+    let mut open: Vec<&[u8]> = Vec::new(alloc);
+    for step in 0..steps {
+        put_step(&mut scope, &mut open, step, out)?;
+    }
+    Ok(put(out, "walked")?)
+}
+
+// Binds a name or unbinds one, and tells where one is found elsewhere.
+fn put_step(
+    scope: &mut Scope<'static>,
+    open: &mut Vec<&'static [u8]>,
+    step: u32,
+    out: &mut Vec<u8>,
+) -> Result<(), NoMemory> {
+    if step % 7 < 4 {
+        let index = step.wrapping_mul(step).wrapping_add(step / 3) % 5;
+        let name = NAMES.get(index as usize).copied().unwrap_or(b"");
+        scope.bind(name)?;
+        open.push(name)?;
+    } else {
+        scope.unbind();
+        let _ = open.pop();
+    }
+    if agrees(scope, open.as_slice()) {
+        return Ok(());
+    }
+    put_number(out, "another after ", step)
+}
+
+// Whether each name is found where a search finds it.
+fn agrees(scope: &Scope<'_>, open: &[&[u8]]) -> bool {
+    for sought in NAMES {
+        let place = open.iter().rev().position(|name| *name == sought);
+        if scope.find(sought).map(|at| at as usize) != place {
+            return false;
+        }
+    }
+    true
+}
