@@ -51,11 +51,11 @@ use Rattle.side_bits.proofs.Heads.{same_counts, wide_asks}
 use Rattle.circuit_bits.proofs.Heads.{head_then, operands_after}
 
 -- what a constant denotes
-word_denoted : {s : Scalar} {b : List Bool} {v : Datum} → Denotes (lit s b) v → v ≡ word b
+pub word_denoted : {s : Scalar} {b : List Bool} {v : Datum} → Denotes (lit s b) v → v ≡ word b
 word_denoted denotes_word = refl
 word_denoted (denotes_built h all) = absurd cc
 
-built_denoted : {e : TermTree} {c : ℕ} {v : Datum} → Denotes e v → head_of e ≡ con c → (ds : Datums) × (v ≡ built c ds) × DenoteEach (operands_of e) ds
+pub built_denoted : {e : TermTree} {c : ℕ} {v : Datum} → Denotes e v → head_of e ≡ con c → (ds : Datums) × (v ≡ built c ds) × DenoteEach (operands_of e) ds
 built_denoted denotes_word k = absurd cc
 built_denoted {c = c} (denotes_built {c = d} {ds = ds} h all) k =
     let both : con d ≡ con c = sym h ∙ k in
@@ -63,11 +63,11 @@ built_denoted {c = c} (denotes_built {c = d} {ds = ds} h all) k =
     (ds, ap (λ c. built c ds) one, all)
 built_denoted (denotes_elements all) k = absurd cc
 
-vector_denoted : {t : TypeTree} (es : List TermTree) {v : Datum} → Denotes (vec_lit t (terms_of es)) v → (ds : Datums) × (v ≡ elements ds) × DenoteEach (list_of (terms_of es)) ds
+pub vector_denoted : {t : TypeTree} (es : List TermTree) {v : Datum} → Denotes (vec_lit t (terms_of es)) v → (ds : Datums) × (v ≡ elements ds) × DenoteEach (list_of (terms_of es)) ds
 vector_denoted es (denotes_built h all) = absurd cc
 vector_denoted es (denotes_elements {ds = ds} all) = (ds, refl, all)
 
-listed : (es : List TermTree) → list_of (terms_of es) ≡ es
+pub listed : (es : List TermTree) → list_of (terms_of es) ≡ es
 listed [] = refl
 listed (e ∷ es) = ap (λ l. e ∷ l) (listed es)
 
@@ -99,7 +99,7 @@ data_encoded datas c w it us ds at wide (data_bits i width other k behind known 
 literal_typed : {s : Setting} {vars : List TypeTree} {r : Scalar} {b : List Bool} {u : TypeTree} → HasType s [] vars (lit r b) u → u ≡ scalar r (nat_lit (length b))
 literal_typed (h_lit l) = refl
 
-vector_typed : {s : Setting} {vars : List TypeTree} {u t : TypeTree} (es : List TermTree) → HasType s [] vars (vec_lit u (terms_of es)) t → (t ≡ vector (nat_lit (count (terms_of es))) u) × AllHave s [] vars u (terms_of es)
+pub vector_typed : {s : Setting} {vars : List TypeTree} {u t : TypeTree} (es : List TermTree) → HasType s [] vars (vec_lit u (terms_of es)) t → (t ≡ vector (nat_lit (count (terms_of es))) u) × AllHave s [] vars u (terms_of es)
 vector_typed es (h_vec is all) = (refl, all)
 
 -- as many elements as values

@@ -1,11 +1,15 @@
 pub mod Bodies
 pub mod Constants
+pub mod Contents
 pub mod Delays
 pub mod Example
 pub mod FieldLeaves
 pub mod FieldWires
 pub mod Follow
 pub mod Heads
+pub mod Memories
+pub mod MemoryCells
+pub mod MemorySides
 pub mod Names
 pub mod PartWires
 pub mod Ports
@@ -13,3 +17,4 @@ pub mod Products
 pub mod Projections
 pub mod Signals
 pub mod Uses
+pub mod Writes

@@ -1,9 +1,12 @@
 //! Laws of right sides of circuits, each as the contract of a call that does nothing.
 ghost use Rattle.circuit_bits.specs.Laws.{NamesHave, CrossingsHave, ConstantsHave, RegistersHave, ProductsHave, ProjectionsHave, EmptyLeavesHave};
+ghost use Rattle.circuit_bits.specs.Memories.{MemoriesHave};
 ghost use Rattle.circuit_bits.specs.Instances.{BodiesAreBlocks};
 ghost use Rattle.circuit_bits.specs.Uses.{VariablesFollow, GroupsFollow, MembersFollow, CallsFollow, LiftsFollow, FollowersHave, WholesCall, WholesLift, UsesAreThere, PartsEnter, CallsHave, LiftsHave, SamplesHave};
 
+use chw_bits::laws::number_of_made_bits;
 use chw_types::laws::same_values;
+use layout_laws::laws::zero_exists;
 use type_laws::laws::fields_keep_same;
 
 /// A variable has the leaf of the variable that it names, and a signal from another domain that of the signal.
@@ -87,4 +90,14 @@ pub fn samples_have()
 {
     same_values();
     fields_keep_same();
+}
+
+/// A block RAM shows what the content and the writes of the earlier ticks have left at the address that was read last, and zeros where it has no such word.
+pub fn memories_have()
+    ensures { MemoriesHave }
+{
+    same_values();
+    fields_keep_same();
+    number_of_made_bits();
+    zero_exists();
 }
