@@ -18,6 +18,7 @@ pub mod Reading
 pub mod Rows
 pub mod Scopes
 pub mod Shapes
+pub mod SimpleSides
 pub mod Tops
 pub mod Uses
 pub mod ValueDrivers

@@ -1,7 +1,7 @@
 //! The laws, each as the contract of a call that does nothing.
 ghost use Rattle.net_fits.specs.Laws.{ValueBodiesDriveInOrder, CircuitBodiesDriveInOrder, DriversAreKept, HasModules, NamesAreThere, TopsAreKept, BuiltIsWellFormed, PortsAreKept, RunsBeginWithTop, RunsBuildWellFormed};
 ghost use Rattle.net_fits.specs.Laws.{ValueOutputsAreWide, WiresAreThere};
-ghost use Rattle.net_fits.specs.WidthLaws.{WordSidesAgree};
+ghost use Rattle.net_fits.specs.WidthLaws.{WordSidesAgree, NamesAgree, LiteralsAgree, VectorsAgree};
 
 use chw_types::laws::same_values;
 use layout_laws::laws::same_types_keep_layout;
@@ -70,6 +70,16 @@ pub fn outputs_are_wide()
 /// types.
 pub fn word_sides_agree()
     ensures { WordSidesAgree }
+{
+    same_values();
+    same_types_keep_layout();
+}
+
+/// So do those of a variable, of a literal and of a vector.
+pub fn simple_sides_agree()
+    ensures name { NamesAgree }
+    ensures literal { LiteralsAgree }
+    ensures vector { VectorsAgree }
 {
     same_values();
     same_types_keep_layout();
