@@ -1,12 +1,14 @@
 pub mod Beginning
 pub mod CallShapes
 pub mod Calls
+pub mod Choosing
 pub mod CircuitBodies
 pub mod CircuitCells
 pub mod CircuitDrivers
 pub mod CircuitReads
 pub mod Drivers
 pub mod EachOnce
+pub mod ElementSides
 pub mod Modules
 pub mod Names
 pub mod OutputWidths

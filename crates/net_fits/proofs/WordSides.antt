@@ -59,11 +59,11 @@ pub record Operands (all : List ℕ) (scope : List Variable) (row : Row) (types 
 
 module _ (values : SameValues) (s : Setting) (all : List ℕ) (vars : List TypeTree) (scope : List Variable) (fit : Fits vars scope) (wide : (y : ℕ) → WideAt s.datas all scope y) where
   -- a variable that is used as a word
-  record WordWide (x : ℕ) (n : TypeTree) : Type 0 where
-    wires : AreWide all (wires_at scope x) (present (closed_value n ∷ []))
-    small : closed_value n ≤ SCALAR_BITS
+  pub record WordWide (x : ℕ) (n : TypeTree) : Type 0 where
+    pub wires : AreWide all (wires_at scope x) (present (closed_value n ∷ []))
+    pub small : closed_value n ≤ SCALAR_BITS
 
-  word_wide : (x : ℕ) (r : Scalar) (n : TypeTree) → HasTypeUpTo s [] vars (var x) (scalar r n) → WordWide x n
+  pub word_wide : (x : ℕ) (r : Scalar) (n : TypeTree) → HasTypeUpTo s [] vars (var x) (scalar r n) → WordWide x n
   word_wide x r n given =
       let at = found vars scope x given.type fit (var_at given.has) in
       let form = as_scalar (same_through given.same at.same) in

@@ -66,7 +66,7 @@ module _ (all : List ℕ) where
       let first : slice_index all x.number ≡ w = get_or_from_slice_get all x.number w 0 h.0 in
       sum_by-cons (λ (w : WireId). slice_index all w.number) x xs ∙ (λ i. first i + joined_width xs ws h.1 i)
 
-  only_wide : (a : List WireId) (w : ℕ) → AreWide all a (suc w ∷ []) → HasWidth all (only a) (suc w)
+  pub only_wide : (a : List WireId) (w : ℕ) → AreWide all a (suc w ∷ []) → HasWidth all (only a) (suc w)
   only_wide [] w h = absurd h
   only_wide (x ∷ a) w h = h.0
 
@@ -94,7 +94,7 @@ module _ (earlier : List Module) (all : List ℕ) where
   pub const_agrees : (at w : ℕ) (bits : List Bool) → length bits ≡ w → StandFrom all at (present (w ∷ [])) → Agree (one w (Const (wire at) bits))
   const_agrees at w bits size stand = one_agrees at w (Const (wire at) bits) stand (λ v e has. has ∙ ap (λ n. Some n) (sym (size ∙ e)))
 
-  given_wide : (a : List WireId) (w v : ℕ) → w ≡ suc v → AreWide all a (present (w ∷ [])) → HasWidth all (only a) (suc v)
+  pub given_wide : (a : List WireId) (w v : ℕ) → w ≡ suc v → AreWide all a (present (w ∷ [])) → HasWidth all (only a) (suc v)
   given_wide a w v e h = only_wide all a v (subst (λ w. AreWide all a (present (w ∷ []))) e h)
 
   pub copied_agree : (n at : ℕ) (a : List WireId) → AreWide all a (present (n ∷ [])) → StandFrom all at (present (n ∷ [])) → Agree (copied n at a)
@@ -164,7 +164,7 @@ module _ (earlier : List Module) (all : List ℕ) where
       (λ s. join_agrees (at + 1) (suc n + suc m) (signs ++ a) (replicate (suc m) 1 ++ (suc n ∷ [])) (wide_append all signs a (replicate (suc m) 1) (suc n ∷ []) (wide_copies all (suc m) (wire at) 1 stand.0) h) size s)
 
   -- the last wire of a piece that ends with some bits
-  last_has : (at v : ℕ) (p : Piece) → StandFrom all at p.widths → Ends p (suc v) → HasWidth all (last_wire at p) (suc v)
+  pub last_has : (at v : ℕ) (p : Piece) → StandFrom all at p.widths → Ends p (suc v) → HasWidth all (last_wire at p) (suc v)
   last_has at v p stand e = (ends_wide all at (suc v) p stand e).0
 
   widened_agree : (x : Scalar) (op : Op2) → ((w a b : WireId) → AreArithmetic all w a b → Fits2 all op w a b) → (w n k at : ℕ) (a b : List WireId) → n ≤ w → k ≤ w → w ≤ SCALAR_BITS → AreWide all a (present (n ∷ [])) → AreWide all b (present (k ∷ [])) → StandFrom all at (widened x op w n k at a b).widths → Agree (widened x op w n k at a b)

@@ -1,10 +1,11 @@
 -- What is promised of the widths of cells.
-use Rattle.std.specs.Prelude.{◌≡◌, ℕ, Bool, List, [], map}
+use Rattle.std.specs.Prelude.{◌≡◌, ℕ, Bool, List, [], ◌∷◌, map}
 use Rattle.std.specs.List.{AllByRecursion}
 use Rattle.chw_types.specs.declared.kind.Kind.{Kind}
 use Rattle.chw_types.specs.declared.kind.Scalar.{Scalar}
 use Rattle.chw_types.specs.TypeTree.{TypeTree}
 use Rattle.chw_prims.specs.declared.prim.Primitive.{Primitive as Prim}
+use Rattle.chw_prims.specs.declared.prim.Primitive.TheVariants.{VGet, VAt}
 use Rattle.chw_terms.specs.TermTree.{TermTree, var, prim, lit, vec_lit}
 use Rattle.chw_terms.specs.TermView.{terms_of}
 use Rattle.chw_typing.specs.Programs.{IsSound}
@@ -12,7 +13,7 @@ use Rattle.chw_typing.specs.Scopes.{AreTermTypes, HasKind}
 use Rattle.chw_typing.specs.Typing.{HasTypeUpTo}
 use Rattle.rewriting.specs.Origins.{Origins, setting_at}
 use Rattle.rewriting.specs.Spots.{IsOnWords}
-use Rattle.normal_forms.specs.Values.{IsSide}
+use Rattle.normal_forms.specs.Values.{IsSide, on_names}
 use Rattle.chw_layout.specs.Measured.{HasWidth}
 use Rattle.netlist.specs.declared.net.Module.{Module}
 use Rattle.net_rules.specs.WellFormed.{WidthsAgree}
@@ -53,7 +54,18 @@ NamesAgree = (x : ℕ) → SideAgrees (var x)
 abbrev pub LiteralsAgree : Type 0
 LiteralsAgree = (s : Scalar) (bits : List Bool) → SideAgrees (lit s bits)
 
--- and with a vector of variables
+-- with a vector of variables
 abbrev pub VectorsAgree : Type 0
 VectorsAgree =
     (t : TypeTree) (xs : List ℕ) → SideAgrees (vec_lit t (terms_of (map (λ x. var x) xs)))
+
+-- with an element of a vector, by its number
+abbrev pub ElementsAgree : Type 0
+ElementsAgree =
+    (i m a : TypeTree) (x : ℕ) → SideAgrees (on_names (prim VGet) (i ∷ m ∷ a ∷ []) (x ∷ []))
+
+-- and by an index
+abbrev pub IndexedAgree : Type 0
+IndexedAgree =
+    (m k a : TypeTree) (x y : ℕ)
+    → SideAgrees (on_names (prim VAt) (m ∷ k ∷ a ∷ []) (x ∷ y ∷ []))

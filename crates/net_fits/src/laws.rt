@@ -1,7 +1,7 @@
 //! The laws, each as the contract of a call that does nothing.
 ghost use Rattle.net_fits.specs.Laws.{ValueBodiesDriveInOrder, CircuitBodiesDriveInOrder, DriversAreKept, HasModules, NamesAreThere, TopsAreKept, BuiltIsWellFormed, PortsAreKept, RunsBeginWithTop, RunsBuildWellFormed};
 ghost use Rattle.net_fits.specs.Laws.{ValueOutputsAreWide, WiresAreThere};
-ghost use Rattle.net_fits.specs.WidthLaws.{WordSidesAgree, NamesAgree, LiteralsAgree, VectorsAgree};
+ghost use Rattle.net_fits.specs.WidthLaws.{WordSidesAgree, NamesAgree, LiteralsAgree, VectorsAgree, ElementsAgree, IndexedAgree};
 
 use chw_types::laws::same_values;
 use layout_laws::laws::same_types_keep_layout;
@@ -80,6 +80,15 @@ pub fn simple_sides_agree()
     ensures name { NamesAgree }
     ensures literal { LiteralsAgree }
     ensures vector { VectorsAgree }
+{
+    same_values();
+    same_types_keep_layout();
+}
+
+/// And so do those of an element of a vector.
+pub fn element_sides_agree()
+    ensures number { ElementsAgree }
+    ensures index { IndexedAgree }
 {
     same_values();
     same_types_keep_layout();
