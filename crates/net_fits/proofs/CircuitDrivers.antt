@@ -81,7 +81,7 @@ all_kinded s sound d it ts (f ∷ fs) known kinds fields =
     let k = field_kind s sound d it ts f known (fields 0 f refl) kinds in
     ((k.0, k.2), all_kinded s sound d it ts fs known kinds (λ i g e. fields (suc i) g e))
 
-fields_kinded : (s : Setting) → IsSound s → (c : ℕ) (it : Constructor) (ts : TypeTrees) → con_at s.datas c ≡ Some it → KindsOf s.datas s.domains [] ts it.it.params → AllKinded s (arguments ts) it.decl.fields
+pub fields_kinded : (s : Setting) → IsSound s → (c : ℕ) (it : Constructor) (ts : TypeTrees) → con_at s.datas c ≡ Some it → KindsOf s.datas s.domains [] ts it.it.params → AllKinded s (arguments ts) it.decl.fields
 fields_kinded s sound c it ts known kinds =
     let is = is_constructor s.datas c it known in
     all_kinded s sound it.of it.it ts it.decl.fields is.data_type kinds (λ i f e. record { con = is.place; of = it.decl; is_con = is.decl; at = i; is_field = e })
@@ -100,22 +100,22 @@ given_count keep law s sound vars scope fit held {σ = σ} (leaves_and {f = f} {
     length-append (wires_at scope x) (wires_of_all scope (names xs)) ∙ (λ i. one i + rest i) ∙ sym (count_append parts.first parts.rest) ∙ ap (λ ws. wire_count ws) (sym parts.are)
 
 -- how many arguments are types, and how many are terms
-abbrev type_count : List Arg → ℕ
+abbrev pub type_count : List Arg → ℕ
 type_count [] = 0
 type_count (OfType t ∷ args) = suc (type_count args)
 type_count (OfTerm e ∷ args) = type_count args
 
-abbrev term_count : List Arg → ℕ
+abbrev pub term_count : List Arg → ℕ
 term_count [] = 0
 term_count (OfType t ∷ args) = term_count args
 term_count (OfTerm e ∷ args) = suc (term_count args)
 
-types_counted : (types : List TypeTree) (es : List TermTree) → type_count (types_then types es) ≡ length types
+pub types_counted : (types : List TypeTree) (es : List TermTree) → type_count (types_then types es) ≡ length types
 types_counted [] [] = refl
 types_counted [] (e ∷ es) = types_counted [] es
 types_counted (t ∷ types) es = ap suc (types_counted types es)
 
-terms_counted : (types : List TypeTree) (es : List TermTree) → term_count (types_then types es) ≡ length es
+pub terms_counted : (types : List TypeTree) (es : List TermTree) → term_count (types_then types es) ≡ length es
 terms_counted [] [] = refl
 terms_counted [] (e ∷ es) = ap suc (terms_counted [] es)
 terms_counted (t ∷ types) es = terms_counted types es

@@ -6,6 +6,7 @@ pub mod CircuitBodies
 pub mod CircuitCells
 pub mod CircuitDrivers
 pub mod CircuitReads
+pub mod ConstructorSides
 pub mod Drivers
 pub mod EachOnce
 pub mod ElementSides

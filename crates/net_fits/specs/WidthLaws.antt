@@ -6,7 +6,7 @@ use Rattle.chw_types.specs.declared.kind.Scalar.{Scalar}
 use Rattle.chw_types.specs.TypeTree.{TypeTree}
 use Rattle.chw_prims.specs.declared.prim.Primitive.{Primitive as Prim}
 use Rattle.chw_prims.specs.declared.prim.Primitive.TheVariants.{VGet, VAt}
-use Rattle.chw_terms.specs.TermTree.{TermTree, var, prim, lit, vec_lit}
+use Rattle.chw_terms.specs.TermTree.{TermTree, var, con, prim, lit, vec_lit}
 use Rattle.chw_terms.specs.TermView.{terms_of}
 use Rattle.chw_typing.specs.Programs.{IsSound}
 use Rattle.chw_typing.specs.Scopes.{AreTermTypes, HasKind}
@@ -64,8 +64,13 @@ abbrev pub ElementsAgree : Type 0
 ElementsAgree =
     (i m a : TypeTree) (x : ℕ) → SideAgrees (on_names (prim VGet) (i ∷ m ∷ a ∷ []) (x ∷ []))
 
--- and by an index
+-- by an index
 abbrev pub IndexedAgree : Type 0
 IndexedAgree =
     (m k a : TypeTree) (x y : ℕ)
     → SideAgrees (on_names (prim VAt) (m ∷ k ∷ a ∷ []) (x ∷ y ∷ []))
+
+-- and with a constructor
+abbrev pub ConstructorsAgree : Type 0
+ConstructorsAgree =
+    (c : ℕ) (types : List TypeTree) (xs : List ℕ) → SideAgrees (on_names (con c) types xs)

@@ -2,6 +2,7 @@
 ghost use Rattle.net_fits.specs.Laws.{ValueBodiesDriveInOrder, CircuitBodiesDriveInOrder, DriversAreKept, HasModules, NamesAreThere, TopsAreKept, BuiltIsWellFormed, PortsAreKept, RunsBeginWithTop, RunsBuildWellFormed};
 ghost use Rattle.net_fits.specs.Laws.{ValueOutputsAreWide, WiresAreThere};
 ghost use Rattle.net_fits.specs.WidthLaws.{WordSidesAgree, NamesAgree, LiteralsAgree, VectorsAgree, ElementsAgree, IndexedAgree};
+ghost use Rattle.net_fits.specs.WidthLaws.{ConstructorsAgree};
 
 use chw_types::laws::same_values;
 use layout_laws::laws::same_types_keep_layout;
@@ -92,6 +93,15 @@ pub fn element_sides_agree()
 {
     same_values();
     same_types_keep_layout();
+}
+
+/// And those of a constructor.
+pub fn constructor_sides_agree()
+    ensures { ConstructorsAgree }
+{
+    same_types_keep_layout();
+    saturated_spines();
+    spines_are_saturated();
 }
 
 /// Each state of a run begins with the top.
