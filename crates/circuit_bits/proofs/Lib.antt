@@ -7,6 +7,7 @@ pub mod FieldLeaves
 pub mod FieldWires
 pub mod Follow
 pub mod Heads
+pub mod Instances
 pub mod Memories
 pub mod MemoryCells
 pub mod MemorySides

@@ -17,6 +17,7 @@ use Rattle.rewriting.specs.Origins.{setting_at, with_origins, with_origins_group
 use Rattle.rewriting.specs.Steps.{origins_in}
 use Rattle.normal_forms.specs.Normal.{IsNormal}
 use Rattle.normal_forms.specs.Values.{on_names}
+use Rattle.chw_layout.specs.Encodes.{HaveConstructors}
 use Rattle.chw_meaning.specs.Values.{History, Thunk, Thunks, none, joined, in_group, body_at}
 use Rattle.carrying.specs.DataLaws.{Taken}
 use Rattle.carrying.specs.TermLaws.{onto, under_lambdas, each_closed}
@@ -35,14 +36,16 @@ use Rattle.cell_bits.specs.Bearing.{HasCells}
 use Rattle.side_bits.specs.Cases.{IsFirst, FieldsGiven}
 use Rattle.side_bits.specs.Sides.{HasBits}
 use Rattle.circuit_bits.specs.Leaves.{VariableLeaf}
+use Rattle.circuit_bits.specs.Memories.{HasWidths}
 use Rattle.circuit_bits.specs.Uses.{UsedAt, samples}
 
--- a program with made definitions in normal form, the net that is built of them, and a term for
--- each as a whole
+-- a program, of which each data type has a constructor, with made definitions in normal form, the
+-- net that is built of them, and a term for each as a whole
 pub record Design : Type 0 where
   pub program : Program
   pub state : List Made
   pub sound : IsSound (setting_at (origins_in program state))
+  pub constructors : HaveConstructors program.datas
   pub normal : IsNormal program state
   pub net : Net
   pub built : Built program state net
@@ -59,16 +62,17 @@ pub record Block : Type 0 where
   pub term : TermTree
   pub results : List WireId
 
--- it is built, and the instance has its cells
+-- it is built, and the instance has its cells and its wires
 pub record HasBlock (d : Design) (path : List ℕ) (b : Block) : Type 0 where
   pub n : ℕ
   pub piece : Piece
   pub built :
       BlockBuilt (ground_of d.program d.built.order) b.sort b.scope n b.term piece b.results
   pub cells : HasCells d.net path piece.cells
+  pub widths : HasWidths d.net path n piece.widths
 
--- inside it stand these bindings, of which the instance has the cells, and these variables with
--- their thunks, its own before those outside
+-- inside it stand these bindings, of which the instance has the cells and the wires, and these
+-- variables with their thunks, its own before those outside
 pub data Inside (d : Design) (path : List ℕ) : Block → Group → List Variable → Thunks → Type 0 where
   inside_variable : {sort : Sort} {scope : List Variable} {γ : Thunks} {x : ℕ}
       {results : List WireId}
@@ -78,7 +82,7 @@ pub data Inside (d : Design) (path : List ℕ) : Block → Group → List Variab
   inside_letrec : {sort : Sort} {scope bound : List Variable} {γ : Thunks} {g : Group} {x n : ℕ}
       {p : Piece} {results : List WireId}
       → GroupBuilt (ground_of d.program d.built.order) sort (reverse bound ++ scope) n g p bound
-      → HasCells d.net path p.cells
+      → HasCells d.net path p.cells → HasWidths d.net path n p.widths
       → Inside d path
       (record {
         sort = sort;

@@ -1,3 +1,4 @@
+pub mod Blocks
 pub mod Example
 pub mod Instances
 pub mod Laws

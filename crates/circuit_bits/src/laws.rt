@@ -1,4 +1,5 @@
 //! Laws of right sides of circuits, each as the contract of a call that does nothing.
+ghost use Rattle.circuit_bits.specs.Blocks.{ModulesAreTheirs, BodiesStand};
 ghost use Rattle.circuit_bits.specs.Laws.{NamesHave, CrossingsHave, ConstantsHave, RegistersHave, ProductsHave, ProjectionsHave, EmptyLeavesHave};
 ghost use Rattle.circuit_bits.specs.Memories.{MemoriesHave};
 ghost use Rattle.circuit_bits.specs.Instances.{BodiesAreBlocks};
@@ -82,6 +83,12 @@ pub fn empty_leaves_have()
 /// What is built of the body of a function is built of its block, with its parameters in scope.
 pub fn bodies_are_blocks()
     ensures { BodiesAreBlocks }
+{}
+
+/// The module at the place of a made definition is that of its body; and the block of the body stands in each instance of it.
+pub fn bodies_stand()
+    ensures modules { ModulesAreTheirs }
+    ensures body { BodiesStand }
 {}
 
 /// The sample of a signal carries the bits that the signal shows.
