@@ -38,14 +38,14 @@ rest_part k (suc n) (suc w ∷ ws) more [] rest is e = absurd (omega (arith, e))
 rest_part k (suc n) (suc w ∷ ws) more (a ∷ wires) rest is e = rest_part k n ws more wires rest (omega (arith, is)) (omega (arith, e))
 
 -- the widths of the first leaves, and those of the others
-record Split (datas : List Data) (ls ms : List Leaf) (ws : List ℕ) : Type 0 where
-  first : List ℕ
-  rest : List ℕ
-  are : ws ≡ first ++ rest
-  have : HaveWidths datas (map (λ (l : Leaf). l.payload) ls) first
-  others : HaveWidths datas (map (λ (l : Leaf). l.payload) ms) rest
+pub record Split (datas : List Data) (ls ms : List Leaf) (ws : List ℕ) : Type 0 where
+  pub first : List ℕ
+  pub rest : List ℕ
+  pub are : ws ≡ first ++ rest
+  pub have : HaveWidths datas (map (λ (l : Leaf). l.payload) ls) first
+  pub others : HaveWidths datas (map (λ (l : Leaf). l.payload) ms) rest
 
-split : (datas : List Data) (ls ms : List Leaf) (ws : List ℕ) → HaveWidths datas (map (λ (l : Leaf). l.payload) (ls ++ ms)) ws → Split datas ls ms ws
+pub split : (datas : List Data) (ls ms : List Leaf) (ws : List ℕ) → HaveWidths datas (map (λ (l : Leaf). l.payload) (ls ++ ms)) ws → Split datas ls ms ws
 split datas [] ms ws h = record { first = []; rest = ws; are = refl; have = tt; others = h }
 split datas (l ∷ ls) ms [] h = absurd h
 split datas (l ∷ ls) ms (w ∷ ws) h =

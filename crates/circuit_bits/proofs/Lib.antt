@@ -4,6 +4,7 @@ pub mod Contents
 pub mod Delays
 pub mod Example
 pub mod FieldLeaves
+pub mod FieldNumbers
 pub mod FieldWires
 pub mod Follow
 pub mod Heads

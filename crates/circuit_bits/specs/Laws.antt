@@ -1,14 +1,18 @@
 -- What is promised of right sides of circuits.
-use Rattle.std.specs.Prelude.{◌≡◌, ℕ, zero, suc, ◌+◌, List, [], ◌∷◌, Some, slice_get}
+use Rattle.std.specs.Prelude.{◌≡◌, ℕ, zero, suc, ◌+◌, ◌<◌, List, [], ◌∷◌, length, Some}
+use Rattle.std.specs.Prelude.{slice_get}
 use Rattle.chw_base.specs.declared.index.ConId.{ConId}
 use Rattle.chw_base.specs.declared.index.WireId.{WireId}
 use Rattle.chw_clock.specs.Histories.{taken}
-use Rattle.chw_types.specs.TypeTree.{TypeTree, TypeTrees, domain}
+use Rattle.chw_types.specs.declared.declarations.Data.{Data}
+use Rattle.chw_types.specs.TypeTree.{TypeTree, TypeTrees, domain, data_of}
 use Rattle.chw_prims.specs.declared.prim.Primitive.TheVariants.{Register, UnsafeSynchronizer}
+use Rattle.chw_terms.specs.Constructors.{Constructor, con_at}
 use Rattle.chw_terms.specs.declared.program.Program.{Program}
 use Rattle.chw_terms.specs.declared.scene.Sort.TheVariants.{Circuit}
 use Rattle.chw_terms.specs.declared.term.Pattern.TheVariants.{OfCon}
 use Rattle.chw_terms.specs.TermTree.{TermTree, var, con, prim, case_of, no_alts, alt}
+use Rattle.chw_typing.specs.HeadTypes.{fields_at}
 use Rattle.rewriting.specs.Origins.{Origins}
 use Rattle.rewriting.specs.Shapes.{pure_of}
 use Rattle.normal_forms.specs.Circuits.{IsConstant, beginning_with}
@@ -16,6 +20,7 @@ use Rattle.normal_forms.specs.Values.{on_names}
 use Rattle.chw_meaning.specs.Eval.{dom}
 use Rattle.chw_meaning.specs.Values.{History, Thunk, closed, Thunks}
 use Rattle.netlist.specs.declared.net.Net.{Net}
+use Rattle.net_built.specs.Circuits.{HaveParts}
 use Rattle.net_built.specs.Data.{HasParts}
 use Rattle.net_built.specs.Terms.{Variable}
 use Rattle.net_built.specs.Wires.{Piece, last_wires}
@@ -59,6 +64,26 @@ RegistersHave =
     (λ o net path scope γ h. IsConstant o.program.datas c
     × ((g : History) → taken h (dom d) ≡ Some g
     → VariableLeaf o.program net path scope γ g x zero)) zero
+
+-- the leaf of this number of a product of this type is one of a field: the field, the number of the
+-- leaf among those of the field, and the parts of all fields
+pub record FieldWithLeaf (datas : List Data) (it : Constructor) (ts : TypeTrees) (k : ℕ) : Type 0
+  where
+    pub parts : List (List ℕ)
+    pub have : HaveParts datas (fields_at it ts) parts
+    pub field : ℕ
+    pub leaf : ℕ
+    pub own : List ℕ
+    pub one : slice_get parts field ≡ Some own
+    pub within : leaf < length own
+    pub is : k ≡ leaves_before field parts + leaf
+
+-- so it is with each leaf of a product
+abbrev pub LeavesHaveFields : Type 0
+LeavesHaveFields =
+    (datas : List Data) (c : ℕ) (it : Constructor) (ts : TypeTrees) (widths : List ℕ) (k : ℕ)
+    → con_at datas c ≡ Some it → HasParts datas Circuit (data_of it.of ts) widths
+    → k < length widths → FieldWithLeaf datas it ts k
 
 -- a product has at a leaf of a field what the field's variable has at it
 abbrev pub ProductsHave : Type 0

@@ -1,6 +1,6 @@
 //! Laws of right sides of circuits, each as the contract of a call that does nothing.
 ghost use Rattle.circuit_bits.specs.Blocks.{ModulesAreTheirs, BodiesStand};
-ghost use Rattle.circuit_bits.specs.Laws.{NamesHave, CrossingsHave, ConstantsHave, RegistersHave, ProductsHave, ProjectionsHave, EmptyLeavesHave};
+ghost use Rattle.circuit_bits.specs.Laws.{NamesHave, CrossingsHave, ConstantsHave, RegistersHave, ProductsHave, ProjectionsHave, EmptyLeavesHave, LeavesHaveFields};
 ghost use Rattle.circuit_bits.specs.Memories.{MemoriesHave};
 ghost use Rattle.circuit_bits.specs.Instances.{BodiesAreBlocks};
 ghost use Rattle.circuit_bits.specs.Uses.{VariablesFollow, GroupsFollow, MembersFollow, CallsFollow, LiftsFollow, FollowersHave, WholesCall, WholesLift, UsesAreThere, PartsEnter, CallsHave, LiftsHave, SamplesHave};
@@ -36,6 +36,11 @@ pub fn products_have()
     same_values();
     fields_keep_same();
 }
+
+/// Each leaf of a product is a leaf of one of its fields.
+pub fn leaves_have_fields()
+    ensures { LeavesHaveFields }
+{}
 
 /// Variables, groups, members of groups, calls and lifted functions have all that what they go on with has.
 pub fn thunks_follow()
