@@ -1,14 +1,20 @@
 -- What is known where rules were tried in their order.
-use Rattle.std.proofs.Common.{◌≡◌, ◌∙◌, ℕ, zero, suc, ◌<◌, length, Option, Some, None, refl, ap, sym, subst, arith, ◌⊎◌, inl, inr, ⊎_elim}
+use Rattle.std.proofs.Common.{◌≡◌, ◌∙◌, ℕ, zero, suc, ◌<◌, List, length, Option, Some, None, option_map, refl, ap, sym, subst, arith, ◌⊎◌, inl, inr, ⊎_elim}
 use Rattle.std.specs.List.{slice_index_or}
 use Rattle.std.proofs.lemmas.List.{get_or_default}
+use Rattle.chw_terms.specs.declared.program.Program.{Program}
 use Rattle.chw_terms.specs.declared.rule.Rule.{Rule}
+use Rattle.chw_terms.specs.declared.rule.Rule.TheVariants.{Spec}
+use Rattle.chw_terms.specs.declared.scene.Made.{Made}
 use Rattle.chw_terms.specs.TermTree.{TermTree}
 use Rattle.rewriting.specs.Origins.{Origins}
 use Rattle.rewriting.specs.Spots.{Spot}
 use Rattle.rewriting.specs.Instances.{HasInstance}
+use Rattle.rewriting.specs.Runs.{no_call}
+use Rattle.rewriting.specs.Steps.{origins_in}
 use Rattle.rule_parts.specs.Cores.{IsInstanceAnswer}
-use Rattle.rule_trials.specs.Trials.{built, HasNoInstance, IsTrial}
+use Rattle.specialise.specs.declared.trial.Special.{Special}
+use Rattle.rule_trials.specs.Trials.{built, with_none, AnswersRule, HasNoInstance, IsTried, IsTrial}
 use Rattle.rule_trials.proofs.Order.{built_ascend, earlier}
 
 -- none of the first n rules has an instance
@@ -38,19 +44,31 @@ pub none_of_all : (o : Origins) (at : Spot) (e : TermTree) → NoneBefore o at e
 none_of_all o at e before r e' c h = before (c.0) r (c.1) (c.2) e' h
 
 -- the next one has
-pub first_of_all : (o : Origins) (at : Spot) (e new : TermTree) (n : ℕ) (r : Rule) → n < length built → slice_index_or built n r ≡ r
-    → NoneBefore o at e n → HasInstance o at r e new → IsTrial built o at e (record { rule = r; new = new })
-first_of_all o at e new n r within is before h = record {
+pub first_of_all : (p : Program) (made : List Made) (at : Spot) (e : TermTree) (s : Special) (n : ℕ) (r : Rule)
+    → n < length built → slice_index_or built n r ≡ r
+    → NoneBefore (origins_in p made) at e n → IsTried p made at r e s
+    → IsTrial built p made at e (record { rule = r; new = s.new; definition = s.definition })
+first_of_all p made at e s n r within is before h = record {
   is_rule = (n, within, is);
-  made = h;
-  first = λ s e' c less i. before (c.0) s (earlier 0 built n (c.0) r s r s built_ascend within (c.1) is (c.2) less) (c.2) e' i;
+  made_new = h.instance;
+  adds = h.adds;
+  first = λ q e' c less i. before (c.0) q (earlier 0 built n (c.0) r q r q built_ascend within (c.1) is (c.2) less) (c.2) e' i;
 }
 
 -- so where the rule of this number has an instance, it is the first
-pub found : (o : Origins) (at : Spot) (e new : TermTree) (n : ℕ) (d d' : Rule) (answer : Option TermTree) → n < length built → NoneBefore o at e n
-    → answer ≡ Some new → IsInstanceAnswer o at (slice_index_or built n d) e answer
-    → IsTrial built o at e (record { rule = slice_index_or built n d'; new = new })
-found o at e new n d d' answer within before is h =
-    let there : HasInstance o at (slice_index_or built n d) e new = subst (IsInstanceAnswer o at (slice_index_or built n d) e) is h in
-    first_of_all o at e new n (slice_index_or built n d') within (get_or_default built n (slice_index_or built n d') d' within) before
-    (subst (λ r. HasInstance o at r e new) (get_or_default built n d d' within) there)
+pub found : (p : Program) (made : List Made) (at : Spot) (e : TermTree) (s : Special) (n : ℕ) (d d' : Rule) (answer : Option Special)
+    → n < length built → NoneBefore (origins_in p made) at e n
+    → answer ≡ Some s → AnswersRule p made at (slice_index_or built n d) e answer
+    → IsTrial built p made at e (record { rule = slice_index_or built n d'; new = s.new; definition = s.definition })
+found p made at e s n d d' answer within before is h =
+    let there : IsTried p made at (slice_index_or built n d) e s = subst (AnswersRule p made at (slice_index_or built n d) e) is h in
+    first_of_all p made at e s n (slice_index_or built n d') within (get_or_default built n (slice_index_or built n d') d' within) before
+    (subst (λ r. IsTried p made at r e s) (get_or_default built n d d' within) there)
+
+-- what a rule makes that adds no definition
+pub of_plain : (p : Program) (made : List Made) (at : Spot) (r : Rule) (e : TermTree) (answer : Option TermTree)
+    → (r ≡ Spec → ⊥) → IsInstanceAnswer (origins_in p made) at r e answer
+    → AnswersRule p made at r e (option_map with_none answer)
+of_plain p made at r e None other none = none
+of_plain p made at r e (Some new) other i =
+    record { instance = i; adds = record { after = no_call other; fresh = tt } }

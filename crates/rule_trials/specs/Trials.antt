@@ -1,26 +1,33 @@
 -- The first rule with an instance on a term at a place.
-use Rattle.std.specs.Prelude.{◌<◌, List, [], ◌∷◌, Option, MatchOption, Contains}
+use Rattle.std.specs.Prelude.{◌<◌, List, [], ◌∷◌, Option, None, IfSome}
+use Rattle.std.specs.Prelude.{MatchOption, Contains}
 use Rattle.chw_types.specs.TypeTree.{TypeTree}
+use Rattle.chw_terms.specs.declared.program.Program.{Program}
 use Rattle.chw_terms.specs.declared.rule.Rule.{Rule}
 use Rattle.chw_terms.specs.declared.rule.Rule.TheVariants.{TyBeta, Beta, AppLet, AppCase}
 use Rattle.chw_terms.specs.declared.rule.Rule.TheVariants.{CaseCon, CaseLet, CaseCase, Proj}
 use Rattle.chw_terms.specs.declared.rule.Rule.TheVariants.{PrimLet, PrimCase, Flat, Dead, Inline}
 use Rattle.chw_terms.specs.declared.rule.Rule.TheVariants.{Unfold, Unroll, Elem, Delta, ApPure}
-use Rattle.chw_terms.specs.declared.rule.Rule.TheVariants.{Eta, Anf}
+use Rattle.chw_terms.specs.declared.rule.Rule.TheVariants.{Eta, Spec, Anf}
+use Rattle.chw_terms.specs.declared.scene.Made.{Made}
 use Rattle.chw_terms.specs.TermTree.{TermTree}
 use Rattle.chw_typing.specs.Scopes.{Setting}
 use Rattle.chw_typing.specs.Typing.{HasType}
 use Rattle.rewriting.specs.Origins.{Origins}
 use Rattle.rewriting.specs.Spots.{Spot}
 use Rattle.rewriting.specs.Instances.{HasInstance}
-use Rattle.rewriting.specs.Steps.{number_of}
+use Rattle.rewriting.specs.Runs.{After}
+use Rattle.rewriting.specs.Steps.{number_of, origins_in}
+use Rattle.made_table.specs.Held.{HoldsNone}
+pub use Rattle.specialise.specs.Special.{with_new}
+use Rattle.specialise.specs.declared.trial.Special.{Special}
 use Rattle.rule_trials.specs.declared.trial.Trial.{Trial}
 
--- the rules that are tried, in their order
+-- the rules, in their order
 abbrev pub built : List Rule
 built =
     TyBeta ∷ Beta ∷ AppLet ∷ AppCase ∷ CaseCon ∷ CaseLet ∷ CaseCase ∷ Proj ∷ PrimLet ∷ PrimCase
-    ∷ Flat ∷ Dead ∷ Inline ∷ Unfold ∷ Unroll ∷ Elem ∷ Delta ∷ ApPure ∷ Eta ∷ Anf ∷ []
+    ∷ Flat ∷ Dead ∷ Inline ∷ Unfold ∷ Unroll ∷ Elem ∷ Delta ∷ ApPure ∷ Eta ∷ Spec ∷ Anf ∷ []
 
 -- the term has a type, with variables of these types in scope
 abbrev pub HasSomeType : Setting → List TypeTree → TermTree → Type 0
@@ -31,15 +38,44 @@ abbrev pub HasNoInstance : List Rule → Origins → Spot → TermTree → Type 
 HasNoInstance rules o at e =
     (r : Rule) (e' : TermTree) → Contains rules r → HasInstance o at r e e' → ⊥
 
--- one of the rules makes this of the term, and none before it has an instance
-pub record IsTrial (rules : List Rule) (o : Origins) (at : Spot) (e : TermTree) (t : Trial)
-    : Type 0 where
+-- what the rule adds to these made definitions where it makes something of the term at the place: a
+-- definition whose origin none of them has, or none
+pub record Adds (p : Program) (made : List Made) (at : Spot) (e : TermTree) (rule : Rule)
+    (definition : Option Made) : Type 0 where
+  pub after : After p made at e rule (with_new made definition)
+  pub fresh : IfSome definition (λ it. HoldsNone made it.origin)
+
+-- what a rule makes that adds no definition
+abbrev pub with_none : TermTree → Special
+with_none e = record { new = e; definition = None }
+
+-- the rule makes this of the term, and adds this
+pub record IsTried (p : Program) (made : List Made) (at : Spot) (rule : Rule) (e : TermTree)
+    (s : Special) : Type 0 where
+  pub instance : HasInstance (origins_in p made) at rule e s.new
+  pub adds : Adds p made at e rule s.definition
+
+-- the answer is that, or nothing where the rule has no instance
+abbrev pub AnswersRule
+    : Program → List Made → Spot → Rule → TermTree → Option Special → Type 0
+AnswersRule p made at rule e answer =
+    MatchOption answer
+    ((e' : TermTree) → HasInstance (origins_in p made) at rule e e' → ⊥)
+    (IsTried p made at rule e)
+
+-- one of the rules makes this of the term and adds this, and none before it has an instance
+pub record IsTrial (rules : List Rule) (p : Program) (made : List Made) (at : Spot) (e : TermTree)
+    (t : Trial) : Type 0 where
   pub is_rule : Contains rules t.rule
-  pub made : HasInstance o at t.rule e t.new
+  pub made_new : HasInstance (origins_in p made) at t.rule e t.new
+  pub adds : Adds p made at e t.rule t.definition
   pub first : (r : Rule) (e' : TermTree)
-      → Contains rules r → number_of r < number_of t.rule → HasInstance o at r e e' → ⊥
+      → Contains rules r → number_of r < number_of t.rule
+      → HasInstance (origins_in p made) at r e e' → ⊥
 
 -- the answer is what the first of the rules with an instance makes, or nothing where none has one
-abbrev pub IsFirstRule : List Rule → Origins → Spot → TermTree → Option Trial → Type 0
-IsFirstRule rules o at e answer =
-    MatchOption answer (HasNoInstance rules o at e) (IsTrial rules o at e)
+abbrev pub IsFirstRule
+    : List Rule → Program → List Made → Spot → TermTree → Option Trial → Type 0
+IsFirstRule rules p made at e answer =
+    MatchOption answer
+    (HasNoInstance rules (origins_in p made) at e) (IsTrial rules p made at e)

@@ -1,4 +1,5 @@
-//! The rules, tried in their order on a term at a place: what the first one with an instance makes of it.
+//! The rules, tried in their order on a term at a place: what the first one with an instance makes of it, and the made definition
+//! that it adds.
 #![tactic(auto)]
 
 pub mod trial;

@@ -1,30 +1,34 @@
 //! The first rule with an instance.
-ghost use Rattle.std.specs.Prelude.{◌≡◌, [], reverse, IfOk, Contains};
+ghost use Rattle.std.specs.Prelude.{◌≡◌, [], reverse, option_map, IfOk};
 ghost use Rattle.chw_types.specs.References.{HasNoCycle};
 ghost use Rattle.chw_typing.specs.Scopes.{setting_in};
+ghost use Rattle.chw_terms.specs.declared.rule.Rule.TheVariants.{Spec};
 ghost use Rattle.rewriting.specs.Origins.{origins_of};
 ghost use Rattle.rewriting.specs.Spots.{spot_of};
 ghost use Rattle.term_types.specs.Answers.{IsReady};
 ghost use Rattle.term_types.specs.Signatures.{IsSignature};
 ghost use Rattle.rule_parts.specs.Cores.{HasTypeAt, IsInstanceAnswer};
-ghost use Rattle.rule_trials.specs.Trials.{built, HasSomeType, IsFirstRule};
+ghost use Rattle.rule_trials.specs.Trials.{built, with_none, HasSomeType, AnswersRule, IsFirstRule};
 
 use chw_base::NoMemory;
-use chw_terms::{Place, Rule, Scene, Term};
+use chw_terms::{Made, Place, Rule, Scene, Term};
 use looks::Looks;
+use made_table::Table;
 use rewriting::scene_laws::settings_of_scenes;
+use specialise::{Special, try_special};
 use std::alloc::Global;
 use term_types::Signature;
 
-/// What the first rule with an instance makes of a term.
+/// What the first rule with an instance makes of a term, and the made definition that it adds, if it adds one.
 #[derive(Drop)]
 pub struct Trial {
     pub rule: Rule,
     pub new: Term,
+    pub definition: Option<Made>,
 }
 
-// The rules that are tried, in their order.
-const BUILT: [Rule; 20] = [
+// The rules, in their order.
+const BUILT: [Rule; 21] = [
     Rule::TyBeta,
     Rule::Beta,
     Rule::AppLet,
@@ -44,11 +48,12 @@ const BUILT: [Rule; 20] = [
     Rule::Delta,
     Rule::ApPure,
     Rule::Eta,
+    Rule::Spec,
     Rule::Anf,
 ];
 
-// The instance of one of the rules on a term that has a type.
-fn tried<L: Looks>(
+// The instance of a rule that adds no definition, on a term that has a type.
+fn plain<L: Looks>(
     alloc: Global,
     rule: Rule,
     scene: &Scene,
@@ -57,7 +62,7 @@ fn tried<L: Looks>(
     place: &Place,
     looks: &mut L,
 ) -> Result<Option<Term>, NoMemory>
-    requires rule { Contains built rule }
+    requires other { rule ≡ Spec → ⊥ }
     requires order { HasNoCycle scene.now.program.now.datas }
     requires ready { IsReady (setting_in scene.now) [] (reverse place.now.vars) }
     requires table { IsSignature scene.now.program.now signature.now }
@@ -80,31 +85,77 @@ fn tried<L: Looks>(
     }
 }
 
-/// The first rule with an instance on a term at a place, and what it makes of it. Nothing comes exactly where no rule has an instance.
+// What a rule that adds no definition makes.
+fn without_definition(found: Option<Term>) -> Option<Special>
+    ensures { result ≡ option_map with_none found }
+{
+    match found {
+        Some(new) => Some(Special {
+            new,
+            definition: None,
+        }),
+        None => None,
+    }
+}
+
+// The instance of a rule on a term that has a type, and what it adds.
+fn tried<L: Looks>(
+    alloc: Global,
+    table: &Table,
+    rule: Rule,
+    scene: &Scene,
+    signature: &Signature,
+    at: &Term,
+    place: &Place,
+    looks: &mut L,
+) -> Result<Option<Special>, NoMemory>
+    requires same { scene.now.made.now ≡ table.now }
+    requires order { HasNoCycle scene.now.program.now.datas }
+    requires ready { IsReady (setting_in scene.now) [] (reverse place.now.vars) }
+    requires table { IsSignature scene.now.program.now signature.now }
+    requires typed { HasTypeAt (origins_of scene.now) (spot_of place.now) at.now }
+    ensures { IfOk result (AnswersRule scene.now.program.now scene.now.made.now (spot_of place.now) rule at.now) }
+{
+    if let Rule::Spec = rule {
+        return try_special(alloc, table, scene, signature, at, place, looks);
+    }
+    let found = plain(alloc, rule, scene, signature, at, place, looks)?;
+    Ok(without_definition(found))
+}
+
+/// The first rule with an instance on a term at a place, what it makes of it, and the made definition that it adds where it is the rule of
+/// made definitions and none in the table has the origin. Nothing comes exactly where no rule has an instance.
 ///
 /// Each rule that is tried is one look.
 ///
-/// No data type leads back to itself and the scene is sound, as in every typed program. Terms have the types of the variables in scope at
-/// the place, and the term has a type there. The signature is that of the scene's program.
+/// The scene's made definitions are those of the table. No data type leads back to itself and the scene is sound, as in every typed
+/// program. Terms have the types of the variables in scope at the place, and the term has a type there. The signature is that of the
+/// scene's program.
 /// Where a number would pass 32 bits, the answer is want of memory.
 pub fn first_rule<L: Looks>(
     alloc: Global,
+    table: &Table,
     scene: &Scene,
     signature: &Signature,
     at: &Term,
     place: &Place,
     looks: &mut L,
 ) -> Result<Option<Trial>, NoMemory>
+    requires same { scene.now.made.now ≡ table.now }
     requires order { HasNoCycle scene.now.program.now.datas }
     requires ready { IsReady (setting_in scene.now) [] (reverse place.now.vars) }
     requires table { IsSignature scene.now.program.now signature.now }
     requires typed { HasSomeType (setting_in scene.now) (reverse place.now.vars) at.now }
-    ensures { IfOk result (IsFirstRule built (origins_of scene.now) (spot_of place.now) at.now) }
+    ensures { IfOk result (IsFirstRule built scene.now.program.now scene.now.made.now (spot_of place.now) at.now) }
 {
     settings_of_scenes();
     for rule in &BUILT {
-        if let Some(new) = tried(alloc, *rule, scene, signature, at, place, looks)? {
-            return Ok(Some(Trial { rule: *rule, new }));
+        if let Some(it) = tried(alloc, table, *rule, scene, signature, at, place, looks)? {
+            return Ok(Some(Trial {
+                rule: *rule,
+                new: it.new,
+                definition: it.definition,
+            }));
         }
     }
     Ok(None)

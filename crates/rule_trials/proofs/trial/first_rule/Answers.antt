@@ -1,7 +1,6 @@
 use Rattle.std.proofs.Common.{[], reverse, sym, subst}
 use Rattle.chw_types.specs.TypeTree.{TypeTree}
 use Rattle.chw_typing.specs.Typing.{HasType}
-use Rattle.rewriting.specs.Origins.{origins_of}
 use Rattle.rewriting.specs.Spots.{spot_of}
 use Rattle.rule_trials.proofs.Tried.{found}
 use Rattle.rule_trials.proofs.trial.first_rule.Goals as goal
@@ -13,5 +12,7 @@ tried-requires-clause-typed g c =
 
 pub returns-in-Some : goal.returns-in-Some
 returns-in-Some g c =
-    found (origins_of c.args.scene.now) (spot_of c.args.place.now) c.args.at.now c.in-Some.new c.loop-rule.rule-index _ _ c.in_ok-new.field-0
-    c.loop-rule-test.true c.loop-rule.invariant c.in-Some.is c.in_ok-new.ensures
+    let scene = c.args.scene.now in
+    found scene.program.now scene.made.now (spot_of c.args.place.now) c.args.at.now c.in-Some.it
+    c.loop-rule.rule-index _ _ c.in_ok-it.field-0 c.loop-rule-test.true c.loop-rule.invariant
+    c.in-Some.is c.in_ok-it.ensures

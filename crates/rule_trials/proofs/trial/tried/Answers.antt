@@ -1,0 +1,13 @@
+use Rattle.std.proofs.Common.{sym, subst}
+use Rattle.rewriting.specs.Spots.{spot_of}
+use Rattle.rule_trials.specs.Trials.{AnswersRule}
+use Rattle.rule_trials.proofs.Tried.{of_plain}
+use Rattle.rule_trials.proofs.trial.tried.Goals as goal
+
+pub returns : goal.returns
+returns g c =
+    let scene = c.args.scene.now in
+    subst (AnswersRule scene.program.now scene.made.now (spot_of c.args.place.now) c.args.rule c.args.at.now)
+    (sym c.without_definition.ensures)
+    (of_plain scene.program.now scene.made.now (spot_of c.args.place.now) c.args.rule c.args.at.now
+    c.in_ok-found.found c.in_default.not-Spec c.in_ok-found.ensures)
