@@ -1,8 +1,9 @@
 -- What stands between two steps of a run.
-use Rattle.std.proofs.Common.{◌≡◌, inl, inr, ℕ, zero, suc, refl, sym, ap, subst, arith, List, []}
+use Rattle.std.proofs.Common.{◌≡◌, inl, inr, ℕ, zero, suc, ◌≤◌, refl, sym, ap, subst, arith, List, []}
 use Rattle.std.proofs.Common.{◌∷◌, length}
 use Rattle.std.specs.Prelude.{IsSome, IfOk, Option, Result}
 use Rattle.std.proofs.lemmas.Result.{IfOk-weaker}
+use Rattle.chw_base.specs.declared.limits.TheConstants.{MADE_DEFINITIONS}
 use Rattle.chw_terms.specs.declared.program.Program.{Program}
 use Rattle.chw_terms.specs.declared.scene.Made.{Made}
 use Rattle.chw_terms.specs.declared.scene.Scene.{Scene}
@@ -15,10 +16,10 @@ use Rattle.typing_laws.specs.Paths.{IsEarlier}
 use Rattle.term_types.specs.Signatures.{IsSignature}
 use Rattle.rewriting.specs.Runs.{IsOpening, StepsTo}
 use Rattle.rewriting.specs.Steps.{IsFirst, origins_in, Where}
-use Rattle.rule_types.specs.States.{IsTypedState, StepsKeepState}
+use Rattle.rule_types.specs.States.{IsTypedState}
+use Rattle.made_states.specs.Laws.{AnyStepIsSought, AnyStepKeepsState}
 use Rattle.rule_trials.specs.Trials.{built}
 use Rattle.opening.specs.Laws.{OpeningIsTyped}
-use Rattle.step_order.specs.Laws.{StepsAreSought}
 use Rattle.step_order.specs.Sought.{IsSought}
 use Rattle.chw_norm.specs.FoundSteps.{FindsFrom, FindsNext}
 use Rattle.norm_lines.specs.Places.{where_of}
@@ -29,7 +30,7 @@ use Rattle.chw_norm.specs.Running.{AreShallow}
 use Rattle.chw_norm.specs.Underway.{AreSought, HasSpine, IsBetweenSteps, step_of}
 use Rattle.chw_norm.specs.declared.progress.Progress.{Progress}
 use Rattle.chw_norm.proofs.Places.{SpineLaws, place_is_spine}
-use Rattle.chw_norm.proofs.Steps.{first_of_all, other_rule}
+use Rattle.chw_norm.proofs.Steps.{first_of_all}
 
 -- from the root of the first made definition on everything is sought
 all_from_root : (w : Where) → IsSought 0 [] w
@@ -48,50 +49,48 @@ only_one p made h = ap length h.2
 
 -- before the first step
 pub between_first : OpeningIsTyped → (r : Progress) → IsTidy r.program.now → IsTyped r.program.now
-    → IsSignature r.program.now r.signature → IsOpening r.program.now r.made.items
-    → AreBounds r.made.items r.bounds.items → r.from.made.number ≡ 0 → r.from.path.items ≡ []
+    → IsSignature r.program.now r.signature → IsOpening r.program.now r.made
+    → AreBounds r.made r.bounds.items → r.from.made.number ≡ 0 → r.from.path.items ≡ []
     → IsBetweenSteps r
-between_first law r tidy typed table opens bounds start root = record {
-  table = table;
-  typed = law r.program.now r.made.items tidy typed opens;
-  sought = λ v new step. subst (λ n. IsSought n r.from.path.items v) (sym start)
-      (subst (λ path. IsSought 0 path v) (sym root) (all_from_root v));
-  bounds = bounds;
-  shallow = inl (only_one r.program.now r.made.items opens);
-}
+between_first law r tidy typed table opens bounds start root =
+    let one = only_one r.program.now r.made opens in record {
+      table = table;
+      typed = law r.program.now r.made tidy typed opens;
+      sought = λ v new step. subst (λ n. IsSought n r.from.path.items v) (sym start)
+          (subst (λ path. IsSought 0 path v) (sym root) (all_from_root v));
+      bounds = bounds;
+      few = omega (arith, one);
+      shallow = inl one;
+    }
 
 -- behind a step to shallow bodies
-pub between_next : StepsKeepState → StepsAreSought → (f : Found) (r r' : Progress)
-    → IsBetweenSteps r
-    → StepsTo built r.program.now r.made.items (step_of f) r'.made.items
-    → length r'.made.items ≡ length r.made.items → r'.program.now ≡ r.program.now
-    → r'.signature ≡ r.signature → AreBounds r'.made.items r'.bounds.items
-    → AreShallow r'.made.items → r'.from.made.number ≡ f.at.made.number
-    → r'.from.path.items ≡ f.at.path.items → IsBetweenSteps r'
-between_next keep behind f r r' h step all program table bounds shallow number path = record {
+pub between_next : AnyStepKeepsState → AnyStepIsSought → (f : Found) (r r' : Progress)
+    → IsBetweenSteps r → StepsTo built r.program.now r.made (step_of f) r'.made
+    → r'.program.now ≡ r.program.now → r'.signature ≡ r.signature
+    → AreBounds r'.made r'.bounds.items → length r'.made ≤ MADE_DEFINITIONS → AreShallow r'.made
+    → r'.from.made.number ≡ f.at.made.number → r'.from.path.items ≡ f.at.path.items
+    → IsBetweenSteps r'
+between_next keep behind f r r' h step program table bounds few shallow number path = record {
   table = subst (λ p. IsSignature p r'.signature) (sym program)
       (subst (IsSignature r.program.now) (sym table) h.table);
-  typed = subst (λ p. IsTypedState p r'.made.items) (sym program) typed;
-  sought = subst (λ p. AreSought p r'.made.items r'.from) (sym program) sought;
+  typed = subst (λ p. IsTypedState p r'.made) (sym program)
+      (keep built r.program.now r.made r'.made (step_of f) h.typed step);
+  sought = subst (λ p. AreSought p r'.made r'.from) (sym program) sought;
   bounds = bounds;
+  few = few;
   shallow = inr shallow;
 }
   where
-    typed : IsTypedState r.program.now r'.made.items
-    typed =
-        keep built r.program.now r.made.items r'.made.items (step_of f) h.typed
-        (other_rule f.at.rule step.is_first.step.0) step
-
-    sought : AreSought r.program.now r'.made.items r'.from
+    sought : AreSought r.program.now r'.made r'.from
     sought v new s =
         let from_there : IsSought f.at.made.number f.at.path.items v = behind built r.program.now
-        r.made.items r'.made.items (step_of f) v new step all s in
+        r.made r'.made (step_of f) v h.typed step (new, s) in
         subst (λ n. IsSought n r'.from.path.items v) (sym number)
         (subst (λ q. IsSought f.at.made.number q v) (sym path) from_there)
 
 -- the scene of the made definitions
 pub scene_is_typed : (scene : Scene) (r : Progress) → scene.program.now ≡ r.program.now
-    → scene.made.now ≡ r.made.items → IsBetweenSteps r → IsTypedScene scene
+    → scene.made.now ≡ r.made → IsBetweenSteps r → IsTypedScene scene
 scene_is_typed scene r program made h =
     let state : IsTypedState scene.program.now scene.made.now = subst
     (λ p. IsTypedState p scene.made.now) (sym program)
@@ -101,13 +100,13 @@ scene_is_typed scene r program made h =
 -- what is first from the place on is first of all
 pub finds_next :
     {E : Type 0} (r : Progress) (scene_made : List Made) (answer : Result (Option Found) E)
-    → scene_made ≡ r.made.items → IsBetweenSteps r
+    → scene_made ≡ r.made → IsBetweenSteps r
     → IfOk answer (FindsFrom built r.program.now scene_made r.from.made.number r.from.path.items)
-    → IfOk answer (FindsNext built r.program.now r.made.items)
+    → IfOk answer (FindsNext built r.program.now r.made)
 finds_next r scene_made answer made h found =
-    IfOk-weaker answer (FindsFrom built r.program.now r.made.items r.from.made.number
-    r.from.path.items) (FindsNext built r.program.now r.made.items)
-    (λ f. first_of_all r.program.now r.made.items r.from f h.sought)
+    IfOk-weaker answer (FindsFrom built r.program.now r.made r.from.made.number
+    r.from.path.items) (FindsNext built r.program.now r.made)
+    (λ f. first_of_all r.program.now r.made r.from f h.sought)
     (subst (λ ms. IfOk answer (FindsFrom built r.program.now ms r.from.made.number
     r.from.path.items)) made found)
 

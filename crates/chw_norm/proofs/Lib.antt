@@ -5,6 +5,7 @@ mod Changed
 mod Deeper
 mod Ends
 mod Firsts
+mod Grown
 mod Lambdas
 mod Normal
 mod Numbered

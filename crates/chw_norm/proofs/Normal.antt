@@ -12,9 +12,9 @@ use Rattle.chw_terms.specs.declared.scene.Made.{Made}
 use Rattle.rewriting.specs.RuleLaws.{OneState}
 use Rattle.rewriting.specs.Runs.{IsOpening, opened, Step, StepsTo, top_of}
 use Rattle.rewriting.specs.Steps.{HasNoStep}
-use Rattle.chw_norm.specs.Running.{AreShallow, HasDeep, IsLeft, ShallowRun}
-use Rattle.chw_norm.specs.Running.{ShallowSteps, no_step, step_and, Ends, done, spent, deep}
-use Rattle.chw_norm.specs.Running.{no_memory}
+use Rattle.chw_norm.specs.Running.{AreShallow, FillsTable, HasDeep, IsLeft}
+use Rattle.chw_norm.specs.Running.{ShallowRun, ShallowSteps, no_step, step_and, Ends, done, spent}
+use Rattle.chw_norm.specs.Running.{full, deep, no_memory}
 use Rattle.chw_norm.specs.declared.running.RunFault.{RunFault}
 
 -- from this state on so many of the steps are left
@@ -79,7 +79,17 @@ none_too_deep {s = s} law none no_step last d = none s.place s.new last.is_first
 none_too_deep {rules} {p} {to = to} {s = s} law none
     (step_and {made = from} {made' = next} {s = first} leads h more) last d =
     let one = law rules p from next to first s leads last in
-    not_deep to (subst AreShallow one.1 h) d
+    not_deep to (subst AreShallow one.1 h.shallow) d
+
+-- nor is there ever want of room
+never_full : {rules : List Rule} {p : Program} {from made : List Made} {steps : List Step}
+    → OneState → HasNoStep rules p made → ShallowSteps rules p from steps made
+    → FillsTable rules p from → ⊥
+never_full law none no_step t = none t.step.place t.step.new t.leads.is_first.step
+never_full {rules} {p} law none (step_and {made = from} {made' = next} {s = first} leads h more) t =
+    let one = law rules p from next t.next first t.step leads t.leads in
+    let same : length next ≡ length t.next = ap length one.1 in
+    omega (arith, t.many, h.few, same)
 
 pub none_refused : {rules : List Rule} {p : Program} {budget : ℕ} {made : List Made}
     {steps others : List Step} {answer : Result (List Made) (Or RunFault)} (fault : RunFault)
@@ -89,6 +99,8 @@ none_refused fault law run none few is (done other ended) = absurd cc
 none_refused fault law run none few is (spent other left all) =
     let r = rest_of_run law none run other in
     none_spent r.leads (omega (arith, r.counted)) none left
+none_refused fault law run none few is (full other within t) =
+    let r = rest_of_run law none run other in never_full law none r.leads t
 none_refused fault law run none few is (deep d) =
     let r = rest_of_run law none run d.run in none_too_deep law none r.leads d.leads d.deep
 none_refused fault law run none few is (no_memory other) = absurd cc

@@ -7,7 +7,7 @@ use Rattle.chw_terms.specs.declared.rule.Rule.{Rule}
 use Rattle.chw_terms.specs.TermTree.{TermTree}
 use Rattle.rewriting.specs.Origins.{Origins}
 use Rattle.rewriting.specs.Spots.{Spot}
-use Rattle.chw_norm.specs.First.{Places, AtPath, From, HasNoStepAt, FindsFirst}
+use Rattle.chw_norm.specs.First.{Additions, Places, AtPath, From, HasNoStepAt, FindsFirst}
 use Rattle.chw_norm.specs.declared.trail.Trail.{Trail}
 use Rattle.active_parts.proofs.Ways.{AreInOrder}
 use Rattle.chw_norm.proofs.Firsts.{Either, Among, AllInOrder, from_among, step_among}
@@ -56,24 +56,24 @@ nothing P None h p = p
 nothing P (Some f) h p = absurd (false≢true (sym h))
 
 -- where nothing is found at a number either, there is none up to the next
-pub none_up_to_next : (rules : List Rule) (o : Origins) (s : Places) (w : Paths) (n : ℕ)
+pub none_up_to_next : (rules : List Rule) (o : Origins) (adds : Additions) (s : Places) (w : Paths) (n : ℕ)
     (from : List ℕ) (found : Option Trail) → is_some found ≡ false
     → HasNoStepAt rules o (From o (OfFirst s w n)) from
-    → FindsFirst rules o (From o (AtPath s (w n))) from found
+    → FindsFirst rules o adds (From o (AtPath s (w n))) from found
     → HasNoStepAt rules o (From o (OfFirst s w (suc n))) from
-none_up_to_next rules o s w n from found empty none here p r e x =
-    let last = nothing (FindsFirst rules o (From o (AtPath s (w n))) from) found empty here in
+none_up_to_next rules o adds s w n from found empty none here p r e x =
+    let last = nothing (FindsFirst rules o adds (From o (AtPath s (w n))) from) found empty here in
     let all = Either (OfFirst s w n) (AtPath s (w n)) in
-    found_in_second rules o (OfFirst s w n) (AtPath s (w n)) from None none last p r e
+    found_in_second rules o adds (OfFirst s w n) (AtPath s (w n)) from None none last p r e
     (step_among rules o (From o (OfFirst s w (suc n))) (From o all) from p r e
     (from_among o (OfFirst s w (suc n)) all (next_places s w n)) x)
 
 -- where there is none up to the last number, there is none
-pub none_at_all : (rules : List Rule) (o : Origins) (s : Places) (w : Paths) (n m : ℕ)
+pub none_at_all : (rules : List Rule) (o : Origins) (adds : Additions) (s : Places) (w : Paths) (n m : ℕ)
     (from : List ℕ) → HaveNumbers s w n → n ≤ m
     → HasNoStepAt rules o (From o (OfFirst s w m)) from
-    → FindsFirst rules o (From o s) from None
-none_at_all rules o s w n m from all l none p r e x =
+    → FindsFirst rules o adds (From o s) from None
+none_at_all rules o adds s w n m from all l none p r e x =
     none p r e
     (step_among rules o (From o s) (From o (OfFirst s w m)) from p r e
     (from_among o s (OfFirst s w m)
@@ -109,18 +109,18 @@ later_in_order s w n m order p q at at' e e' h k =
     (subst (λ z. AreInOrder (w n) z) (sym k.3) (order n k.0 k.1 k.2))
 
 -- what is first at a number, where there is none before it, is first of all
-pub found_at_number : (rules : List Rule) (o : Origins) (s : Places) (w : Paths) (n m : ℕ)
+pub found_at_number : (rules : List Rule) (o : Origins) (adds : Additions) (s : Places) (w : Paths) (n m : ℕ)
     (from : List ℕ) (found : Option Trail) → is_some found ≡ true
     → HaveNumbers s w m → InOrder w m
     → HasNoStepAt rules o (From o (OfFirst s w n)) from
-    → FindsFirst rules o (From o (AtPath s (w n))) from found
-    → FindsFirst rules o (From o s) from found
-found_at_number rules o s w n m from None h all order none is = absurd (false≢true h)
-found_at_number rules o s w n m from (Some f) h all order none is =
+    → FindsFirst rules o adds (From o (AtPath s (w n))) from found
+    → FindsFirst rules o adds (From o s) from found
+found_at_number rules o adds s w n m from None h all order none is = absurd (false≢true h)
+found_at_number rules o adds s w n m from (Some f) h all order none is =
     let here = AtPath s (w n) in
     let later = OfLater s w n m in
     let parts = Parted s w n m in
-    finds_same rules o (From o parts) (From o s) from (Some f)
+    finds_same rules o adds (From o parts) (From o s) from (Some f)
     (from_among o parts s (of_parts s w n m)) (from_among o s parts (to_parts s w n m all))
-    (found_in_second rules o (OfFirst s w n) (Either here later) from (Some f) none
-    (found_in_first rules o here later from f (later_in_order s w n m order) is))
+    (found_in_second rules o adds (OfFirst s w n) (Either here later) from (Some f) none
+    (found_in_first rules o adds here later from f (later_in_order s w n m order) is))

@@ -1,6 +1,8 @@
 -- The first step at a place and below it.
 use Rattle.std.proofs.Common.{◌≡◌, ◌⊎◌, inl, inr, ℕ, refl, sym, ap, ◌∙◌, subst, arith, List, [], ◌∷◌, ◌++◌, reverse, Option, Some, None}
 use Rattle.chw_terms.specs.declared.rule.Rule.{Rule}
+use Rattle.chw_terms.specs.declared.program.Program.{Program}
+use Rattle.chw_terms.specs.declared.scene.Made.{Made}
 use Rattle.chw_terms.specs.TermTree.{TermTree}
 use Rattle.typing_laws.specs.Paths.{IsEarlier}
 use Rattle.rewriting.specs.Origins.{Origins}
@@ -9,9 +11,10 @@ use Rattle.rewriting.specs.Spots.{Spot}
 use Rattle.rewriting.proofs.OneStep.{one_below}
 use Rattle.rewriting.proofs.OneWay.{one_active}
 use Rattle.rewriting.specs.Instances.{HasInstance}
-use Rattle.rule_trials.specs.Trials.{IsTrial, HasNoInstance}
+use Rattle.rewriting.specs.Steps.{origins_in}
+use Rattle.rule_trials.specs.Trials.{Adds, IsTrial, HasNoInstance}
 use Rattle.rule_trials.specs.declared.trial.Trial.{Trial}
-use Rattle.chw_norm.specs.First.{Places, AtPath, From, IsStepAt, IsBeforeThere, HasNoStepAt, IsFirstAt, FindsFirst, GoesOn}
+use Rattle.chw_norm.specs.First.{Additions, Places, AtPath, From, IsStepAt, IsBeforeThere, HasNoStepAt, IsFirstAt, FindsFirst, GoesOn}
 use Rattle.step_order.specs.Sought.{IsSoughtPath}
 use Rattle.chw_norm.specs.Begins.{IsPassed, BeginsAt}
 use Rattle.chw_norm.specs.declared.trail.Trail.{Trail}
@@ -66,23 +69,26 @@ step_above rules o path at e from left q r new b x =
     }
 
 -- what is found at or below a place is found from it on, at its path and what follows
-found_from : (rules : List Rule) (o : Origins) (path : List ℕ) (at : Spot) (e : TermTree) (from left : List ℕ) (found answer : Option Trail) → BeginsAt path from left → FindsFirst rules o (IsActive o at e) left found → GoesOn path found answer → FindsFirst rules o (From o (Only path at e)) from answer
-found_from rules o path at e from left None answer b none is =
-    subst (FindsFirst rules o (From o (Only path at e)) from) (sym is)
+found_from : (rules : List Rule) (o : Origins) (adds : Additions) (path : List ℕ) (at : Spot) (e : TermTree) (from left : List ℕ) (found answer : Option Trail) → BeginsAt path from left → FindsFirst rules o adds (IsActive o at e) left found → GoesOn path found answer → FindsFirst rules o adds (From o (Only path at e)) from answer
+unfolding step_above
+found_from rules o adds path at e from left None answer b none is =
+    subst (FindsFirst rules o adds (From o (Only path at e)) from) (sym is)
     (λ q r new x. let s = step_below rules o path at e from left q r new b x in none s.rest r new s.step)
-found_from rules o path at e from left (Some f) None b first is = absurd is
-found_from rules o path at e from left (Some f) (Some g) b first is =
+found_from rules o adds path at e from left (Some f) None b first is = absurd is
+found_from rules o adds path at e from left (Some f) (Some g) b first is =
     let back = reverse f.back.items in
-    let whole : IsFirstAt rules o (From o (Only path at e)) from (path ++ back) f.rule f.new =
+    let whole : IsFirstAt rules o adds (From o (Only path at e)) from (path ++ back) f.rule f.new f.definition =
     record {
       it = step_above rules o path at e from left back f.rule f.new b first.it;
+      added = first.added;
       first = λ q r new x h.
           let s = step_below rules o path at e from left q r new b x in
           first.first s.rest r new s.step (rest_before path s.rest back r f.rule (subst (λ p. IsBeforeThere p r (path ++ back) f.rule) s.is h));
     } in
-    subst (λ p. IsFirstAt rules o (From o (Only path at e)) from p g.rule g.new) (sym is.0)
-    (subst (λ r. IsFirstAt rules o (From o (Only path at e)) from (path ++ back) r g.new) (sym is.1)
-    (subst (λ n. IsFirstAt rules o (From o (Only path at e)) from (path ++ back) f.rule n) (sym is.2) whole))
+    subst (λ p. IsFirstAt rules o adds (From o (Only path at e)) from p g.rule g.new g.definition) (sym is.0)
+    (subst (λ r. IsFirstAt rules o adds (From o (Only path at e)) from (path ++ back) r g.new g.definition) (sym is.1)
+    (subst (λ n. IsFirstAt rules o adds (From o (Only path at e)) from (path ++ back) f.rule n g.definition) (sym is.2)
+    (subst (λ d. IsFirstAt rules o adds (From o (Only path at e)) from (path ++ back) f.rule f.new d) (sym is.3) whole)))
 
 -- the place below a term at a path is the one that was found there
 only_there : (o : Origins) (at at' : Spot) (e x : TermTree) (path : List ℕ)
@@ -101,18 +107,18 @@ there_only o at at' e x path b p at'' y h = (
       (subst (λ z. Below o at e path at' z) (sym h.2) b)),
 )
 
-pub found_at_part : (rules : List Rule) (o : Origins) (at at' : Spot) (e x : TermTree)
+pub found_at_part : (rules : List Rule) (o : Origins) (adds : Additions) (at at' : Spot) (e x : TermTree)
     (path from left : List ℕ) (found answer : Option Trail)
     → Below o at e path at' x → BeginsAt path from left
-    → FindsFirst rules o (IsActive o at' x) left found → GoesOn path found answer
-    → FindsFirst rules o (From o (AtPath (Below o at e) path)) from answer
-found_at_part rules o at at' e x path from left found answer b begins first on =
+    → FindsFirst rules o adds (IsActive o at' x) left found → GoesOn path found answer
+    → FindsFirst rules o adds (From o (AtPath (Below o at e) path)) from answer
+found_at_part rules o adds at at' e x path from left found answer b begins first on =
     let here = Only path at' x in
     let there = AtPath (Below o at e) path in
-    finds_same rules o (From o here) (From o there) from answer
+    finds_same rules o adds (From o here) (From o there) from answer
     (from_among o here there (there_only o at at' e x path b))
     (from_among o there here (only_there o at at' e x path b))
-    (found_from rules o path at' x from left found answer begins first on)
+    (found_from rules o adds path at' x from left found answer begins first on)
 
 -- what is passed has no step that is sought
 pub none_passed : (rules : List Rule) (o : Origins) (s : Places) (path from : List ℕ) → ((p : List ℕ) (at : Spot) (e : TermTree) → s p at e → p ≡ path) → IsPassed path from → HasNoStepAt rules o (From o s) from
@@ -130,16 +136,20 @@ no_root [] h = h
 no_root (i ∷ q) h = h
 
 -- a rule with an instance at the place itself comes first
-pub found_here : (rules : List Rule) (o : Origins) (at : Spot) (e : TermTree) (from back : List ℕ)
-    (t : Trial) → IsTrial rules o at e t → back ≡ []
-    → IsFirstAt rules o (IsActive o at e) from (reverse back) t.rule t.new
-found_here rules o at e from back t is empty =
-    subst (λ p. IsFirstAt rules o (IsActive o at e) from p t.rule t.new) (sym (ap reverse empty))
+pub found_here : (rules : List Rule) (p : Program) (made : List Made) (at : Spot) (e : TermTree) (from back : List ℕ)
+    (t : Trial) → IsTrial rules p made at e t → back ≡ []
+    → IsFirstAt rules (origins_in p made) (Adds p made) (IsActive (origins_in p made) at e) from (reverse back) t.rule t.new t.definition
+found_here rules p made at e from back t is empty =
+    subst (λ q. IsFirstAt rules o (Adds p made) (IsActive o at e) from q t.rule t.new t.definition) (sym (ap reverse empty))
     (record {
-      it = record { at = at; term = e; place = at_it; sought = root_sought from; is_rule = is.is_rule; made = is.made };
+      it = record { at = at; term = e; place = at_it; sought = root_sought from; is_rule = is.is_rule; made = is.made_new };
+      added = is.adds;
       first = before;
     })
   where
+    o : Origins
+    o = origins_in p made
+
     before : (q : List ℕ) (r : Rule) (e' : TermTree) → IsStepAt rules o (IsActive o at e) from q r e' → IsBeforeThere q r [] t.rule → ⊥
     before q r e' x (inl h) = no_root q h
     before q r e' x (inr h) =
@@ -161,10 +171,12 @@ there : (rules : List Rule) (o : Origins) (at : Spot) (e : TermTree) (from q : L
 there rules o at e from q r new x =
     record { at = x.at; term = x.term; place = from_is_active o at e q x.at x.term x.place; sought = x.sought; is_rule = x.is_rule; made = x.made }
 
-pub found_below : (rules : List Rule) (o : Origins) (at : Spot) (e : TermTree) (from : List ℕ) (answer : Option Trail) → HasNoInstance rules o at e → FindsFirst rules o (From o (Below o at e)) from answer → FindsFirst rules o (IsActive o at e) from answer
-found_below rules o at e from None none more = λ q r new x. more q r new (not_here rules o at e from q r new none x)
-found_below rules o at e from (Some f) none first =
+pub found_below : (rules : List Rule) (o : Origins) (adds : Additions) (at : Spot) (e : TermTree) (from : List ℕ) (answer : Option Trail) → HasNoInstance rules o at e → FindsFirst rules o adds (From o (Below o at e)) from answer → FindsFirst rules o adds (IsActive o at e) from answer
+unfolding there
+found_below rules o adds at e from None none more = λ q r new x. more q r new (not_here rules o at e from q r new none x)
+found_below rules o adds at e from (Some f) none first =
     record {
       it = there rules o at e from (reverse f.back.items) f.rule f.new first.it;
+      added = first.added;
       first = λ q r new x h. first.first q r new (not_here rules o at e from q r new none x) h;
     }

@@ -1,80 +1,114 @@
--- A step that is made by putting its term at its place.
-use Rattle.std.proofs.Common.{◌≡◌, ◌∙◌, ℕ, ◌<◌, ◌≤◌, sym, ap, subst, List, [], ◌∷◌, ◌++◌, length}
-use Rattle.std.proofs.Common.{set, arith}
-use Rattle.chw_base.specs.declared.limits.TheConstants.{MADE_DEPTH}
+-- A step that is made by adding what it adds, and putting its term at its place.
+use Rattle.std.proofs.Common.{◌≡◌, ◌⊎◌, inl, inr, ◌∙◌, ℕ, ◌<◌, ◌≤◌, sym, ap, subst, List, [], ◌∷◌}
+use Rattle.std.proofs.Common.{◌++◌, length, set, max, Some, arith}
+use Rattle.std.proofs.lemmas.Bool.{cases_lt}
+use Rattle.std.specs.List.{slice_get}
+use Rattle.chw_base.specs.declared.limits.TheConstants.{MADE_DEFINITIONS, MADE_DEPTH}
+use Rattle.made_states.specs.Laws.{AnyStepIsSought, AnyStepKeepsState}
 use Rattle.rewriting.specs.Runs.{StepsTo}
-use Rattle.rewriting.specs.Steps.{IsFirst}
-use Rattle.rule_types.specs.States.{StepsKeepState}
-use Rattle.rule_trials.specs.Trials.{built}
-use Rattle.step_order.specs.Laws.{StepsAreSought}
-use Rattle.norm_lines.specs.Places.{where_of}
+use Rattle.rule_trials.specs.Trials.{built, with_new}
 use Rattle.chw_norm.specs.declared.place.Found.{Found}
 use Rattle.norm_lines.specs.declared.place.StepAt.{StepAt}
 use Rattle.chw_norm.specs.declared.place.StepPlace.{StepPlace}
 use Rattle.chw_norm.specs.Bounds.{AreBounds, IsBound}
+use Rattle.chw_norm.specs.FoundSteps.{IsNext}
 use Rattle.chw_norm.specs.Running.{AreShallow, HasDeep}
-use Rattle.chw_norm.specs.Underway.{Advances, IsPutAt, IsBetweenSteps, step_of}
+use Rattle.chw_norm.specs.Underway.{Advances, depth_of, IsBetweenSteps, IsGrown, IsPutAt, step_of}
 use Rattle.chw_norm.specs.declared.progress.Progress.{Progress}
 use Rattle.chw_norm.proofs.Changed.{all_shallow, bound_changed, bounds_kept, has_deep, length_kept}
+use Rattle.chw_norm.proofs.Changed.{new_is_deep}
 use Rattle.chw_norm.proofs.Between.{between_next}
+use Rattle.chw_norm.proofs.Grown.{grown_bounds, grown_few}
 use Rattle.chw_norm.proofs.Steps.{step_made}
 
 -- the state of which the search goes on from another place
 abbrev pub from_place : Progress → StepPlace → Progress
 from_place r from = record r { from = from }
 
-leads : (f : Found) (r q : Progress) (bound : ℕ)
-    → IsFirst built r.program.now r.made.items (where_of f.at) f.new → IsPutAt f.at f.new r q bound
-    → StepsTo built r.program.now r.made.items (step_of f) q.made.items
-leads f r q bound first put =
-    step_made r.program.now r.made.items q.made.items (step_of f) put.it put.body first put.is
-    put.body_is put.made
+-- the step of this state adds what it adds, and then the term is put, with this bound of the body
+pub record IsMade (f : Found) (r g q : Progress) (bound : ℕ) : Type 0 where
+  pub between : IsBetweenSteps r
+  pub next : IsNext built r.program.now r.made f
+  pub grown : IsGrown f.definition r g
+  pub put : IsPutAt f.at f.new g q bound
+
+put_in_grown : (f : Found) (r g q : Progress) (bound : ℕ) → (m : IsMade f r g q bound)
+    → q.made ≡ set (with_new r.made f.definition) f.at.made.number
+    (record m.put.it { body = m.put.body })
+put_in_grown f r g q bound m =
+    m.put.made
+    ∙ ap (λ ms. set ms f.at.made.number (record m.put.it { body = m.put.body })) m.grown.made
+
+leads : (f : Found) (r g q : Progress) (bound : ℕ) → IsMade f r g q bound
+    → StepsTo built r.program.now r.made (step_of f) q.made
+leads f r g q bound m =
+    step_made r.program.now r.made q.made f m.put.it m.put.body m.next
+    (subst (λ ms. slice_get ms f.at.made.number ≡ Some m.put.it) m.grown.made m.put.is)
+    m.put.body_is (put_in_grown f r g q bound m)
 
 -- the step is made, and traced
 pub put_is_step :
-    (f : Found) (old new : List StepAt) (r q : Progress) (from : StepPlace) (bound : ℕ)
-    → IsFirst built r.program.now r.made.items (where_of f.at) f.new → IsPutAt f.at f.new r q bound
-    → new ≡ old ++ f.at ∷ [] → Advances f old new r (from_place q from)
-put_is_step f old new r q from bound first put traced =
-    record { program = put.program; leads = leads f r q bound first put; traced = traced }
+    (f : Found) (old new : List StepAt) (r g q : Progress) (from : StepPlace) (bound : ℕ)
+    → IsMade f r g q bound → new ≡ old ++ f.at ∷ [] → Advances f old new r (from_place q from)
+put_is_step f old new r g q from bound m traced = record {
+  program = m.put.program ∙ m.grown.program;
+  leads = leads f r g q bound m;
+  traced = traced;
+}
 
-new_bound : (f : Found) (r q : Progress) (bound : ℕ) → IsBetweenSteps r
-    → (put : IsPutAt f.at f.new r q bound)
-    → IsBound bound put.body
-new_bound f r q bound h put =
-    bound_changed r.made.items r.bounds.items f.at.made.number bound put.it put.body put.is h.bounds
-    put.keeps
+pub put_is_few : (f : Found) (r g q : Progress) (bound : ℕ) → IsMade f r g q bound
+    → length q.made ≤ MADE_DEFINITIONS
+put_is_few f r g q bound m =
+    let kept : length q.made ≡ length g.made = ap length m.put.made
+    ∙ length_kept g.made f.at.made.number (record m.put.it { body = m.put.body }) in
+    omega (arith, kept, grown_few f.definition r.made g.made m.between.few m.grown.room m.grown.made)
+
+new_bound : (f : Found) (r g q : Progress) (bound : ℕ) → (m : IsMade f r g q bound)
+    → IsBound bound m.put.body
+new_bound f r g q bound m =
+    bound_changed g.made g.bounds.items f.at.made.number bound m.put.it m.put.body m.put.is
+    (grown_bounds f.definition r g m.between m.grown) m.put.keeps
 
 -- within the limit all bodies are shallow
-pub put_is_shallow : (f : Found) (r q : Progress) (bound : ℕ) → IsBetweenSteps r
-    → IsPutAt f.at f.new r q bound → bound ≤ MADE_DEPTH → AreShallow q.made.items
-put_is_shallow f r q bound h put within =
-    subst AreShallow (sym put.made)
-    (all_shallow r.made.items f.at.made.number put.it (record put.it { body = put.body }) put.is
-    h.shallow (omega (arith, new_bound f r q bound h put within, within)))
+pub put_is_shallow : (f : Found) (r g q : Progress) (bound : ℕ) → IsMade f r g q bound
+    → depth_of f.definition ≤ MADE_DEPTH → bound ≤ MADE_DEPTH → AreShallow q.made
+put_is_shallow f r g q bound m added within =
+    let step = m.next.is_first.step.1 in
+    let few = new_bound f r g q bound m within in
+    subst AreShallow (sym (put_in_grown f r g q bound m))
+    (all_shallow r.made f.at.made.number f.definition step.it
+    (record m.put.it { body = m.put.body }) step.is m.between.shallow added
+    (omega (arith, few, within)))
 
--- and over the limit one is deep
-pub put_is_deep : (f : Found) (r q : Progress) (bound : ℕ) → IsPutAt f.at f.new r q bound
-    → MADE_DEPTH < bound → HasDeep q.made.items
-put_is_deep f r q bound put over =
-    subst HasDeep (sym put.made) (has_deep r.made.items f.at.made.number put.it
-    (record put.it { body = put.body }) put.is (put.exact over))
-
-pub put_between : StepsKeepState → StepsAreSought
-    → (f : Found) (r q : Progress) (from : StepPlace) (bound : ℕ) → IsBetweenSteps r
-    → IsFirst built r.program.now r.made.items (where_of f.at) f.new → IsPutAt f.at f.new r q bound
-    → AreShallow q.made.items → from.made.number ≡ f.at.made.number
-    → from.path.items ≡ f.at.path.items → IsBetweenSteps (from_place q from)
-put_between keep behind f r q from bound h first put shallow number path =
-    between_next keep behind f r (from_place q from) h (leads f r q bound first put)
-    (ap length put.made ∙ length_kept r.made.items f.at.made.number
-    (record put.it { body = put.body }))
-    put.program put.signature bounds shallow number path
+-- and over the limit one is deep: that of what is added, or the changed one
+pub put_is_deep : (f : Found) (r g q : Progress) (bound : ℕ) → IsMade f r g q bound
+    → MADE_DEPTH < max bound (depth_of f.definition) → HasDeep q.made
+put_is_deep f r g q bound m over = by (cases_lt MADE_DEPTH bound)
   where
-    bounds : AreBounds q.made.items q.bounds.items
+    by : (MADE_DEPTH < bound) ⊎ (bound ≤ MADE_DEPTH) → HasDeep q.made
+    by (inl l) =
+        subst HasDeep (sym m.put.made) (has_deep g.made f.at.made.number m.put.it
+        (record m.put.it { body = m.put.body }) m.put.is (m.put.exact l))
+    by (inr l) =
+        let step = m.next.is_first.step.1 in
+        subst HasDeep (sym (put_in_grown f r g q bound m))
+        (new_is_deep r.made f.at.made.number f.definition step.it
+        (record m.put.it { body = m.put.body }) step.is (omega (arith, over, l)))
+
+pub put_between : AnyStepKeepsState → AnyStepIsSought
+    → (f : Found) (r g q : Progress) (from : StepPlace) (bound : ℕ) → IsMade f r g q bound
+    → AreShallow q.made → from.made.number ≡ f.at.made.number
+    → from.path.items ≡ f.at.path.items → IsBetweenSteps (from_place q from)
+put_between keep behind f r g q from bound m shallow number path =
+    between_next keep behind f r (from_place q from) m.between (leads f r g q bound m)
+    (m.put.program ∙ m.grown.program) (m.put.signature ∙ m.grown.signature) bounds
+    (put_is_few f r g q bound m) shallow number path
+  where
+    bounds : AreBounds q.made q.bounds.items
     bounds =
-        subst (λ ms. AreBounds ms q.bounds.items) (sym put.made)
-        (subst (AreBounds (set r.made.items f.at.made.number (record put.it { body = put.body })))
-        (sym put.bounds)
-        (bounds_kept r.made.items r.bounds.items f.at.made.number bound
-        (record put.it { body = put.body }) h.bounds (new_bound f r q bound h put)))
+        subst (λ ms. AreBounds ms q.bounds.items) (sym m.put.made)
+        (subst (AreBounds (set g.made f.at.made.number (record m.put.it { body = m.put.body })))
+        (sym m.put.bounds)
+        (bounds_kept g.made g.bounds.items f.at.made.number bound
+        (record m.put.it { body = m.put.body })
+        (grown_bounds f.definition r g m.between m.grown) (new_bound f r g q bound m)))

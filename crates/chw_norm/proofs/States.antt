@@ -16,6 +16,7 @@ use Rattle.rewriting.specs.Active.{IsPlaceOf, at_it}
 use Rattle.rewriting.specs.PlaceLaws.{PlaceOfSceneIsTyped}
 use Rattle.rewriting.specs.Spots.{Spot, spot}
 use Rattle.rewriting.specs.Steps.{origins_in, Where, IsBefore, HasStepBy}
+use Rattle.rule_trials.specs.Trials.{Adds}
 use Rattle.chw_norm.specs.Lambdas.{under_lambdas}
 use Rattle.chw_norm.specs.First.{IsStepAt, IsBeforeThere, FindsFirst}
 use Rattle.chw_norm.specs.FoundSteps.{HasNoneFrom, FindsFrom, FindsNext, IsFirstIn, HasNoneIn, FindsIn, IsFoundIn, LeadsToTyped}
@@ -67,7 +68,8 @@ before_there n path rule v is (inl l) = absurd (omega (arith, l, is))
 before_there n path rule v is (inr h) = h.1
 
 -- what is found at its places is found in it
-pub found_in_made : (rules : List Rule) (p : Program) (made : List Made) (it : Made) (n m : ℕ) (from left : List ℕ) (found : Option Trail) (answer : Option Found) → slice_get made n ≡ Some it → BeginsIn n m from left → FindsFirst rules (origins_in p made) (under_lambdas (origins_in p made) (mode_of it.sort) [] it.body it.ty) left found → IsFoundIn n found answer → FindsIn rules p made n m from answer
+pub found_in_made : (rules : List Rule) (p : Program) (made : List Made) (it : Made) (n m : ℕ) (from left : List ℕ) (found : Option Trail) (answer : Option Found) → slice_get made n ≡ Some it → BeginsIn n m from left → FindsFirst rules (origins_in p made) (Adds p made) (under_lambdas (origins_in p made) (mode_of it.sort) [] it.body it.ty) left found → IsFoundIn n found answer → FindsIn rules p made n m from answer
+unfolding in_step
 found_in_made rules p made it n m from left None answer at b none is =
     subst (FindsIn rules p made n m from) (sym is)
     (λ w new in_it s sought. none w.path w.rule new (step_in rules p made it n m from left w new at b in_it s sought))
@@ -75,16 +77,19 @@ found_in_made rules p made it n m from left (Some t) None at b first is = absurd
 found_in_made rules p made it n m from left (Some t) (Some f) at b first is =
     let path = reverse t.back.items in
     let w : Where = record { number = n; path = path; rule = t.rule } in
-    let whole : IsFirstIn rules p made n m from w t.new =
+    let whole : IsFirstIn rules p made n m from w t.new t.definition =
     record {
       in_it = refl;
       step = in_step rules p made it n left path t.rule t.new at first.it;
+      added = first.added;
       sought = in_sought n m from left w b refl first.it.sought;
       first = λ v other in_it s sought h.
           first.first v.path v.rule other (step_in rules p made it n m from left v other at b in_it s sought) (before_there n path t.rule v in_it h);
     } in
     let there : where_of f.at ≡ w = λ i. record { number = is.0 i; path = is.1 i; rule = is.2 i } in
-    subst (λ z. IsFirstIn rules p made n m from z f.new) (sym there) (subst (IsFirstIn rules p made n m from w) (sym is.3) whole)
+    subst (λ z. IsFirstIn rules p made n m from z f.new f.definition) (sym there)
+    (subst (λ e. IsFirstIn rules p made n m from w e f.definition) (sym is.3)
+    (subst (IsFirstIn rules p made n m from w t.new) (sym is.4) whole))
 
 -- nothing is found in the made definitions before this number
 abbrev pub HasNoneBelow : List Rule → Program → List Made → ℕ → ℕ → List ℕ → Type 0
@@ -115,7 +120,7 @@ none_at_all rules p made n m from l none w new s sought =
 -- what is found in a made definition, where nothing is in those before it, is the first of all
 pub found_from_place : (rules : List Rule) (p : Program) (made : List Made) (n m : ℕ) (from : List ℕ) (f : Found) → HasNoneBelow rules p made n m from → FindsIn rules p made n m from (Some f) → FindsFrom rules p made m from (Some f)
 found_from_place rules p made n m from f none is =
-    record { step = is.step; sought = is.sought; first = first }
+    record { step = is.step; added = is.added; sought = is.sought; first = first }
   where
     first : (v : Where) (other : TermTree) → HasStepBy rules p made v other → IsSought m from v → IsBefore v (where_of f.at) → ⊥
     first v other s sought b = by (cases_lt v.number n) b
@@ -138,7 +143,7 @@ next_of_all rules p made m from answer start root h = of answer (subst (λ q. Fi
   where
     of : (a : Option Found) → FindsFrom rules p made 0 [] a → FindsNext rules p made a
     of None none = λ w new s. none w new s (sought_anyway w)
-    of (Some f) is = record { step = is.step; first = λ v other s b. is.first v other s (sought_anyway v) b }
+    of (Some f) is = record { is_first = record { step = is.step; first = λ v other s b. is.first v other s (sought_anyway v) b }; added = is.added }
 
 -- below the leading lambdas of a typed made definition there is a typed term
 pub made_leads : PlaceOfSceneIsTyped → (scene : Scene) (m : ℕ) (it : Made) → IsTypedScene scene → slice_get scene.made.now m ≡ Some it → LeadsToTyped (setting_in scene) (mode_of it.sort) [] it.body it.ty

@@ -1,56 +1,27 @@
 -- A step of a run, and a run with one step more.
-use Rattle.std.proofs.Common.{◌≡◌, ℕ, zero, suc, ◌<◌, refl, sym, ap, subst, ◌∙◌, arith, List, []}
-use Rattle.std.proofs.Common.{◌∷◌, ◌++◌, length, set, Bool, true, not, ◌&&◌, ◌==◌, Option, Some}
-use Rattle.std.proofs.Common.{None, Contains, slice_index_or}
-use Rattle.std.proofs.lemmas.Bool.{and_parts, true≢false}
-use Rattle.std.proofs.lemmas.List.{append_assoc, map-append}
+use Rattle.std.proofs.Common.{◌≡◌, ℕ, ◌+◌, refl, sym, ap, ◌∙◌, arith, List, [], ◌∷◌, ◌++◌}
+use Rattle.std.proofs.Common.{length, set, Option, Some, None}
+use Rattle.std.proofs.lemmas.List.{append_assoc, length_push, map-append}
 use Rattle.std.proofs.lemmas.Option.{same_Some}
 use Rattle.std.specs.List.{slice_get}
+use Rattle.chw_base.specs.declared.limits.TheConstants.{MADE_DEFINITIONS}
 use Rattle.chw_terms.specs.declared.program.Program.{Program}
 use Rattle.chw_terms.specs.declared.rule.Rule.{Rule}
-use Rattle.chw_terms.specs.declared.rule.Rule.TheVariants.{Spec}
 use Rattle.chw_terms.specs.declared.scene.Made.{Made}
 use Rattle.chw_terms.specs.TermTree.{TermTree}
 use Rattle.typing_laws.specs.Paths.{with_part}
-use Rattle.rewriting.specs.Runs.{Step, StepsTo, no_call}
-use Rattle.rewriting.specs.Steps.{IsFirst, Where, number_of}
-use Rattle.rule_trials.specs.Trials.{built}
-use Rattle.chw_norm.specs.FoundSteps.{FindsFrom, FindsNext}
+use Rattle.rewriting.specs.Runs.{Step, StepsTo}
+use Rattle.rewriting.specs.Steps.{Where}
+use Rattle.rule_trials.specs.Trials.{built, with_new}
+use Rattle.chw_norm.specs.FoundSteps.{FindsFrom, FindsNext, IsNext}
 use Rattle.norm_lines.specs.Places.{where_of}
 use Rattle.chw_norm.specs.declared.place.Found.{Found}
 use Rattle.norm_lines.specs.declared.place.StepAt.{StepAt}
 use Rattle.chw_norm.specs.declared.place.StepPlace.{StepPlace}
-use Rattle.chw_norm.specs.Running.{AreShallow, ShallowSteps, no_step, step_and, Traces}
+use Rattle.chw_norm.specs.Running.{FillsTable, IsWithinLimits, ShallowSteps, no_step, step_and}
+use Rattle.chw_norm.specs.Running.{Traces}
 use Rattle.chw_norm.specs.Underway.{AreSought, step_of}
-
--- whether none of the rules has the number of the one that makes definitions
-abbrev makes_none : List Rule → Bool
-makes_none [] = true
-makes_none (r ∷ rules) = not (number_of r == number_of Spec) && makes_none rules
-
-not_first : (r : Rule) → not (number_of r == number_of Spec) ≡ true → r ≡ Spec → ⊥
-not_first r h is =
-    true≢false (sym (subst (λ (q : Rule). not (number_of q == number_of Spec) ≡ true) is h))
-
-not_in : (rules : List Rule) → makes_none rules ≡ true → Contains rules Spec → ⊥
-not_in [] h c = omega (arith, c.1)
-not_in (r ∷ rules) h c =
-    by c.0 c.1 c.2 (not_in rules (and_parts (not (number_of r == number_of Spec)) (makes_none rules)
-    h).1)
-  where
-    by : (k : ℕ) → k < length (r ∷ rules) → slice_index_or (r ∷ rules) k Spec ≡ Spec
-        → (Contains rules Spec → ⊥) → ⊥
-    by zero l is later =
-        not_first r (and_parts (not (number_of r == number_of Spec)) (makes_none rules) h).0 is
-    by (suc k) l is later = later (k, omega arith, is)
-
--- no rule that is tried makes a definition
-pub no_spec : Contains built Spec → ⊥
-no_spec = not_in built refl
-
--- a rule that is tried makes none
-pub other_rule : (r : Rule) → Contains built r → r ≡ Spec → ⊥
-other_rule r c is = no_spec (subst (Contains built) is c)
+use Rattle.chw_norm.proofs.Changed.{length_kept, still_there}
 
 -- what is first from a place on is first of all, where all steps are sought from there
 pub first_of_all : (p : Program) (made : List Made) (from : StepPlace) (answer : Option Found)
@@ -58,31 +29,60 @@ pub first_of_all : (p : Program) (made : List Made) (from : StepPlace) (answer :
     → FindsNext built p made answer
 first_of_all p made from None sought h = λ w new step. h w new step (sought w new step)
 first_of_all p made from (Some f) sought h = record {
-  step = h.step;
-  first = λ v other step. h.first v other step (sought v other step);
+  is_first = record {
+    step = h.step;
+    first = λ v other step. h.first v other step (sought v other step);
+  };
+  added = h.added;
 }
 
--- the step is made where its term is put at its place
-pub step_made : (p : Program) (made made' : List Made) (s : Step) (it : Made) (body : TermTree)
-    → IsFirst built p made s.place s.new → slice_get made s.place.number ≡ Some it
-    → body ≡ with_part it.body s.place.path s.new
-    → made' ≡ set made s.place.number (record it { body = body }) → StepsTo built p made s made'
-step_made p made made' s it body first at is there =
-    let step = first.step.1 in
-    let same : it ≡ step.it = same_Some it step.it (sym at ∙ step.is) in
-    let changed : body ≡ with_part step.it.body s.place.path s.new = is ∙ ap
-    (λ (m : Made). with_part m.body s.place.path s.new) same in
+-- the step is made where its term is put at its place, and what it adds stands behind the made
+-- definitions
+pub step_made : (p : Program) (made made' : List Made) (f : Found) (it : Made) (body : TermTree)
+    → IsNext built p made f → slice_get (with_new made f.definition) f.at.made.number ≡ Some it
+    → body ≡ with_part it.body f.at.path.items f.new
+    → made' ≡ set (with_new made f.definition) f.at.made.number (record it { body = body })
+    → StepsTo built p made (step_of f) made'
+step_made p made made' f it body next at is there =
+    let n : ℕ = f.at.made.number in
+    let grown : List Made = with_new made f.definition in
+    let step = next.is_first.step.1 in
+    let same : it ≡ step.it = same_Some it step.it
+    (sym at ∙ still_there made f.definition n step.it step.is) in
+    let changed : body ≡ with_part step.it.body f.at.path.items f.new = is ∙ ap
+    (λ (m : Made). with_part m.body f.at.path.items f.new) same in
     record {
-      is_first = first;
-      with_new = made;
-      after = no_call (other_rule s.place.rule first.step.0);
-      is = there ∙ (λ i. set made s.place.number (record (same i) { body = changed i }));
+      is_first = next.is_first;
+      with_new = grown;
+      after = next.added.after;
+      is = there ∙ (λ i. set grown n (record (same i) { body = changed i }));
+    }
+
+-- where there is no room for what it adds, the table is full
+pub no_room : (p : Program) (made : List Made) (f : Found) (x : Made) → IsNext built p made f
+    → f.definition ≡ Some x → length made ≡ MADE_DEFINITIONS → FillsTable built p made
+no_room p made f x next adds all =
+    let n : ℕ = f.at.made.number in
+    let grown : List Made = with_new made f.definition in
+    let step = next.is_first.step.1 in
+    let body : TermTree = with_part step.it.body f.at.path.items f.new in
+    let next_made : List Made = set grown n (record step.it { body = body }) in
+    let longer : length grown ≡ length made + 1 = ap (λ d. length (with_new made d)) adds
+    ∙ length_push made x in
+    let kept : length next_made ≡ length grown = length_kept grown n
+    (record step.it { body = body }) in
+    record {
+      step = step_of f;
+      next = next_made;
+      leads = step_made p made next_made f step.it body next
+          (still_there made f.definition n step.it step.is) refl refl;
+      many = omega (arith, all, longer, kept);
     }
 
 -- the run with one step more
 pub step_behind :
     {rules : List Rule} {p : Program} {made made' made'' : List Made} {s : Step} {steps : List Step}
-    → ShallowSteps rules p made steps made' → StepsTo rules p made' s made'' → AreShallow made''
+    → ShallowSteps rules p made steps made' → StepsTo rules p made' s made'' → IsWithinLimits made''
     → ShallowSteps rules p made (steps ++ s ∷ []) made''
 step_behind no_step step shallow = step_and step shallow no_step
 step_behind (step_and first h rest) step shallow = step_and first h (step_behind rest step shallow)

@@ -16,7 +16,7 @@ use Rattle.rewriting.specs.Spots.{spot}
 use Rattle.rewriting.proofs.Spines.{IsBare, head_is}
 use Rattle.chw_norm.specs.Lambdas.{under_lambdas}
 use Rattle.active_parts.specs.Grounds.{IsTypedAt}
-use Rattle.chw_norm.specs.First.{Places, IsStepAt, IsBeforeThere, HasNoStepAt, IsFirstAt, FindsFirst, GoesOn}
+use Rattle.chw_norm.specs.First.{Additions, Places, IsStepAt, IsBeforeThere, HasNoStepAt, IsFirstAt, FindsFirst, GoesOn}
 use Rattle.chw_norm.specs.FoundSteps.{LeadsToTyped}
 use Rattle.step_order.specs.Sought.{IsSoughtPath}
 use Rattle.chw_norm.specs.Begins.{IsPassed, BeginsAt}
@@ -47,23 +47,26 @@ step_out rules o path s from left q r new b x =
     record { at = x.at; term = x.term; place = (q, x.place, refl); sought = b.1 q x.sought; is_rule = x.is_rule; made = x.made }
 
 -- what is found among places is found behind a path
-pub found_behind : (rules : List Rule) (o : Origins) (path : List ℕ) (s : Places) (from left : List ℕ) (found answer : Option Trail) → BeginsAt path from left → FindsFirst rules o s left found → GoesOn path found answer → FindsFirst rules o (Behind path s) from answer
-found_behind rules o path s from left None answer b none is =
-    subst (FindsFirst rules o (Behind path s) from) (sym is)
+pub found_behind : (rules : List Rule) (o : Origins) (adds : Additions) (path : List ℕ) (s : Places) (from left : List ℕ) (found answer : Option Trail) → BeginsAt path from left → FindsFirst rules o adds s left found → GoesOn path found answer → FindsFirst rules o adds (Behind path s) from answer
+unfolding step_out
+found_behind rules o adds path s from left None answer b none is =
+    subst (FindsFirst rules o adds (Behind path s) from) (sym is)
     (λ q r new x. let w = step_within rules o path s from left q r new b x in none w.rest r new w.step)
-found_behind rules o path s from left (Some f) None b first is = absurd is
-found_behind rules o path s from left (Some f) (Some g) b first is =
+found_behind rules o adds path s from left (Some f) None b first is = absurd is
+found_behind rules o adds path s from left (Some f) (Some g) b first is =
     let back = reverse f.back.items in
-    let whole : IsFirstAt rules o (Behind path s) from (path ++ back) f.rule f.new =
+    let whole : IsFirstAt rules o adds (Behind path s) from (path ++ back) f.rule f.new f.definition =
     record {
       it = step_out rules o path s from left back f.rule f.new b first.it;
+      added = first.added;
       first = λ q r new x h.
           let w = step_within rules o path s from left q r new b x in
           first.first w.rest r new w.step (rest_before path w.rest back r f.rule (subst (λ p. IsBeforeThere p r (path ++ back) f.rule) w.is h));
     } in
-    subst (λ p. IsFirstAt rules o (Behind path s) from p g.rule g.new) (sym is.0)
-    (subst (λ r. IsFirstAt rules o (Behind path s) from (path ++ back) r g.new) (sym is.1)
-    (subst (λ n. IsFirstAt rules o (Behind path s) from (path ++ back) f.rule n) (sym is.2) whole))
+    subst (λ p. IsFirstAt rules o adds (Behind path s) from p g.rule g.new g.definition) (sym is.0)
+    (subst (λ r. IsFirstAt rules o adds (Behind path s) from (path ++ back) r g.new g.definition) (sym is.1)
+    (subst (λ n. IsFirstAt rules o adds (Behind path s) from (path ++ back) f.rule n g.definition) (sym is.2)
+    (subst (λ d. IsFirstAt rules o adds (Behind path s) from (path ++ back) f.rule f.new d) (sym is.3) whole)))
 
 pub none_behind : (rules : List Rule) (o : Origins) (path : List ℕ) (s : Places) (from : List ℕ) → IsPassed path from → HasNoStepAt rules o (Behind path s) from
 none_behind rules o path s from h p r new x = h x.place.0 (subst (λ q. IsSoughtPath q from) x.place.2 x.sought)
@@ -160,9 +163,9 @@ lambda_above o m vars a body b t same p at x h =
     (0 ∷ u.0, u.1, u.2, u.3, under_one same u.4, u.5, h.2 ∙ ap (λ q. 0 ∷ q) u.6)
 
 -- what is found at and below a term that is under no lambda
-pub found_without : (rules : List Rule) (o : Origins) (s : Setting) (m : Mode) (vars : List TypeTree) (e : TermTree) (t : TypeTree) (from : List ℕ) (answer : Option Trail) → ((a b : TypeTree) → t ≡ fun a b → ⊥) → LeadsToTyped s m vars e t → FindsFirst rules o (IsActive o (spot m true vars) e) from answer → FindsFirst rules o (under_lambdas o m vars e t) from answer
-found_without rules o s m vars e t from answer none l is =
-    finds_same rules o (IsActive o (spot m true vars) e) (under_lambdas o m vars e t) from answer (only_active o s m vars e t none l) (active_only o m vars e t none) is
+pub found_without : (rules : List Rule) (o : Origins) (adds : Additions) (s : Setting) (m : Mode) (vars : List TypeTree) (e : TermTree) (t : TypeTree) (from : List ℕ) (answer : Option Trail) → ((a b : TypeTree) → t ≡ fun a b → ⊥) → LeadsToTyped s m vars e t → FindsFirst rules o adds (IsActive o (spot m true vars) e) from answer → FindsFirst rules o adds (under_lambdas o m vars e t) from answer
+found_without rules o adds s m vars e t from answer none l is =
+    finds_same rules o adds (IsActive o (spot m true vars) e) (under_lambdas o m vars e t) from answer (only_active o s m vars e t none l) (active_only o m vars e t none) is
 
 -- a lambda that is passed
 pub none_under : (rules : List Rule) (o : Origins) (s : Setting) (m : Mode) (vars : List TypeTree) (e : TermTree) (a : TypeTree) (body : TermTree) (args : List Arg) (b t u : TypeTree) (from : List ℕ) → e ≡ applied (lam a body) args → u ≡ fun b t → LeadsToTyped s m vars e u → IsPassed (0 ∷ []) from → HasNoStepAt rules o (under_lambdas o m vars e u) from
@@ -176,16 +179,16 @@ none_under rules o s m vars e a body args b t u from term function l passed =
     (subst (λ v. HasNoStepAt rules o (under_lambdas o m vars (lam a body) v) from) (sym function) whole)
 
 -- what is found under one lambda
-pub found_under : (rules : List Rule) (o : Origins) (s : Setting) (m : Mode) (vars : List TypeTree) (e : TermTree) (a : TypeTree) (body : TermTree) (args : List Arg) (b t u : TypeTree) (from left : List ℕ) (found answer : Option Trail) → e ≡ applied (lam a body) args → u ≡ fun b t → LeadsToTyped s m vars e u → BeginsAt (0 ∷ []) from left → FindsFirst rules o (under_lambdas o m (a ∷ vars) body t) left found → GoesOn (0 ∷ []) found answer → FindsFirst rules o (under_lambdas o m vars e u) from answer
-found_under rules o s m vars e a body args b t u from left found answer term function l begins is on =
+pub found_under : (rules : List Rule) (o : Origins) (adds : Additions) (s : Setting) (m : Mode) (vars : List TypeTree) (e : TermTree) (a : TypeTree) (body : TermTree) (args : List Arg) (b t u : TypeTree) (from left : List ℕ) (found answer : Option Trail) → e ≡ applied (lam a body) args → u ≡ fun b t → LeadsToTyped s m vars e u → BeginsAt (0 ∷ []) from left → FindsFirst rules o adds (under_lambdas o m (a ∷ vars) body t) left found → GoesOn (0 ∷ []) found answer → FindsFirst rules o adds (under_lambdas o m vars e u) from answer
+found_under rules o adds s m vars e a body args b t u from left found answer term function l begins is on =
     let this = this_lambda s m vars e a body args b t term (subst (LeadsToTyped s m vars e) function l) in
     let inner = under_lambdas o m (a ∷ vars) body t in
-    let whole : FindsFirst rules o (under_lambdas o m vars (lam a body) (fun b t)) from answer =
-    finds_same rules o (Behind (0 ∷ []) inner) (under_lambdas o m vars (lam a body) (fun b t)) from answer
+    let whole : FindsFirst rules o adds (under_lambdas o m vars (lam a body) (fun b t)) from answer =
+    finds_same rules o adds (Behind (0 ∷ []) inner) (under_lambdas o m vars (lam a body) (fun b t)) from answer
     (lambda_above o m vars a body b t this.same) (below_lambda o m vars a body b t)
-    (found_behind rules o (0 ∷ []) inner from left found answer begins is on) in
-    subst (λ z. FindsFirst rules o (under_lambdas o m vars z u) from answer) (sym this.is)
-    (subst (λ v. FindsFirst rules o (under_lambdas o m vars (lam a body) v) from answer) (sym function) whole)
+    (found_behind rules o adds (0 ∷ []) inner from left found answer begins is on) in
+    subst (λ z. FindsFirst rules o adds (under_lambdas o m vars z u) from answer) (sym this.is)
+    (subst (λ v. FindsFirst rules o adds (under_lambdas o m vars (lam a body) v) from answer) (sym function) whole)
 
 -- under the lambda there is a typed term too
 pub leads_under : (s : Setting) (m : Mode) (vars : List TypeTree) (e : TermTree) (a : TypeTree) (body : TermTree) (args : List Arg) (b t u : TypeTree) → e ≡ applied (lam a body) args → u ≡ fun b t → LeadsToTyped s m vars e u → LeadsToTyped s m (a ∷ vars) body t

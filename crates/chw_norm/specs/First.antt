@@ -2,6 +2,8 @@
 use Rattle.std.specs.Prelude.{◌≡◌, ◌⊎◌, ℕ, ◌<◌, List, ◌++◌, reverse}
 use Rattle.std.specs.Prelude.{Option, None, MatchOption, Contains}
 use Rattle.chw_terms.specs.declared.rule.Rule.{Rule}
+use Rattle.chw_terms.specs.declared.scene.Made.{Made}
+use Rattle.chw_terms.specs.declared.scene.Scene.{Scene}
 use Rattle.chw_terms.specs.TermTree.{TermTree}
 use Rattle.typing_laws.specs.Paths.{IsEarlier}
 use Rattle.rewriting.specs.Origins.{Origins}
@@ -9,12 +11,21 @@ use Rattle.rewriting.specs.Active.{IsActive}
 use Rattle.rewriting.specs.Spots.{Spot}
 use Rattle.rewriting.specs.Instances.{HasInstance}
 use Rattle.rewriting.specs.Steps.{number_of}
+use Rattle.rule_trials.specs.Trials.{Adds}
 use Rattle.step_order.specs.Sought.{IsSoughtPath}
 use Rattle.chw_norm.specs.declared.trail.Trail.{Trail}
 
 -- places: a path, and the spot and the term to which it leads
 abbrev pub Places : Type 1
 Places = List ℕ → Spot → TermTree → Type 0
+
+-- what a rule adds where it makes something of the term at a place: a made definition, or none
+abbrev pub Additions : Type 1
+Additions = Spot → TermTree → Rule → Option Made → Type 0
+
+-- to the made definitions of a scene
+abbrev pub adds_to : Scene → Additions
+adds_to scene = Adds scene.program.now scene.made.now
 
 -- those of these places that are at this path
 abbrev pub AtPath : Places → List ℕ → Places
@@ -50,22 +61,25 @@ abbrev pub HasNoStepAt : List Rule → Origins → Places → List ℕ → Type 
 HasNoStepAt rules o s from =
     (path : List ℕ) (rule : Rule) (new : TermTree) → IsStepAt rules o s from path rule new → ⊥
 
--- the first one
-pub record IsFirstAt (rules : List Rule) (o : Origins) (s : Places) (from path : List ℕ)
-    (rule : Rule) (new : TermTree) : Type 0 where
-  pub it : IsStepAt rules o s from path rule new
-  pub first : (q : List ℕ) (r : Rule) (e : TermTree)
-      → IsStepAt rules o s from q r e → IsBeforeThere q r path rule → ⊥
+-- the first one, and what it adds
+pub record IsFirstAt (rules : List Rule) (o : Origins) (adds : Additions) (s : Places)
+    (from path : List ℕ) (rule : Rule) (new : TermTree) (definition : Option Made) : Type 0
+  where
+    pub it : IsStepAt rules o s from path rule new
+    pub added : adds it.at it.term rule definition
+    pub first : (q : List ℕ) (r : Rule) (e : TermTree)
+        → IsStepAt rules o s from q r e → IsBeforeThere q r path rule → ⊥
 
 -- the answer is the first step, or nothing where there is none
-abbrev pub FindsFirst : List Rule → Origins → Places → List ℕ → Option Trail → Type 0
-FindsFirst rules o s from answer =
+abbrev pub FindsFirst
+    : List Rule → Origins → Additions → Places → List ℕ → Option Trail → Type 0
+FindsFirst rules o adds s from answer =
     MatchOption answer (HasNoStepAt rules o s from)
-    (λ t. IsFirstAt rules o s from (reverse t.back.items) t.rule t.new)
+    (λ t. IsFirstAt rules o adds s from (reverse t.back.items) t.rule t.new t.definition)
 
 -- the answer is another one, of which the path goes on from this one
 abbrev pub GoesOn : List ℕ → Option Trail → Option Trail → Type 0
 GoesOn path found answer =
     MatchOption found (answer ≡ None)
     (λ t. MatchOption answer ⊥ (λ u. (reverse u.back.items ≡ path ++ reverse t.back.items)
-    × (u.rule ≡ t.rule) × (u.new ≡ t.new)))
+    × (u.rule ≡ t.rule) × (u.new ≡ t.new) × (u.definition ≡ t.definition)))

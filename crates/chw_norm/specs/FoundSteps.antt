@@ -10,16 +10,18 @@ use Rattle.chw_typing.specs.Scopes.{Setting}
 use Rattle.rewriting.specs.Named.{UnderLambdas}
 use Rattle.rewriting.specs.Spots.{spot}
 use Rattle.rewriting.specs.Steps.{Where, IsBefore, HasStepBy, HasNoStep, IsFirst}
+use Rattle.rule_trials.specs.Trials.{Adds}
 use Rattle.active_parts.specs.Grounds.{IsTypedAt}
 use Rattle.step_order.specs.Sought.{IsSought}
 use Rattle.norm_lines.specs.Places.{where_of}
 use Rattle.chw_norm.specs.declared.place.Found.{Found}
 use Rattle.chw_norm.specs.declared.trail.Trail.{Trail}
 
--- of the steps by these rules that are sought from this place on, the first
+-- of the steps by these rules that are sought from this place on, the first, and what it adds
 pub record IsFirstFrom (rules : List Rule) (p : Program) (made : List Made) (m : ℕ)
-    (from : List ℕ) (w : Where) (new : TermTree) : Type 0 where
+    (from : List ℕ) (w : Where) (new : TermTree) (definition : Option Made) : Type 0 where
   pub step : HasStepBy rules p made w new
+  pub added : Adds p made step.1.at step.1.term w.rule definition
   pub sought : IsSought m from w
   pub first : (v : Where) (other : TermTree)
       → HasStepBy rules p made v other → IsSought m from v → IsBefore v w → ⊥
@@ -33,13 +35,14 @@ HasNoneFrom rules p made m from =
 abbrev pub FindsFrom : List Rule → Program → List Made → ℕ → List ℕ → Option Found → Type 0
 FindsFrom rules p made m from answer =
     MatchOption answer (HasNoneFrom rules p made m from)
-    (λ f. IsFirstFrom rules p made m from (where_of f.at) f.new)
+    (λ f. IsFirstFrom rules p made m from (where_of f.at) f.new f.definition)
 
--- of those in the made definition of this number the first
+-- of those in the made definition of this number the first, and what it adds
 pub record IsFirstIn (rules : List Rule) (p : Program) (made : List Made) (n m : ℕ)
-    (from : List ℕ) (w : Where) (new : TermTree) : Type 0 where
+    (from : List ℕ) (w : Where) (new : TermTree) (definition : Option Made) : Type 0 where
   pub in_it : w.number ≡ n
   pub step : HasStepBy rules p made w new
+  pub added : Adds p made step.1.at step.1.term w.rule definition
   pub sought : IsSought m from w
   pub first : (v : Where) (other : TermTree)
       → v.number ≡ n → HasStepBy rules p made v other → IsSought m from v → IsBefore v w → ⊥
@@ -55,20 +58,25 @@ abbrev pub FindsIn
     : List Rule → Program → List Made → ℕ → ℕ → List ℕ → Option Found → Type 0
 FindsIn rules p made n m from answer =
     MatchOption answer (HasNoneIn rules p made n m from)
-    (λ f. IsFirstIn rules p made n m from (where_of f.at) f.new)
+    (λ f. IsFirstIn rules p made n m from (where_of f.at) f.new f.definition)
 
 -- the answer is this step, in the made definition of this number
 abbrev pub IsFoundIn : ℕ → Option Trail → Option Found → Type 0
 IsFoundIn n found answer =
     MatchOption found (answer ≡ None)
     (λ t. MatchOption answer ⊥ (λ f. (f.at.made.number ≡ n)
-    × (f.at.path.items ≡ reverse t.back.items) × (f.at.rule ≡ t.rule) × (f.new ≡ t.new)))
+    × (f.at.path.items ≡ reverse t.back.items) × (f.at.rule ≡ t.rule) × (f.new ≡ t.new)
+    × (f.definition ≡ t.definition)))
+
+-- the step is the first of all, and adds this
+pub record IsNext (rules : List Rule) (p : Program) (made : List Made) (f : Found) : Type 0 where
+  pub is_first : IsFirst rules p made (where_of f.at) f.new
+  pub added : Adds p made is_first.step.1.at is_first.step.1.term f.at.rule f.definition
 
 -- the answer is the first step of all, or nothing where there is none
 abbrev pub FindsNext : List Rule → Program → List Made → Option Found → Type 0
 FindsNext rules p made answer =
-    MatchOption answer (HasNoStep rules p made)
-    (λ f. IsFirst rules p made (where_of f.at) f.new)
+    MatchOption answer (HasNoStep rules p made) (IsNext rules p made)
 
 -- below the leading lambdas there is a term, and it is typed
 abbrev pub LeadsToTyped : Setting → Mode → List TypeTree → TermTree → TypeTree → Type 0

@@ -9,8 +9,8 @@ use Rattle.rewriting.specs.Steps.{HasNoStep}
 use Rattle.chw_norm.specs.Running.{Ends, ShallowRun}
 use Rattle.chw_norm.specs.declared.running.RunFault.{RunFault}
 
--- where a run of so many steps at most leads to a state without a step, and each of them to shallow
--- bodies, no run within that budget is refused
+-- where a run of so many steps at most leads to a state without a step, and each of them to a state
+-- within the limits, no run within that budget is refused
 abbrev pub NothingRefusesANormalRun : Type 0
 NothingRefusesANormalRun =
     (rules : List Rule) (p : Program) (budget : ℕ)

@@ -1,10 +1,11 @@
 -- How far a run has come, and what one step more makes of it.
-use Rattle.std.specs.Prelude.{◌≡◌, ◌<◌, ◌⊎◌, ℕ, List, [], ◌∷◌, ◌++◌, length, set, Some, Result, Ok}
-use Rattle.std.specs.Prelude.{Err, IsSome}
+use Rattle.std.specs.Prelude.{◌≡◌, ◌<◌, ◌≤◌, ◌⊎◌, ℕ, List, [], ◌∷◌, ◌++◌, length, set, Some}
+use Rattle.std.specs.Prelude.{Option, None, IfSome, Result, Ok, Err, IsSome}
 use Rattle.std.specs.List.{slice_get}
-use Rattle.chw_base.specs.declared.limits.TheConstants.{MADE_DEPTH}
+use Rattle.chw_base.specs.declared.limits.TheConstants.{MADE_DEFINITIONS, MADE_DEPTH}
 use Rattle.chw_base.specs.declared.outcome.Or.{Or}
 use Rattle.chw_base.specs.declared.outcome.Or.TheVariants.{Memory, Fault}
+use Rattle.chw_types.specs.Polynomials.{ended}
 use Rattle.chw_terms.specs.declared.program.Program.{Program}
 use Rattle.chw_terms.specs.declared.scene.Made.{Made}
 use Rattle.chw_terms.specs.Depth.{depth}
@@ -15,17 +16,18 @@ use Rattle.term_types.specs.Signatures.{IsSignature}
 use Rattle.rewriting.specs.Runs.{Step, StepsTo}
 use Rattle.rewriting.specs.Steps.{HasStepBy, Where}
 use Rattle.rule_types.specs.States.{IsTypedState}
-use Rattle.rule_trials.specs.Trials.{built}
+use Rattle.rule_trials.specs.Trials.{built, with_new}
 use Rattle.step_order.specs.Sought.{IsSought}
 use Rattle.norm_lines.specs.Places.{where_of}
 use Rattle.chw_norm.specs.declared.place.Found.{Found}
 use Rattle.norm_lines.specs.declared.place.StepAt.{StepAt}
 use Rattle.chw_norm.specs.declared.place.StepPlace.{StepPlace}
 use Rattle.chw_norm.specs.Bounds.{AreBounds, IsBound}
-use Rattle.chw_norm.specs.Running.{AreShallow, HasDeep, ShallowRun, Traces}
+use Rattle.chw_norm.specs.Running.{AreShallow, FillsTable, HasDeep, IsWithinLimits, ShallowRun}
+use Rattle.chw_norm.specs.Running.{Traces}
 use Rattle.chw_norm.specs.declared.progress.Progress.{Progress}
 use Rattle.chw_norm.specs.declared.running.RunFault.{RunFault}
-use Rattle.chw_norm.specs.declared.running.RunFault.TheVariants.{Depth, Spent}
+use Rattle.chw_norm.specs.declared.running.RunFault.TheVariants.{Depth, Full, Spent}
 
 -- every step of the state is sought from this place on
 abbrev pub AreSought : Program → List Made → StepPlace → Type 0
@@ -36,10 +38,37 @@ AreSought p made from =
 -- a typed state, in which one body alone can be over the limit: that of the opening
 pub record IsBetweenSteps (r : Progress) : Type 0 where
   pub table : IsSignature r.program.now r.signature
-  pub typed : IsTypedState r.program.now r.made.items
-  pub sought : AreSought r.program.now r.made.items r.from
-  pub bounds : AreBounds r.made.items r.bounds.items
-  pub shallow : (length r.made.items ≡ 1) ⊎ AreShallow r.made.items
+  pub typed : IsTypedState r.program.now r.made
+  pub sought : AreSought r.program.now r.made r.from
+  pub bounds : AreBounds r.made r.bounds.items
+  pub few : length r.made ≤ MADE_DEFINITIONS
+  pub shallow : (length r.made ≡ 1) ⊎ AreShallow r.made
+
+-- the bounds with that of this definition at the end, where there is one: its depth, as it is shown
+abbrev pub with_bound : List ℕ → Option Made → List ℕ
+with_bound bounds None = bounds
+with_bound bounds (Some it) = bounds ++ ended (depth it.body) ∷ []
+
+-- the depth of a definition, where there is one, as it is shown
+abbrev pub depth_of : Option Made → ℕ
+depth_of None = 0
+depth_of (Some it) = ended (depth it.body)
+
+-- this definition is added, where there is one and room for it
+pub record IsGrown (definition : Option Made) (r r' : Progress) : Type 0 where
+  pub made : r'.made ≡ with_new r.made definition
+  pub bounds : r'.bounds.items ≡ with_bound r.bounds.items definition
+  pub room : IfSome definition (λ it. length r.made < MADE_DEFINITIONS)
+  pub program : r'.program.now ≡ r.program.now
+  pub signature : r'.signature ≡ r.signature
+
+-- the answer is its depth; or there is no room for it, or memory was wanting
+abbrev pub GrowEnds : Option Made → Progress → Progress → Result ℕ (Or RunFault) → Type 0
+GrowEnds definition r r' (Ok deep) = IsGrown definition r r' × (deep ≡ depth_of definition)
+GrowEnds None r r' (Err (Fault fault)) = ⊥
+GrowEnds (Some it) r r' (Err (Fault fault)) =
+    (fault ≡ Full) × (length r.made ≡ MADE_DEFINITIONS)
+GrowEnds definition r r' (Err Memory) = Unit {0}
 
 -- a whole spine stands at the place of this step
 pub record HasSpine (made : List Made) (at : StepAt) : Type 0 where
@@ -50,10 +79,10 @@ pub record HasSpine (made : List Made) (at : StepAt) : Type 0 where
 -- the term is put there, and this is a bound of the body, exact where it is over the limit
 pub record IsPutAt (at : StepAt) (new : TermTree) (r r' : Progress) (bound : ℕ) : Type 0 where
   pub it : Made
-  pub is : slice_get r.made.items at.made.number ≡ Some it
+  pub is : slice_get r.made at.made.number ≡ Some it
   pub body : TermTree
   pub body_is : body ≡ with_part it.body at.path.items new
-  pub made : r'.made.items ≡ set r.made.items at.made.number (record it { body = body })
+  pub made : r'.made ≡ set r.made at.made.number (record it { body = body })
   pub bounds : r'.bounds.items ≡ set r.bounds.items at.made.number bound
   pub keeps : (n : ℕ) → slice_get r.bounds.items at.made.number ≡ Some n
       → IsBound n it.body → IsBound bound body
@@ -67,16 +96,20 @@ step_of f = record { place = where_of f.at; new = f.new }
 -- the step is made, and it is the next one of the trace
 pub record Advances (f : Found) (old new : List StepAt) (r r' : Progress) : Type 0 where
   pub program : r'.program.now ≡ r.program.now
-  pub leads : StepsTo built r.program.now r.made.items (step_of f) r'.made.items
+  pub leads : StepsTo built r.program.now r.made (step_of f) r'.made
   pub traced : new ≡ old ++ f.at ∷ []
 
--- how a step ends: it leads to shallow bodies, or to one over the limit, or memory was wanting
+-- how a step ends: it leads to a state within the limits, or to a body over the limit, or there is
+-- no room for what it adds, or memory was wanting
 abbrev pub StepEnds
     : Found → List StepAt → List StepAt → Progress → Progress
     → Result (Unit {0}) (Or RunFault) → Type 0
 StepEnds f old new r r' (Ok done) =
-    Advances f old new r r' × AreShallow r'.made.items × IsBetweenSteps r'
-StepEnds f old new r r' (Err (Fault Depth)) = Advances f old new r r' × HasDeep r'.made.items
+    Advances f old new r r' × IsWithinLimits r'.made × IsBetweenSteps r'
+StepEnds f old new r r' (Err (Fault Depth)) =
+    Advances f old new r r' × (length r'.made ≤ MADE_DEFINITIONS) × HasDeep r'.made
+StepEnds f old new r r' (Err (Fault Full)) =
+    (new ≡ old) × FillsTable built r.program.now r.made
 StepEnds f old new r r' (Err (Fault (Spent n))) = ⊥
 StepEnds f old new r r' (Err Memory) = new ≡ old
 
@@ -87,5 +120,5 @@ pub record IsUnderway (p : Program) (old new : List StepAt) (count : ℕ) (r : P
     pub steps : List Step
     pub trace : Traces old new steps
     pub all : length steps ≡ count
-    pub run : ShallowRun built p steps r.made.items
+    pub run : ShallowRun built p steps r.made
     pub between : IsBetweenSteps r

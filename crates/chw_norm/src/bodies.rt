@@ -1,17 +1,15 @@
 //! Bodies of made definitions, with bounds of how deep they are.
-ghost use Rattle.std.specs.Prelude.{◌≡◌, ◌<◌, IfOk, IsSome};
+ghost use Rattle.std.specs.Prelude.{◌<◌, IfOk};
 ghost use Rattle.chw_base.specs.declared.limits.TheConstants.{MADE_DEPTH};
 ghost use Rattle.chw_terms.specs.Depth.{depth};
 ghost use Rattle.chw_terms.specs.TermTree.{TermTree};
 ghost use Rattle.typing_laws.specs.Paths.{with_part};
-ghost use Rattle.typing_laws.specs.PartSpines.{spine_at};
 ghost use Rattle.chw_norm.specs.Bounds.{AreBounds, IsBound};
 
 use chw_base::NoMemory;
 use chw_base::limits::MADE_DEPTH;
 use chw_terms::{Made, Term, depth};
 use std::alloc::Global;
-use typing_laws::set_part;
 
 /// The depth of each body.
 pub(crate) fn depths(alloc: Global, made: &[Made]) -> Result<Vec<usize>, NoMemory>
@@ -24,25 +22,20 @@ pub(crate) fn depths(alloc: Global, made: &[Made]) -> Result<Vec<usize>, NoMemor
     Ok(depths)
 }
 
-// A bound of a term with this part at this path. A path has a number for each level at least.
-fn bound_with(bound: usize, path: &[u32], new: &Term) -> usize
+/// A bound of a term with this part at this path. A path has a number for each level at least.
+pub(crate) fn bound_with(bound: usize, path: &[u32], new: &Term) -> usize
     ensures { (e : TermTree) → IsBound bound e → IsBound result (with_part e path.now new.now) }
 {
     bound.max(path.len().saturating_add(depth(new) as usize))
 }
 
-/// Puts a term at a path of a body, and gives a bound of what the body is then. The body is looked through only where the bound passes
-/// the limit: it is then exact.
-pub(crate) fn change(it: &mut Made, bound: usize, path: &[u32], new: Term) -> usize
-    requires whole { IsSome (spine_at it.old.body path.now) }
-    ensures made { it.new ≡ record it.old { body = with_part it.old.body path.now new } }
-    ensures bound { IsBound bound it.old.body → IsBound result (with_part it.old.body path.now new) }
-    ensures exact { MADE_DEPTH < result → MADE_DEPTH < depth (with_part it.old.body path.now new) }
+/// A bound of a body that has this bound. The body is looked through only where the bound passes the limit: it is then exact.
+pub(crate) fn exact_over_limit(bound: usize, body: &Term) -> usize
+    ensures bound { IsBound bound body.now → IsBound result body.now }
+    ensures exact { MADE_DEPTH < result → MADE_DEPTH < depth body.now }
 {
-    let bound = bound_with(bound, path, &new);
-    set_part(&mut it.body, path, new);
     if bound > MADE_DEPTH as usize {
-        depth(&it.body) as usize
+        depth(body) as usize
     } else {
         bound
     }

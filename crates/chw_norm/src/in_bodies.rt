@@ -5,7 +5,7 @@ ghost use Rattle.rewriting.specs.Named.{mode_of};
 ghost use Rattle.rewriting.specs.Origins.{origins_of};
 ghost use Rattle.rule_trials.specs.Trials.{built};
 ghost use Rattle.chw_norm.specs.Lambdas.{under_lambdas};
-ghost use Rattle.chw_norm.specs.First.{FindsFirst};
+ghost use Rattle.chw_norm.specs.First.{adds_to, FindsFirst};
 ghost use Rattle.active_parts.specs.Grounds.{IsGround};
 ghost use Rattle.chw_norm.specs.FoundSteps.{LeadsToTyped};
 
@@ -17,11 +17,13 @@ use chw_base::{NoMemory, Seq};
 use chw_terms::{Head, Made, Place, Term};
 use chw_types::{Ty, TyNode};
 use looks::Looks;
+use made_table::Table;
 use std::alloc::Global;
 
 // The first step below the leading lambdas of a term, or below those that are left of them. Afterwards their variables are in scope.
 fn under_lambdas<L: Looks>(
     alloc: Global,
+    table: &Table,
     ground: &Ground,
     at: &Term,
     ty: &Ty,
@@ -30,12 +32,13 @@ fn under_lambdas<L: Looks>(
     looks: &mut L,
 ) -> Result<Option<Trail>, NoMemory>
     requires ground { IsGround ground.now }
+    requires same { ground.now.scene.now.made.now ≡ table.now }
     requires result { place.old.result ≡ true }
     requires typed { LeadsToTyped (setting_in ground.now.scene.now) place.old.mode (reverse place.old.vars) at.now ty.now }
-    ensures { IfOk result (FindsFirst built (origins_of ground.now.scene.now) (under_lambdas (origins_of ground.now.scene.now) place.old.mode (reverse place.old.vars) at.now ty.now) from.now) }
+    ensures { IfOk result (FindsFirst built (origins_of ground.now.scene.now) (adds_to ground.now.scene.now) (under_lambdas (origins_of ground.now.scene.now) place.old.mode (reverse place.old.vars) at.now ty.now) from.now) }
 {
     let TyNode::Fun(_, to) = &ty.node else {
-        return first_from(alloc, ground, at, place, from, looks);
+        return first_from(alloc, table, ground, at, place, from, looks);
     };
     let Head::Lam(of, body) = &at.head else {
         return Ok(None);
@@ -44,26 +47,30 @@ fn under_lambdas<L: Looks>(
         return Ok(None);
     };
     enter(alloc, place, vec![in alloc; of.copy(alloc)?]?)?;
-    let found = under_lambdas(alloc, ground, body, to, place, left, looks)?;
+    let found = under_lambdas(alloc, table, ground, body, to, place, left, looks)?;
     behind_child(found, 0)
 }
 
 /// The first step in the body of a made definition.
 pub(crate) fn in_made<L: Looks>(
     alloc: Global,
+    table: &Table,
     ground: &Ground,
     it: &Made,
     from: &[u32],
     looks: &mut L,
 ) -> Result<Option<Trail>, NoMemory>
     requires ground { IsGround ground.now }
+    requires same { ground.now.scene.now.made.now ≡ table.now }
     requires typed { LeadsToTyped (setting_in ground.now.scene.now) (mode_of it.now.sort) [] it.now.body it.now.ty }
-    ensures { IfOk result (FindsFirst built (origins_of ground.now.scene.now) (under_lambdas (origins_of ground.now.scene.now) (mode_of it.now.sort) [] it.now.body it.now.ty) from.now) }
+    ensures { IfOk result (FindsFirst built (origins_of ground.now.scene.now) (adds_to ground.now.scene.now) (under_lambdas (origins_of ground.now.scene.now) (mode_of it.now.sort) [] it.now.body it.now.ty) from.now) }
 {
     let mut place = Place {
         mode: mode_of(it.sort),
         result: true,
         vars: Seq::from(Vec::new(alloc)),
     };
-    under_lambdas(alloc, ground, &it.body, &it.ty, &mut place, from, looks)
+    under_lambdas(
+        alloc, table, ground, &it.body, &it.ty, &mut place, from, looks,
+    )
 }

@@ -1,5 +1,5 @@
 //! Rewriting: the first step of a state, and runs from the state with which a program opens, first step by first step, within a budget of
-//! steps and the limit of depth.
+//! steps and the limits of a state: how many made definitions it holds, and how deep their bodies are.
 //!
 //! A search goes over the made definitions in turn, of each over the active places in the order of their paths, and at each place over the
 //! rules in their order. It begins at the place of the step before, since nothing before that place can be rewritten.

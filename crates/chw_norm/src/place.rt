@@ -1,6 +1,6 @@
 //! Where steps are made.
 use chw_base::MadeId;
-use chw_terms::Term;
+use chw_terms::{Made, Term};
 use norm_lines::StepAt;
 
 /// A place of a state: a made definition, and a path in its body.
@@ -10,9 +10,10 @@ pub struct StepPlace {
     pub path: Vec<u32>,
 }
 
-/// A step, and the term that is then at its place.
+/// A step, the term that is then at its place, and the made definition that it adds, if it adds one.
 #[derive(Drop)]
 pub struct Found {
     pub at: StepAt,
     pub new: Term,
+    pub definition: Option<Made>,
 }

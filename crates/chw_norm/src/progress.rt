@@ -1,28 +1,26 @@
 //! How far a run has come, and one step more.
-ghost use Rattle.std.specs.Prelude.{◌≡◌, length, IfOk};
+ghost use Rattle.std.specs.Prelude.{◌≡◌, length, IfOk, IfSome};
 ghost use Rattle.chw_terms.specs.Tidy.{IsTidy};
 ghost use Rattle.chw_typing.specs.Programs.{IsTyped};
 ghost use Rattle.rewriting.specs.Runs.{IsOpening};
-ghost use Rattle.rewriting.specs.Steps.{IsFirst};
+ghost use Rattle.made_table.specs.Held.{HoldsNone};
 ghost use Rattle.rule_trials.specs.Trials.{built};
-ghost use Rattle.chw_norm.specs.FoundSteps.{FindsNext};
-ghost use Rattle.norm_lines.specs.Places.{where_of};
-ghost use Rattle.chw_norm.specs.Underway.{IsBetweenSteps, StepEnds, HasSpine, IsPutAt};
+ghost use Rattle.chw_norm.specs.FoundSteps.{FindsNext, IsNext};
+ghost use Rattle.chw_norm.specs.Underway.{IsBetweenSteps, StepEnds, GrowEnds, HasSpine, IsPutAt};
 
-use crate::bodies::{change, depths};
+use crate::bodies::{bound_with, depths, exact_over_limit};
 use crate::place::{Found, StepPlace};
 use crate::running::RunFault;
 use crate::state::next_from;
 use chw_base::limits::MADE_DEPTH;
 use chw_base::{MadeId, NoMemory, Or};
-use chw_terms::{Made, Program, Scene, Term};
+use chw_terms::{Made, Program, Scene, Term, depth};
 use looks::Looks;
+use made_states::laws::{any_step_stays_behind, states_stay_typed};
+use made_table::Table;
 use norm_lines::StepAt;
 use opening::laws::opening_is_typed;
-use opening::open;
-use rule_types::laws::steps_keep;
 use std::alloc::Global;
-use step_order::laws::steps_stay_behind;
 use term_types::Signature;
 use typing_laws::part_laws::{spines_are_parts, spines_below_spines, spines_of_parts};
 
@@ -32,7 +30,7 @@ pub(crate) struct Progress<'p> {
     pub program: &'p Program,
     pub signature: Signature<'p>,
     /// The made definitions.
-    pub made: Vec<Made>,
+    pub made: Table,
     /// For each of them a number that is at least the depth of its body, if it is within the limit.
     pub bounds: Vec<usize>,
     /// The place of the last step, from which on all steps are.
@@ -45,13 +43,13 @@ impl<'p> Progress<'p> {
         requires tidy { IsTidy program.now }
         requires typed { IsTyped program.now }
         ensures program { IfOk result (λ r. r.program.now ≡ program.now) }
-        ensures opens { IfOk result (λ r. IsOpening program.now r.made.items) }
+        ensures opens { IfOk result (λ r. IsOpening program.now r.made) }
         ensures between { IfOk result IsBetweenSteps }
     {
         opening_is_typed();
         let signature = Signature::of(alloc, program)?;
-        let made = open(alloc, program)?;
-        let bounds = depths(alloc, made.as_slice())?;
+        let made = Table::open(alloc, program)?;
+        let bounds = depths(alloc, made.list())?;
         let from = StepPlace {
             made: MadeId { number: 0 },
             path: Vec::new(alloc),
@@ -72,13 +70,20 @@ impl<'p> Progress<'p> {
         looks: &mut L,
     ) -> Result<Option<Found>, NoMemory>
         requires { IsBetweenSteps self.now }
-        ensures { IfOk result (FindsNext built self.now.program.now self.now.made.items) }
+        ensures { IfOk result (FindsNext built self.now.program.now self.now.made) }
     {
         let scene = Scene {
             program: self.program,
-            made: self.made.as_slice(),
+            made: self.made.list(),
         };
-        let found = next_from(alloc, &scene, &self.signature, &self.from, looks);
+        let found = next_from(
+            alloc,
+            &self.made,
+            &scene,
+            &self.signature,
+            &self.from,
+            looks,
+        );
         let Scene {
             program: _,
             made: _,
@@ -86,49 +91,70 @@ impl<'p> Progress<'p> {
         found
     }
 
-    /// Makes the first step, and appends its place to the trace.
+    /// Makes the first step, and appends its place to the trace. Where there is no room for what it adds, nothing is appended.
     pub(crate) fn advance(
         &mut self,
+        alloc: Global,
         found: Found,
         trace: &mut Vec<StepAt>,
     ) -> Result<(), Or<RunFault>>
         requires between { IsBetweenSteps self.old }
-        requires first { IsFirst built self.old.program.now self.old.made.items (where_of found.at) found.new }
+        requires next { IsNext built self.old.program.now self.old.made found }
         ensures { StepEnds found trace.old.items trace.new.items self.old self.new result }
     {
         spines_are_parts();
         spines_of_parts();
         spines_below_spines();
-        steps_keep();
-        steps_stay_behind();
-        let Found { at, new } = found;
+        states_stay_typed();
+        any_step_stays_behind();
+        let Found {
+            at,
+            new,
+            definition,
+        } = found;
         let from = StepPlace {
             made: at.made,
             path: at.path.clone()?,
         };
+        let added = self.grow(alloc, definition)?;
         let bound = self.put(&at, new);
         self.from = from;
         trace.push(at)?;
-        if bound <= MADE_DEPTH as usize {
+        let most = bound.max(added);
+        if most <= MADE_DEPTH as usize {
             Ok(())
         } else {
             Err(Or::Fault(RunFault::Depth))
         }
     }
 
+    // Adds a made definition, where there is one, and gives the depth of its body.
+    fn grow(&mut self, alloc: Global, definition: Option<Made>) -> Result<usize, Or<RunFault>>
+        requires fresh { IfSome definition (λ it. HoldsNone self.old.made it.origin) }
+        ensures { GrowEnds definition self.old self.new result }
+    {
+        let Some(it) = definition else {
+            return Ok(0);
+        };
+        let deep = depth(&it.body) as usize;
+        self.bounds.push(deep)?;
+        match self.made.add(alloc, it) {
+            Ok(()) => Ok(deep),
+            Err(Or::Fault(_)) => Err(Or::Fault(RunFault::Full)),
+            Err(Or::Memory) => Err(Or::Memory),
+        }
+    }
+
     // Puts a term at the place of a step, and gives a bound of the body there.
     fn put(&mut self, at: &StepAt, new: Term) -> usize
-        requires spine { HasSpine self.old.made.items at.now }
-        requires one_each { length self.old.bounds.items ≡ length self.old.made.items }
+        requires spine { HasSpine self.old.made at.now }
+        requires one_each { length self.old.bounds.items ≡ length self.old.made }
         ensures { IsPutAt at.now new self.old self.new result }
     {
         let number = at.made.number as usize;
-        let bound = change(
-            &mut self.made[number],
-            self.bounds[number],
-            at.path.as_slice(),
-            new,
-        );
+        let bound = bound_with(self.bounds[number], at.path.as_slice(), &new);
+        self.made.set_part(at.made, at.path.as_slice(), new);
+        let bound = exact_over_limit(bound, &self.made.list()[number].body);
         self.bounds[number] = bound;
         bound
     }

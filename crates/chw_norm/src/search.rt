@@ -6,7 +6,7 @@ ghost use Rattle.rewriting.specs.Active.{Below, IsActive};
 ghost use Rattle.rewriting.specs.Spots.{spot_of};
 ghost use Rattle.rule_trials.specs.Trials.{built};
 ghost use Rattle.active_parts.specs.Grounds.{IsGround, IsTypedAt};
-ghost use Rattle.chw_norm.specs.First.{AtPath, FindsFirst, From};
+ghost use Rattle.chw_norm.specs.First.{adds_to, AtPath, FindsFirst, From};
 ghost use Rattle.active_parts.specs.Parts.{path_to, around, arguments_of, spot_in, IsAmong, IsInside, AreAmongFirst, AreAmongArguments};
 
 use crate::paths::begin_at;
@@ -17,6 +17,7 @@ use active_parts::{
 use chw_base::NoMemory;
 use chw_terms::{Place, Term};
 use looks::Looks;
+use made_table::Table;
 use rule_trials::first_rule;
 use std::alloc::Global;
 use std::mem;
@@ -25,6 +26,7 @@ use std::mem;
 #[cycle(search)]
 pub(crate) fn first_from<L: Looks>(
     alloc: Global,
+    table: &Table,
     ground: &Ground,
     at: &Term,
     place: &mut Place,
@@ -32,24 +34,35 @@ pub(crate) fn first_from<L: Looks>(
     looks: &mut L,
 ) -> Result<Option<Trail>, NoMemory>
     requires ground { IsGround ground.now }
+    requires same { ground.now.scene.now.made.now ≡ table.now }
     requires typed { IsTypedAt (setting_in ground.now.scene.now) (spot_of place.old) at.now }
-    ensures first { IfOk result (FindsFirst built (origins_of ground.now.scene.now) (IsActive (origins_of ground.now.scene.now) (spot_of place.old) at.now) from.now) }
+    ensures first { IfOk result (FindsFirst built (origins_of ground.now.scene.now) (adds_to ground.now.scene.now) (IsActive (origins_of ground.now.scene.now) (spot_of place.old) at.now) from.now) }
     ensures place { OnOk result (place.new ≡ place.old) }
 {
-    if let Some(trial) = first_rule(alloc, ground.scene, ground.signature, at, place, looks)? {
+    if let Some(trial) = first_rule(
+        alloc,
+        table,
+        ground.scene,
+        ground.signature,
+        at,
+        place,
+        looks,
+    )? {
         return Ok(Some(Trail {
             back: Vec::new(alloc),
             rule: trial.rule,
             new: trial.new,
+            definition: trial.definition,
         }));
     }
-    below(alloc, ground, at, place, from, looks)
+    below(alloc, table, ground, at, place, from, looks)
 }
 
 // The first step below a place.
 #[cycle(search)]
 fn below<L: Looks>(
     alloc: Global,
+    table: &Table,
     ground: &Ground,
     at: &Term,
     place: &mut Place,
@@ -57,8 +70,9 @@ fn below<L: Looks>(
     looks: &mut L,
 ) -> Result<Option<Trail>, NoMemory>
     requires ground { IsGround ground.now }
+    requires same { ground.now.scene.now.made.now ≡ table.now }
     requires typed { IsTypedAt (setting_in ground.now.scene.now) (spot_of place.old) at.now }
-    ensures first { IfOk result (FindsFirst built (origins_of ground.now.scene.now) (From (origins_of ground.now.scene.now) (Below (origins_of ground.now.scene.now) (spot_of place.old) at.now)) from.now) }
+    ensures first { IfOk result (FindsFirst built (origins_of ground.now.scene.now) (adds_to ground.now.scene.now) (From (origins_of ground.now.scene.now) (Below (origins_of ground.now.scene.now) (spot_of place.old) at.now)) from.now) }
     ensures place { OnOk result (place.new ≡ place.old) }
 {
     let count = count_parts(place.mode, at);
@@ -67,7 +81,7 @@ fn below<L: Looks>(
     }
     let outside = place.vars.len();
     enter_group(alloc, place, group_around_parts(at))?;
-    let found = first_part(alloc, ground, at, count, place, from, looks)?;
+    let found = first_part(alloc, table, ground, at, count, place, from, looks)?;
     leave(alloc, place, outside);
     Ok(found)
 }
@@ -77,6 +91,7 @@ fn below<L: Looks>(
 #[cycle(search)]
 fn first_part<L: Looks>(
     alloc: Global,
+    table: &Table,
     ground: &Ground,
     at: &Term,
     count: usize,
@@ -85,15 +100,16 @@ fn first_part<L: Looks>(
     looks: &mut L,
 ) -> Result<Option<Trail>, NoMemory>
     requires ground { IsGround ground.now }
+    requires same { ground.now.scene.now.made.now ≡ table.now }
     requires inside { IsInside place.old at.now }
     requires typed { IsTypedAt (setting_in ground.now.scene.now) (around place.old at.now) at.now }
     requires all { AreAmongFirst place.old.mode at.now count }
     requires arguments { AreAmongArguments at.now count }
-    ensures first { IfOk result (FindsFirst built (origins_of ground.now.scene.now) (From (origins_of ground.now.scene.now) (Below (origins_of ground.now.scene.now) (around place.old at.now) at.now)) from.now) }
+    ensures first { IfOk result (FindsFirst built (origins_of ground.now.scene.now) (adds_to ground.now.scene.now) (From (origins_of ground.now.scene.now) (Below (origins_of ground.now.scene.now) (around place.old at.now) at.now)) from.now) }
     ensures place { OnOk result (place.new ≡ place.old) }
 {
     for number in 0..count {
-        let found = in_part(alloc, ground, at, number, place, from, looks)?;
+        let found = in_part(alloc, table, ground, at, number, place, from, looks)?;
         if found.is_some() {
             return Ok(found);
         }
@@ -105,6 +121,7 @@ fn first_part<L: Looks>(
 #[cycle(search)]
 fn in_part<L: Looks>(
     alloc: Global,
+    table: &Table,
     ground: &Ground,
     at: &Term,
     number: usize,
@@ -113,10 +130,11 @@ fn in_part<L: Looks>(
     looks: &mut L,
 ) -> Result<Option<Trail>, NoMemory>
     requires ground { IsGround ground.now }
+    requires same { ground.now.scene.now.made.now ≡ table.now }
     requires inside { IsInside place.old at.now }
     requires typed { IsTypedAt (setting_in ground.now.scene.now) (around place.old at.now) at.now }
     requires number { IsAmong (arguments_of at.now) number }
-    ensures first { IfOk result (FindsFirst built (origins_of ground.now.scene.now) (From (origins_of ground.now.scene.now) (AtPath (Below (origins_of ground.now.scene.now) (around place.old at.now) at.now) (path_to at.now number))) from.now) }
+    ensures first { IfOk result (FindsFirst built (origins_of ground.now.scene.now) (adds_to ground.now.scene.now) (From (origins_of ground.now.scene.now) (AtPath (Below (origins_of ground.now.scene.now) (around place.old at.now) at.now) (path_to at.now number))) from.now) }
     ensures place { OnOk result (place.new ≡ place.old) }
 {
     let path = path_to(at.args.len(), number)?;
@@ -126,7 +144,7 @@ fn in_part<L: Looks>(
     let Some(part) = part_at(alloc, ground, at, number, place)? else {
         return Ok(None);
     };
-    let found = first_at(alloc, ground, part, place, left, looks)?;
+    let found = first_at(alloc, table, ground, part, place, left, looks)?;
     behind(found, path)
 }
 
@@ -134,6 +152,7 @@ fn in_part<L: Looks>(
 #[cycle(search)]
 fn first_at<L: Looks>(
     alloc: Global,
+    table: &Table,
     ground: &Ground,
     part: Part,
     place: &mut Place,
@@ -141,8 +160,9 @@ fn first_at<L: Looks>(
     looks: &mut L,
 ) -> Result<Option<Trail>, NoMemory>
     requires ground { IsGround ground.now }
+    requires same { ground.now.scene.now.made.now ≡ table.now }
     requires typed { IsTypedAt (setting_in ground.now.scene.now) (spot_in (reverse place.old.vars) part) part.term.now }
-    ensures first { IfOk result (FindsFirst built (origins_of ground.now.scene.now) (IsActive (origins_of ground.now.scene.now) (spot_in (reverse place.old.vars) part.entry) part.entry.term.now) from.now) }
+    ensures first { IfOk result (FindsFirst built (origins_of ground.now.scene.now) (adds_to ground.now.scene.now) (IsActive (origins_of ground.now.scene.now) (spot_in (reverse place.old.vars) part.entry) part.entry.term.now) from.now) }
     ensures place { OnOk result (place.new ≡ place.old) }
 {
     let Part {
@@ -155,7 +175,7 @@ fn first_at<L: Looks>(
     let outer_mode = mem::replace(&mut place.mode, mode);
     let outer_result = mem::replace(&mut place.result, gives);
     enter(alloc, place, more)?;
-    let found = first_from(alloc, ground, term, place, from, looks)?;
+    let found = first_from(alloc, table, ground, term, place, from, looks)?;
     leave(alloc, place, outside);
     place.mode = outer_mode;
     place.result = outer_result;

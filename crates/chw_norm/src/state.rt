@@ -14,6 +14,7 @@ use active_parts::Ground;
 use chw_base::{MadeId, NoMemory, narrow};
 use chw_terms::{Made, Scene};
 use looks::Looks;
+use made_table::Table;
 use norm_lines::StepAt;
 use rewriting::place_laws::place_of_scene_is_typed;
 use rewriting::scene_laws::settings_of_scenes;
@@ -34,10 +35,15 @@ fn found_in(number: usize, found: Option<Trail>) -> Result<Option<Found>, NoMemo
                 back: mut path,
                 rule,
                 new,
+                definition,
             } = trail;
             path.reverse();
             let at = StepAt { made, path, rule };
-            Ok(Some(Found { at, new }))
+            Ok(Some(Found {
+                at,
+                new,
+                definition,
+            }))
         }
         None => Ok(None),
     }
@@ -58,6 +64,7 @@ fn begin_in(number: usize, from: &StepPlace) -> &[u32]
 // The first step in the made definition of this number, where the search begins at that place.
 fn in_number<L: Looks>(
     alloc: Global,
+    table: &Table,
     ground: &Ground,
     number: usize,
     it: &Made,
@@ -65,6 +72,7 @@ fn in_number<L: Looks>(
     looks: &mut L,
 ) -> Result<Option<Found>, NoMemory>
     requires ground { IsGround ground.now }
+    requires same { ground.now.scene.now.made.now ≡ table.now }
     requires typed { IsTypedScene ground.now.scene.now }
     requires is { slice_get ground.now.scene.now.made.now number ≡ Some it.now }
     requires later { from.now.made.number ≤ number }
@@ -72,21 +80,24 @@ fn in_number<L: Looks>(
 {
     place_of_scene_is_typed();
     let path = begin_in(number, from);
-    found_in(number, in_made(alloc, ground, it, path, looks)?)
+    found_in(number, in_made(alloc, table, ground, it, path, looks)?)
 }
 
-/// The first step of a state from a place on, and what is then there. The steps at the places above that one are among these, since they
-/// may come anew where the term at the place has changed. Nothing comes exactly where there is none.
+/// The first step of a state from a place on, what is then there, and the made definition that it adds, if it adds one. The steps at the
+/// places above that one are among these, since they may come anew where the term at the place has changed. Nothing comes exactly where
+/// there is none.
 ///
-/// The scene is typed, and the signature is that of its program.
+/// The scene is typed, its made definitions are those of the table, and the signature is that of its program.
 /// Where a number would pass 32 bits, the answer is want of memory.
 pub fn next_from<L: Looks>(
     alloc: Global,
+    table: &Table,
     scene: &Scene,
     signature: &Signature,
     from: &StepPlace,
     looks: &mut L,
 ) -> Result<Option<Found>, NoMemory>
+    requires same { scene.now.made.now ≡ table.now }
     requires typed { IsTypedScene scene.now }
     requires table { IsSignature scene.now.program.now signature.now }
     ensures { IfOk result (FindsFrom built scene.now.program.now scene.now.made.now from.now.made.number from.now.path.items) }
@@ -96,7 +107,7 @@ pub fn next_from<L: Looks>(
     let ground = Ground { scene, signature };
     let made = scene.made;
     for number in from.made.number as usize..made.len() {
-        let found = in_number(alloc, &ground, number, &made[number], from, looks)?;
+        let found = in_number(alloc, table, &ground, number, &made[number], from, looks)?;
         if found.is_some() {
             return Ok(found);
         }
@@ -104,16 +115,19 @@ pub fn next_from<L: Looks>(
     Ok(None)
 }
 
-/// The first step of a state, and what is then there. Nothing comes exactly where there is none.
+/// The first step of a state, what is then there, and the made definition that it adds, if it adds one. Nothing comes exactly where there
+/// is none.
 ///
-/// The scene is typed, and the signature is that of its program.
+/// The scene is typed, its made definitions are those of the table, and the signature is that of its program.
 /// Where a number would pass 32 bits, the answer is want of memory.
 pub fn next<L: Looks>(
     alloc: Global,
+    table: &Table,
     scene: &Scene,
     signature: &Signature,
     looks: &mut L,
 ) -> Result<Option<Found>, NoMemory>
+    requires same { scene.now.made.now ≡ table.now }
     requires typed { IsTypedScene scene.now }
     requires table { IsSignature scene.now.program.now signature.now }
     ensures { IfOk result (FindsNext built scene.now.program.now scene.now.made.now) }
@@ -122,5 +136,5 @@ pub fn next<L: Looks>(
         made: MadeId { number: 0 },
         path: Vec::new(alloc),
     };
-    next_from(alloc, scene, signature, &from, looks)
+    next_from(alloc, table, scene, signature, &from, looks)
 }

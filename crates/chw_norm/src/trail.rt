@@ -5,15 +5,16 @@ ghost use Rattle.active_parts.specs.Parts.{numbers_of};
 
 use active_parts::PartPath;
 use chw_base::NoMemory;
-use chw_terms::{Rule, Term};
+use chw_terms::{Made, Rule, Term};
 
-/// A step below a place, and what is then there.
+/// A step below a place, what is then there, and the made definition that it adds, if it adds one.
 #[derive(Drop)]
 pub struct Trail {
     /// The numbers of the path, the last one first.
     pub back: Vec<u32>,
     pub rule: Rule,
     pub new: Term,
+    pub definition: Option<Made>,
 }
 
 /// The step with the number of the child below which it was found.
@@ -26,9 +27,15 @@ pub(crate) fn behind_child(found: Option<Trail>, number: u32) -> Result<Option<T
                 mut back,
                 rule,
                 new,
+                definition,
             } = trail;
             back.push(number)?;
-            Ok(Some(Trail { back, rule, new }))
+            Ok(Some(Trail {
+                back,
+                rule,
+                new,
+                definition,
+            }))
         }
         None => Ok(None),
     }
@@ -40,9 +47,19 @@ pub(crate) fn behind(found: Option<Trail>, path: PartPath) -> Result<Option<Trai
 {
     match found {
         Some(trail) => {
-            let Trail { back, rule, new } = trail;
+            let Trail {
+                back,
+                rule,
+                new,
+                definition,
+            } = trail;
             let back = with_path(back, path)?;
-            Ok(Some(Trail { back, rule, new }))
+            Ok(Some(Trail {
+                back,
+                rule,
+                new,
+                definition,
+            }))
         }
         None => Ok(None),
     }

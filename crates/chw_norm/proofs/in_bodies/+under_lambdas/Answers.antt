@@ -12,7 +12,7 @@ use Rattle.rule_trials.specs.Trials.{built}
 use Rattle.active_parts.specs.Grounds.{with_variables}
 use Rattle.active_parts.proofs.Options.{ok_more}
 use Rattle.active_parts.proofs.Scoped.{more_in_scope}
-use Rattle.chw_norm.specs.First.{FindsFirst}
+use Rattle.chw_norm.specs.First.{adds_to, FindsFirst}
 use Rattle.chw_norm.specs.FoundSteps.{LeadsToTyped}
 use Rattle.chw_norm.specs.Lambdas.{under_lambdas}
 use Rattle.chw_norm.proofs.Lambdas.{no_function_type, no_lambda_term}
@@ -25,6 +25,7 @@ first_from-requires g t c =
     let place = c.args.place.now in
     record {
       ground = c.requires.ground;
+      same = c.requires.same;
       typed = typed_there (setting_in c.args.ground.now.scene.now) place.mode (reverse place.vars) c.args.at.now c.args.ty.now none c.requires.typed;
     }
 
@@ -38,8 +39,8 @@ returns-in_default g t c =
     let e = c.args.at.now in
     let from = c.args.from.now in
     ok_more c.first_from.result _ _
-    (λ answer is. found_without built o s place.mode vars e c.args.ty.now from answer none c.requires.typed
-    (subst (λ r. FindsFirst built o (IsActive o (spot place.mode r vars) e) from answer) c.requires.result is))
+    (λ answer is. found_without built o (adds_to c.args.ground.now.scene.now) s place.mode vars e c.args.ty.now from answer none c.requires.typed
+    (subst (λ r. FindsFirst built o (adds_to c.args.ground.now.scene.now) (IsActive o (spot place.mode r vars) e) from answer) c.requires.result is))
     c.first_from.ensures.first
 
 pub returns-in_default-head : goal.returns-in_default-head
@@ -99,10 +100,13 @@ under_lambdas-requires g t c κs within =
         (
           c.requires.ground,
           (
-            subst (λ p. p.result ≡ true) (sym entered) c.requires.result,
-            subst (λ p. LeadsToTyped s p.mode (reverse p.vars) c.deref.result.now c.deref-2.result.now) (sym entered)
-                (subst (λ b. LeadsToTyped s place.mode (reverse (place.vars ++ of ∷ [])) b c.deref-2.result.now) (sym inner)
-                (subst (λ u. LeadsToTyped s place.mode (reverse (place.vars ++ of ∷ [])) body u) (sym rest) there)),
+            c.requires.same,
+            (
+              subst (λ p. p.result ≡ true) (sym entered) c.requires.result,
+              subst (λ p. LeadsToTyped s p.mode (reverse p.vars) c.deref.result.now c.deref-2.result.now) (sym entered)
+                  (subst (λ b. LeadsToTyped s place.mode (reverse (place.vars ++ of ∷ [])) b c.deref-2.result.now) (sym inner)
+                  (subst (λ u. LeadsToTyped s place.mode (reverse (place.vars ++ of ∷ [])) body u) (sym rest) there)),
+            ),
           ),
         ),
       ),
@@ -129,10 +133,10 @@ returns g t c =
     let entered : c.enter.new.place ≡ with_variables place (place.vars ++ of ∷ []) =
     c.in_ok-enter.ensures ∙ ap (λ ts. with_variables place (place.vars ++ ts)) (c.in_ok-vec.ensures.items ∙ ap (λ u. u ∷ []) c.in_ok-copy.ensures) in
     let here =
-    subst (λ u. FindsFirst built o (under_lambdas o place.mode (of ∷ vars) body u) left found) rest
-    (subst (λ b. FindsFirst built o (under_lambdas o place.mode (of ∷ vars) b c.deref-2.result.now) left found) inner
-    (subst (λ vs. FindsFirst built o (under_lambdas o place.mode vs c.deref.result.now c.deref-2.result.now) left found) (more_in_scope place.vars (of ∷ []))
-    (subst (λ p. FindsFirst built o (under_lambdas o p.mode (reverse p.vars) c.deref.result.now c.deref-2.result.now) left found) entered c.in_ok-found.ensures))) in
+    subst (λ u. FindsFirst built o (adds_to c.args.ground.now.scene.now) (under_lambdas o place.mode (of ∷ vars) body u) left found) rest
+    (subst (λ b. FindsFirst built o (adds_to c.args.ground.now.scene.now) (under_lambdas o place.mode (of ∷ vars) b c.deref-2.result.now) left found) inner
+    (subst (λ vs. FindsFirst built o (adds_to c.args.ground.now.scene.now) (under_lambdas o place.mode vs c.deref.result.now c.deref-2.result.now) left found) (more_in_scope place.vars (of ∷ []))
+    (subst (λ p. FindsFirst built o (adds_to c.args.ground.now.scene.now) (under_lambdas o p.mode (reverse p.vars) c.deref.result.now c.deref-2.result.now) left found) entered c.in_ok-found.ensures))) in
     ok_more c.behind_child.result _ _
-    (λ answer on. found_under built o s place.mode vars e of body args from to c.args.ty.now c.args.from.now left found answer term function c.requires.typed c.in-Some.ensures here on)
+    (λ answer on. found_under built o (adds_to c.args.ground.now.scene.now) s place.mode vars e of body args from to c.args.ty.now c.args.from.now left found answer term function c.requires.typed c.in-Some.ensures here on)
     c.behind_child.ensures

@@ -3,7 +3,7 @@ use Rattle.chw_typing.specs.Scopes.{setting_in}
 use Rattle.rewriting.specs.Named.{mode_of}
 use Rattle.rewriting.specs.Origins.{origins_of}
 use Rattle.rule_trials.specs.Trials.{built}
-use Rattle.chw_norm.specs.First.{FindsFirst}
+use Rattle.chw_norm.specs.First.{adds_to, FindsFirst}
 use Rattle.chw_norm.specs.FoundSteps.{LeadsToTyped}
 use Rattle.chw_norm.specs.Lambdas.{under_lambdas}
 use Rattle.chw_norm.proofs.in_bodies.in_made.Goals as goal
@@ -15,6 +15,7 @@ under_lambdas-requires g c =
     let empty : c.from.result ≡ [] = c.from.ensures ∙ c.new.ensures.items in
     record {
       ground = c.requires.ground;
+      same = c.requires.same;
       result = refl;
       typed =
           subst (λ m. LeadsToTyped s m (reverse c.from.result) it.body it.ty) (sym c.mode_of.ensures)
@@ -26,6 +27,6 @@ returns g c =
     let o = origins_of c.args.ground.now.scene.now in
     let it = c.args.it.now in
     let empty : c.from.result ≡ [] = c.from.ensures ∙ c.new.ensures.items in
-    subst (λ vs. IfOk c.under_lambdas.result (FindsFirst built o (under_lambdas o (mode_of it.sort) (reverse vs) it.body it.ty) c.args.from.now)) empty
-    (subst (λ m. IfOk c.under_lambdas.result (FindsFirst built o (under_lambdas o m (reverse c.from.result) it.body it.ty) c.args.from.now)) c.mode_of.ensures
+    subst (λ vs. IfOk c.under_lambdas.result (FindsFirst built o (adds_to c.args.ground.now.scene.now) (under_lambdas o (mode_of it.sort) (reverse vs) it.body it.ty) c.args.from.now)) empty
+    (subst (λ m. IfOk c.under_lambdas.result (FindsFirst built o (adds_to c.args.ground.now.scene.now) (under_lambdas o m (reverse c.from.result) it.body it.ty) c.args.from.now)) c.mode_of.ensures
     c.under_lambdas.ensures)

@@ -38,15 +38,15 @@ returns-in_default g c =
     let r = c.loop.run in
     ends_done c.args.program.now c.args.budget c.args.trace.now.items c.loop.trace.items
     c.loop.counter r c.loop.invariant (omega (arith, c.loop-test.true))
-    (none_found r.program.now r.made.items c.in_ok-found.field-0 c.in_ok-found.ensures
+    (none_found r.program.now r.made c.in_ok-found.field-0 c.in_ok-found.ensures
     c.in_default.is)
 
 pub advance-requires-clause-between : goal.advance-requires-clause-between
 advance-requires-clause-between g c = c.loop.invariant.between
 
-pub advance-requires-clause-first : goal.advance-requires-clause-first
-advance-requires-clause-first g c =
-    first_found c.loop.run.program.now c.loop.run.made.items c.in_ok-found.field-0 c.in-Some.found
+pub advance-requires-clause-next : goal.advance-requires-clause-next
+advance-requires-clause-next g c =
+    first_found c.loop.run.program.now c.loop.run.made c.in_ok-found.field-0 c.in-Some.found
     c.in_ok-found.ensures c.in-Some.is
 
 pub returns-in_err-advance : goal.returns-in_err-advance
@@ -81,7 +81,7 @@ returns-in-None g c =
     let r = c.loop.run in
     ends_done c.args.program.now c.args.budget c.args.trace.now.items c.loop.trace.items
     c.loop.counter r c.loop.invariant (omega (arith, c.loop.auto.counter-end))
-    (none_found r.program.now r.made.items c.in_ok-next.field-0 c.in_ok-next.ensures c.in-None.is)
+    (none_found r.program.now r.made c.in_ok-next.field-0 c.in_ok-next.ensures c.in-None.is)
 
 pub returns-in-Some-2 : goal.returns-in-Some-2
 returns-in-Some-2 g c =
@@ -93,5 +93,5 @@ returns-in-Some-2 g c =
     c.loop.invariant in
     let f = c.in-Some-2.field-0 in
     ends_spent c.args.program.now c.args.budget old c.loop.trace.items r _ _ under
-    (first_found r.program.now r.made.items c.in_ok-next.field-0 f c.in_ok-next.ensures
-    c.in-Some-2.is)
+    (first_found r.program.now r.made c.in_ok-next.field-0 f c.in_ok-next.ensures
+    c.in-Some-2.is).is_first

@@ -7,7 +7,7 @@ use Rattle.rewriting.specs.Active.{Below, IsActive}
 use Rattle.rewriting.specs.Spots.{spot, spot_of}
 use Rattle.rule_trials.specs.Trials.{built, HasNoInstance, IsTrial}
 use Rattle.active_parts.specs.Grounds.{IsTypedAt, with_variables}
-use Rattle.chw_norm.specs.First.{AtPath, FindsFirst, From, GoesOn, HasNoStepAt}
+use Rattle.chw_norm.specs.First.{adds_to, AtPath, FindsFirst, From, GoesOn, HasNoStepAt}
 use Rattle.active_parts.specs.Parts.{arguments_of, around, declares, numbers_of, part_path, path_to, spot_in}
 use Rattle.active_parts.specs.Parts.{IsAmong, IsInside, HasNoPart, FindsPart, AreAmongFirst}
 use Rattle.chw_norm.specs.Begins.{IsPassed, BeginsAt}
@@ -28,20 +28,20 @@ first_from-returns-in-Some g t c =
     let o = origins_of c.args.ground.now.scene.now in
     let at = spot_of c.args.place.now in
     let e = c.args.at.now in
-    let made = subst (λ r. MatchOption r (HasNoInstance built o at e) (IsTrial built o at e)) c.in-Some.is c.in_ok-trial.ensures in
-    record { first = found_here built o at e c.args.from.now c.new.result.items c.in-Some.trial made c.new.ensures.items; place = refl }
+    let made = subst (λ r. MatchOption r (HasNoInstance built o at e) (IsTrial built c.args.ground.now.scene.now.program.now c.args.ground.now.scene.now.made.now at e)) c.in-Some.is c.in_ok-trial.ensures in
+    record { first = found_here built c.args.ground.now.scene.now.program.now c.args.ground.now.scene.now.made.now at e c.args.from.now c.new.result.items c.in-Some.trial made c.new.ensures.items; place = refl }
 
 pub first_from-below-requires : goal.first_from-below-requires
-first_from-below-requires g t c κs h = (omega (arith, c.decreases), (h, (c.requires.ground, c.requires.typed)))
+first_from-below-requires g t c κs h = (omega (arith, c.decreases), (h, (c.requires.ground, (c.requires.same, c.requires.typed))))
 
 pub first_from-returns : goal.first_from-returns
 first_from-returns g t c =
     let o = origins_of c.args.ground.now.scene.now in
     let at = spot_of c.args.place.now in
     let e = c.args.at.now in
-    let none = subst (λ r. MatchOption r (HasNoInstance built o at e) (IsTrial built o at e)) c.in_default.is c.in_ok-trial.ensures in
+    let none = subst (λ r. MatchOption r (HasNoInstance built o at e) (IsTrial built c.args.ground.now.scene.now.program.now c.args.ground.now.scene.now.made.now at e)) c.in_default.is c.in_ok-trial.ensures in
     record {
-      first = ok_more c.below.result _ _ (λ answer is. found_below built o at e c.args.from.now answer none is) c.below.ensures.first;
+      first = ok_more c.below.result _ _ (λ answer is. found_below built o (adds_to c.args.ground.now.scene.now) at e c.args.from.now answer none is) c.below.ensures.first;
       place = c.below.ensures.place;
     }
 
@@ -73,12 +73,15 @@ below-first_part-requires g t c κs h =
         (
           c.requires.ground,
           (
-            subst (λ p. IsInside p e) (sym entered) (is_inside place e),
+            c.requires.same,
             (
-              subst (λ p. IsTypedAt s (around p e) e) (sym entered) typed,
+              subst (λ p. IsInside p e) (sym entered) (is_inside place e),
               (
-                subst (λ (p : Place). AreAmongFirst p.mode e n) (sym entered) c.count_parts-count.ensures.first,
-                c.count_parts-count.ensures.arguments,
+                subst (λ p. IsTypedAt s (around p e) e) (sym entered) typed,
+                (
+                  subst (λ (p : Place). AreAmongFirst p.mode e n) (sym entered) c.count_parts-count.ensures.first,
+                  c.count_parts-count.ensures.arguments,
+                ),
               ),
             ),
           ),
@@ -97,7 +100,7 @@ below-returns g t c =
     let outside : c.len-outside.result ≡ length place.vars = c.len-outside.ensures in
     record {
       first =
-          subst (λ at. FindsFirst built o (From o (Below o at e)) c.args.from.now c.in_ok-found.found)
+          subst (λ at. FindsFirst built o (adds_to c.args.ground.now.scene.now) (From o (Below o at e)) c.args.from.now c.in_ok-found.found)
           (ap (λ p. around p e) entered ∙ around_inner place e) c.in_ok-found.ensures.first;
       place = c.leave.ensures ∙ (λ i. with_variables (after i) (take (outside i) (after i).vars)) ∙ left_again place (declares e);
     }
@@ -120,10 +123,13 @@ first_part-in_part-requires g t c κs h =
         (
           c.requires.ground,
           (
-            subst (λ p. IsInside p e) same c.requires.inside,
+            c.requires.same,
             (
-              subst (λ p. IsTypedAt s (around p e) e) same c.requires.typed,
-              c.requires.arguments c.loop-number.number c.loop-number-test.true,
+              subst (λ p. IsInside p e) same c.requires.inside,
+              (
+                subst (λ p. IsTypedAt s (around p e) e) same c.requires.typed,
+                c.requires.arguments c.loop-number.number c.loop-number-test.true,
+              ),
             ),
           ),
         ),
@@ -139,11 +145,11 @@ first_part-returns-then-is_some g t c =
     let from = c.args.from.now in
     let found = c.in_ok-found.found in
     let here =
-    subst (λ p. FindsFirst built o (From o (AtPath (Below o (around p e) e) (path_to e n))) from found)
+    subst (λ p. FindsFirst built o (adds_to c.args.ground.now.scene.now) (From o (AtPath (Below o (around p e) e) (path_to e n))) from found)
     c.loop-number.invariant.same c.in_ok-found.ensures.first in
     record {
       first =
-          found_at_number built o (Below o at e) (path_to e) n c.args.count from found
+          found_at_number built o (adds_to c.args.ground.now.scene.now) (Below o at e) (path_to e) n c.args.count from found
           (sym c.is_some.ensures ∙ c.if-is_some.true)
           (λ p at' x b. c.requires.all o at at' p x refl b)
           (λ i j l m. parts_in_order (arguments_of e) i j l (c.requires.arguments j m))
@@ -160,14 +166,14 @@ first_part-loop-number-preserved g t c =
     let from = c.args.from.now in
     let found = c.in_ok-found.found in
     let here =
-    subst (λ p. FindsFirst built o (From o (AtPath (Below o (around p e) e) (path_to e n))) from found)
+    subst (λ p. FindsFirst built o (adds_to c.args.ground.now.scene.now) (From o (AtPath (Below o (around p e) e) (path_to e n))) from found)
     c.loop-number.invariant.same c.in_ok-found.ensures.first in
     let next : suc n ≡ n + 1 = omega arith in
     record {
       same = c.in_ok-found.ensures.place ∙ c.loop-number.invariant.same;
       none =
           subst (λ k. HasNoStepAt built o (From o (OfFirst (Below o at e) (path_to e) k)) from) next
-          (none_up_to_next built o (Below o at e) (path_to e) n from found (sym c.is_some.ensures ∙ c.if-is_some.false)
+          (none_up_to_next built o (adds_to c.args.ground.now.scene.now) (Below o at e) (path_to e) n from found (sym c.is_some.ensures ∙ c.if-is_some.false)
           c.loop-number.invariant.none here);
     }
 
@@ -178,7 +184,7 @@ first_part-returns g t c =
     let at = around c.args.place.now e in
     record {
       first =
-          none_at_all built o (Below o at e) (path_to e) c.args.count c.loop-number.number c.args.from.now
+          none_at_all built o (adds_to c.args.ground.now.scene.now) (Below o at e) (path_to e) c.args.count c.loop-number.number c.args.from.now
           (λ p at' x b. c.requires.all o at at' p x refl b) c.loop-number-test.false c.loop-number.invariant.none;
       place = c.loop-number.invariant.same;
     }
@@ -237,7 +243,7 @@ in_part-first_at-requires g t c κs h =
     let there : Below o at e path (spot_in vars part) x = subst (FindsPart o at e path vars) c.in-Some-2.is c.in_ok-part.ensures in
     let typed = below_typed scene at e c.requires.ground.sound c.requires.typed path (spot_in vars part) x there in
     let falls = below_falls o at (spot_in vars part) e x path there in
-    (omega (arith, c.decreases, falls), (h, (c.requires.ground, typed)))
+    (omega (arith, c.decreases, falls), (h, (c.requires.ground, (c.requires.same, typed))))
 
 pub in_part-returns : goal.in_part-returns
 in_part-returns g t c =
@@ -261,7 +267,7 @@ in_part-returns g t c =
     record {
       first =
           ok_more c.behind.result _ _
-          (λ answer on. found_at_part built o at (spot_in vars part) e x path from left found answer there begins c.in_ok-found.ensures.first
+          (λ answer on. found_at_part built o (adds_to c.args.ground.now.scene.now) at (spot_in vars part) e x path from left found answer there begins c.in_ok-found.ensures.first
           (subst (λ p. GoesOn p found answer) numbers on))
           c.behind.ensures;
       place = on_ok c.behind.result _ c.in_ok-found.ensures.place;
@@ -280,7 +286,7 @@ first_at-first_from-requires g t c κs h =
     let gives : c.replace-outer_result.new.dest ≡ part.gives = c.replace-outer_result.ensures.after in
     let entered : c.enter.new.place ≡ inner = c.in_ok-enter.ensures ∙ (λ i. record { mode = mode i; result = gives i; vars = place.vars ++ more }) in
     let typed = subst (λ vs. IsTypedAt s (spot part.mode part.gives vs) x) (sym (more_in_scope place.vars more)) c.requires.typed in
-    (omega (arith, c.decreases), (h, (c.requires.ground, subst (λ p. IsTypedAt s (spot_of p) x) (sym entered) typed)))
+    (omega (arith, c.decreases), (h, (c.requires.ground, (c.requires.same, subst (λ p. IsTypedAt s (spot_of p) x) (sym entered) typed))))
 
 pub first_at-returns : goal.first_at-returns
 first_at-returns g t c =
@@ -301,7 +307,7 @@ first_at-returns g t c =
     ap (λ (p : Place). p.vars) c.leave.ensures ∙ (λ i. take (outside i) (after i).vars) ∙ take-append_seam place.vars more in
     record {
       first =
-          subst (λ at. FindsFirst built o (IsActive o at x) c.args.from.now c.in_ok-found.found)
+          subst (λ at. FindsFirst built o (adds_to c.args.ground.now.scene.now) (IsActive o at x) c.args.from.now c.in_ok-found.found)
           (ap spot_of entered ∙ ap (spot part.mode part.gives) (more_in_scope place.vars more)) c.in_ok-found.ensures.first;
       place = λ i. record { mode = outer_mode i; result = outer_result i; vars = vars i };
     }

@@ -6,6 +6,7 @@ use Rattle.chw_norm.proofs.state.in_number.Goals as goal
 pub in_made-requires : goal.in_made-requires
 in_made-requires g c = record {
   ground = c.requires.ground;
+  same = c.requires.same;
   typed = made_leads c.place_of_scene_is_typed.ensures c.args.ground.now.scene.now c.args.number c.args.it.now c.requires.typed c.requires.is;
 }
 

@@ -1,45 +1,84 @@
 use Rattle.std.proofs.Common.{refl, arith}
+use Rattle.std.proofs.lemmas.Result.{err_from_is_err_and}
 use Rattle.std.specs.List.{each_same}
-use Rattle.chw_norm.proofs.Puts.{put_is_deep, put_is_shallow, put_is_step, put_between}
+use Rattle.chw_norm.specs.declared.place.StepPlace.{StepPlace}
+use Rattle.chw_norm.proofs.Grown.{grown_bounds, grown_spine, not_grown}
+use Rattle.chw_norm.proofs.Puts.{IsMade, put_between}
+use Rattle.chw_norm.proofs.Puts.{put_is_deep, put_is_few, put_is_shallow, put_is_step}
 use Rattle.chw_norm.proofs.Between.{spine_there}
 use Rattle.chw_norm.proofs.progress.Progress.advance.Goals as goal
 
+pub grow-requires : goal.grow-requires
+grow-requires c = record { fresh = c.requires.next.added.fresh }
+
 pub put-bound-requires-clause-spine : goal.put-bound-requires-clause-spine
 put-bound-requires-clause-spine c =
-    spine_there (record {
+    let r = c.args.self.now in
+    let f = c.args.found in
+    grown_spine f.definition r c.grow.new.self f.at c.in_ok-added.ensures.0
+    (spine_there (record {
       part = c.spines_are_parts.ensures;
       behind = c.spines_of_parts.ensures;
       argument = c.spines_below_spines.ensures.arguments;
     })
-    c.args.self.now.program.now c.args.self.now.made.items c.args.found.at c.args.found.new
-    c.requires.first
+    r.program.now r.made f.at f.new c.requires.next.is_first)
 
-pub returns-then-bound : goal.returns-then-bound
-returns-then-bound c =
+pub put-bound-requires-clause-one_each : goal.put-bound-requires-clause-one_each
+put-bound-requires-clause-one_each c =
+    (grown_bounds c.args.found.definition c.args.self.now c.grow.new.self c.requires.between
+    c.in_ok-added.ensures.0).each_one
+
+pub returns-in_err-added : goal.returns-in_err-added
+returns-in_err-added c =
+    let p = err_from_is_err_and c.from_residual-in_err-added.result
+    c.from_residual-in_err-added.ensures.1 in
+    rw (p.1, p.2)
+    (not_grown c.args.found c.args.trace.now.items c.args.self.now c.grow.new.self c.grow.new.self
+    c.args.found.definition c.requires.next refl c.in_err-added.field-0.0 c.in_err-added.ensures)
+
+pub returns-then-most : goal.returns-then-most
+returns-then-most c =
     let r = c.args.self.now in
     let f = c.args.found in
+    let g = c.grow.new.self in
     let q = c.put-bound.new.self in
     let bound = c.put-bound.result in
-    let shallow = put_is_shallow f r q bound c.requires.between c.put-bound.ensures
-    (omega (arith, c.if-bound.true)) in (
-      put_is_step f c.args.trace.now.items c.push.new.self.items r q
-          (record { made = f.at.made; path = c.in_ok-clone.field-0 }) bound c.requires.first
-          c.put-bound.ensures c.in_ok-push.ensures.items,
-      shallow,
-      put_between c.steps_keep.ensures.steps c.steps_stay_behind.ensures.sought f r q
-          (record { made = f.at.made; path = c.in_ok-clone.field-0 }) bound c.requires.between
-          c.requires.first c.put-bound.ensures shallow refl
+    let from : StepPlace = record { made = f.at.made; path = c.in_ok-clone.field-0 } in
+    let made : IsMade f r g q bound = record {
+      between = c.requires.between;
+      next = c.requires.next;
+      grown = c.in_ok-added.ensures.0;
+      put = c.put-bound.ensures;
+    } in
+    let depths = c.in_ok-added.ensures.1 in
+    let shallow = put_is_shallow f r g q bound made
+    (omega (arith, depths, c.max-most.ensures, c.if-most.true))
+    (omega (arith, c.max-most.ensures, c.if-most.true)) in (
+      put_is_step f c.args.trace.now.items c.push.new.self.items r g q from bound made
+          c.in_ok-push.ensures.items,
+      record { shallow = shallow; few = put_is_few f r g q bound made },
+      put_between c.states_stay_typed.ensures.steps c.any_step_stays_behind.ensures.sought f r g q
+          from bound made shallow refl
           (each_same f.at.path.items c.in_ok-clone.field-0.items c.in_ok-clone.ensures.cases.0),
     )
 
-pub returns-else-bound : goal.returns-else-bound
-returns-else-bound c =
+pub returns-else-most : goal.returns-else-most
+returns-else-most c =
     let r = c.args.self.now in
     let f = c.args.found in
+    let g = c.grow.new.self in
     let q = c.put-bound.new.self in
-    let bound = c.put-bound.result in (
-      put_is_step f c.args.trace.now.items c.push.new.self.items r q
-          (record { made = f.at.made; path = c.in_ok-clone.field-0 }) bound c.requires.first
-          c.put-bound.ensures c.in_ok-push.ensures.items,
-      put_is_deep f r q bound c.put-bound.ensures (omega (arith, c.if-bound.false)),
+    let bound = c.put-bound.result in
+    let from : StepPlace = record { made = f.at.made; path = c.in_ok-clone.field-0 } in
+    let made : IsMade f r g q bound = record {
+      between = c.requires.between;
+      next = c.requires.next;
+      grown = c.in_ok-added.ensures.0;
+      put = c.put-bound.ensures;
+    } in
+    let depths = c.in_ok-added.ensures.1 in (
+      put_is_step f c.args.trace.now.items c.push.new.self.items r g q from bound made
+          c.in_ok-push.ensures.items,
+      put_is_few f r g q bound made,
+      put_is_deep f r g q bound made (omega (arith, depths, c.max-most.ensures, c.if-most.false)),
     )

@@ -6,7 +6,7 @@ use Rattle.chw_norm.proofs.progress.Progress.begin.Goals as goal
 pub returns-clause-between : goal.returns-clause-between
 returns-clause-between c =
     let made = c.in_ok-made.made in
-    let bounds = subst (λ ms. AreBounds ms c.in_ok-bounds.bounds.items) c.as_slice.ensures.value
+    let bounds = subst (λ ms. AreBounds ms c.in_ok-bounds.bounds.items) c.list.ensures
     c.in_ok-bounds.ensures in
     between_first c.opening_is_typed.ensures.state
     (record {
