@@ -3,7 +3,7 @@ use Rattle.std.proofs.Common.{◌≡◌, [], ◌∷◌, ◌++◌, codes, ap, ◌
 use Rattle.std.specs.Prelude.{decimal}
 use Rattle.std.proofs.lemmas.Fmt.{decimal_digit, decimal_step}
 use Rattle.chw_cli.specs.Lines.{line_of}
-use Rattle.chw_cli.specs.declared.refusal.Refusal.TheVariants.{DeepBody, Depth, LongText, TooLarge}
+use Rattle.chw_cli.specs.declared.refusal.Refusal.TheVariants.{DeepBody, Depth, FullTable, LongText, TooLarge}
 
 text_limit : decimal 4194304 ≡ codes "4194304"
 text_limit =
@@ -37,6 +37,13 @@ made_depth =
     ∙ ap (λ ds. ds ++ 48 ∷ []) (decimal_step 20 (omega arith) (omega arith)
     ∙ ap (λ ds. ds ++ 48 ∷ []) (decimal_digit 2 (omega arith))))
 
+made_definitions : decimal 4096 ≡ codes "4096"
+made_definitions =
+    decimal_step 4096 (omega arith) (omega arith)
+    ∙ ap (λ ds. ds ++ 54 ∷ []) (decimal_step 409 (omega arith) (omega arith)
+    ∙ ap (λ ds. ds ++ 57 ∷ []) (decimal_step 40 (omega arith) (omega arith)
+    ∙ ap (λ ds. ds ++ 48 ∷ []) (decimal_digit 4 (omega arith))))
+
 pub long_text_line : line_of LongText ≡ codes "chw: E03 limit text 4194304\n"
 long_text_line = ap (λ ds. codes "chw: E03 limit text " ++ ds ++ codes "\n") text_limit
 
@@ -48,3 +55,6 @@ too_large_line = ap (λ ds. codes "chw: E17 size wires " ++ ds ++ codes "\n") wi
 
 pub deep_body_line : line_of DeepBody ≡ codes "chw: E12 depth 2000\n"
 deep_body_line = ap (λ ds. codes "chw: E12 depth " ++ ds ++ codes "\n") made_depth
+
+pub full_table_line : line_of FullTable ≡ codes "chw: E17 size made 4096\n"
+full_table_line = ap (λ ds. codes "chw: E17 size made " ++ ds ++ codes "\n") made_definitions

@@ -16,7 +16,7 @@ use Rattle.chw_grammar.specs.declared.program.Tree.{Tree}
 use Rattle.chw_norm.specs.Laws.{NothingRefusesANormalRun}
 use Rattle.chw_norm.specs.Running.{Runs, ShallowRun}
 use Rattle.chw_norm.specs.declared.running.RunFault.{RunFault}
-use Rattle.chw_norm.specs.declared.running.RunFault.TheVariants.{Depth, Spent}
+use Rattle.chw_norm.specs.declared.running.RunFault.TheVariants.{Depth, Full, Spent}
 use Rattle.chw_terms.specs.declared.program.Program.{Program}
 use Rattle.chw_terms.specs.declared.scene.Made.{Made}
 use Rattle.data_kinds.specs.Laws.{OneProgram}
@@ -42,6 +42,7 @@ normal_is_answered same alone law budget text tree r d h a = only refl a
 
 run_status : (P : Status → Type 0) → P status.Refused → P status.Spent → (fault : RunFault) → P (status_of (refusal_of_run fault))
 run_status P refused spent Depth = refused
+run_status P refused spent Full = refused
 run_status P refused spent (Spent n) = spent
 
 -- and what it refuses by has one of two statuses

@@ -13,7 +13,7 @@ use Rattle.chw_cli.specs.Descriptions.{IsDescription, NoDescription}
 use Rattle.chw_cli.specs.Reads.{Read, Wanted, wants, whole}
 use Rattle.chw_cli.specs.Reads.Read.{fetched}
 use Rattle.chw_cli.specs.declared.refusal.Refusal.{Refusal}
-use Rattle.chw_cli.specs.declared.refusal.Refusal.TheVariants.{Words, Read as Unread, Names, Types, DeepBody, Spent, Form, TooLarge, Loop, Stimulus, Verilog}
+use Rattle.chw_cli.specs.declared.refusal.Refusal.TheVariants.{Words, Read as Unread, Names, Types, DeepBody, FullTable, Spent, Form, TooLarge, Loop, Stimulus, Verilog}
 use Rattle.chw_check.specs.Faults.{IsTypeFault}
 use Rattle.chw_check.specs.declared.fault.TypeFault.{TypeFault}
 use Rattle.chw_grammar.specs.declared.program.Tree.{Tree}
@@ -107,6 +107,7 @@ pub data TextAnswer (TreeAnswer : List ℕ → Tree → Result (List ℕ) Refusa
 -- the refusal of a run of rewriting
 abbrev pub refusal_of_run : RunFault → Refusal
 refusal_of_run run.Depth = DeepBody
+refusal_of_run run.Full = FullTable
 refusal_of_run (run.Spent steps) = Spent steps
 
 -- the answer of `normalise` to a description: the lines of the run of its program, by so many steps

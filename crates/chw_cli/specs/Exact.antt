@@ -37,7 +37,7 @@ abbrev pub HasGoodNet : List ℕ → Type 0
 HasGoodNet text = (f : FlatText) × IsFlatText text f × HasFewWires f × HasNoLoop f
 
 -- the program of the text has a run of so many steps at most to a state in which no step is left, and
--- no step leads to a body over the limit of depth
+-- no step leads to a body over the limit of depth, or to more made definitions than may be held
 pub record HasNormalRun (budget : ℕ) (text : List ℕ) : Type 0 where
   pub tree : Tree
   pub description : IsDescription text tree

@@ -1,10 +1,10 @@
 -- The statuses with their codes, and the refusals with their statuses and lines.
 use Rattle.std.specs.Prelude.{ℕ, List, ◌++◌, codes, decimal}
 use Rattle.std.specs.List.{flat_map}
-use Rattle.chw_base.specs.declared.limits.TheConstants.{DESCRIPTION_BYTES, FLAT_WIRES, MADE_DEPTH, NESTING}
+use Rattle.chw_base.specs.declared.limits.TheConstants.{DESCRIPTION_BYTES, FLAT_WIRES, MADE_DEFINITIONS, MADE_DEPTH, NESTING}
 use Rattle.chw_base.specs.declared.index.WireId.{WireId}
 use Rattle.chw_cli.specs.declared.refusal.Refusal.{Refusal}
-use Rattle.chw_cli.specs.declared.refusal.Refusal.TheVariants.{Words, Read, LongText, Lex, Syntax, Depth, Names, Types, DeepBody, Spent, Form, Verilog, Stimulus, TooLarge, Loop, Write, Memory}
+use Rattle.chw_cli.specs.declared.refusal.Refusal.TheVariants.{Words, Read, LongText, Lex, Syntax, Depth, Names, Types, DeepBody, FullTable, Spent, Form, Verilog, Stimulus, TooLarge, Loop, Write, Memory}
 use Rattle.chw_cli.specs.declared.status.Status.{Status}
 use Rattle.chw_check.specs.declared.fault.TypeFault.{TypeFault}
 use Rattle.chw_check.specs.declared.fault.TypeFault.TheVariants.{Kind, Typing, Missing, NoDefault, NotPorts}
@@ -38,6 +38,7 @@ status_of Depth = status.Refused
 status_of (Names fault) = status.Refused
 status_of (Types fault) = status.Refused
 status_of DeepBody = status.Refused
+status_of FullTable = status.Refused
 status_of (Spent steps) = status.Spent
 status_of Form = status.Refused
 status_of (Verilog fault) = status.Verilog
@@ -110,6 +111,7 @@ line_of Depth = codes "chw: E03 limit depth " ++ decimal NESTING ++ codes "\n"
 line_of (Names fault) = fault_line fault
 line_of (Types fault) = type_line fault
 line_of DeepBody = codes "chw: E12 depth " ++ decimal MADE_DEPTH ++ codes "\n"
+line_of FullTable = codes "chw: E17 size made " ++ decimal MADE_DEFINITIONS ++ codes "\n"
 line_of (Spent steps) = codes "chw: E18 spent " ++ decimal steps ++ codes "\n"
 line_of Form = codes "chw: E20 form at 0\n"
 line_of (Verilog fault) = rule_words fault.code ++ decimal fault.at ++ codes "\n"

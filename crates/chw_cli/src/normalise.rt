@@ -25,6 +25,6 @@ pub(crate) fn normalised(
     let program = description.checked.program();
     let made = run(alloc, program, budget, &mut trace, &mut looks)?;
     let mut bytes = Vec::new(alloc);
-    put_lines(&mut bytes, trace.as_slice(), made.as_slice())?;
+    put_lines(&mut bytes, trace.as_slice(), made.list())?;
     Ok(bytes)
 }

@@ -37,6 +37,8 @@ pub enum Refusal {
     Types(TypeFault),
     /// A step of rewriting leads to a body that is deeper than the limit.
     DeepBody,
+    /// A step of rewriting adds a made definition, and as many are held as may be.
+    FullTable,
     /// So many steps, which is the budget, were made, and a step is left.
     Spent(u32),
     /// The text isn't of the flat form.
@@ -126,6 +128,7 @@ impl From<Or<RunFault>> for Refusal {
         match error {
             Or::Memory => Refusal::Memory,
             Or::Fault(RunFault::Depth) => Refusal::DeepBody,
+            Or::Fault(RunFault::Full) => Refusal::FullTable,
             Or::Fault(RunFault::Spent { steps }) => Refusal::Spent(steps),
         }
     }

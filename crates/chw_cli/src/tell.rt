@@ -41,6 +41,7 @@ pub(crate) fn tell<E: Sink>(alloc: Global, refusal: &Refusal, err: &mut E) -> St
         Refusal::Names(fault) => tell_names(alloc, fault, err),
         Refusal::Types(fault) => tell_types(alloc, fault, err),
         Refusal::DeepBody => put_line(alloc, "chw: E12 depth 2000\n", Status::Refused, err),
+        Refusal::FullTable => put_line(alloc, "chw: E17 size made 4096\n", Status::Refused, err),
         Refusal::Spent(steps) => tell_place(
             alloc,
             "chw: E18 spent ",

@@ -12,6 +12,6 @@ returns-in_err-made-clause-refused c =
 pub returns-clause-normalised : goal.returns-clause-normalised
 returns-clause-normalised c =
     run_lines c.args.description.now.tree c.args.description.now.checked c.program-program.result.now c.args.budget c.new-trace.result.items c.run.new.trace.items
-    c.in_ok-made.made.items c.put_lines.new.out.items c.requires c.program-program.ensures.program c.new-trace.ensures.items c.in_ok-made.ensures
-    (lines_put c.new-bytes.result.items c.put_lines.new.out.items c.as_slice.result.now c.run.new.trace.items c.as_slice-2.result.now c.in_ok-made.made.items
-    c.new-bytes.ensures.items c.as_slice.ensures.value c.as_slice-2.ensures.value c.in_ok-put_lines.ensures)
+    c.in_ok-made.made c.put_lines.new.out.items c.requires c.program-program.ensures.program c.new-trace.ensures.items c.in_ok-made.ensures
+    (lines_put c.new-bytes.result.items c.put_lines.new.out.items c.as_slice.result.now c.run.new.trace.items c.list.result.now c.in_ok-made.made
+    c.new-bytes.ensures.items c.as_slice.ensures.value c.list.ensures c.in_ok-put_lines.ensures)

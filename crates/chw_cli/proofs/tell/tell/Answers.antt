@@ -1,6 +1,6 @@
 use Rattle.std.proofs.Common.{refl, ap, sym}
 use Rattle.chw_cli.specs.Telling.{place_line}
-use Rattle.chw_cli.proofs.Limits.{deep_body_line, depth_line, long_text_line, too_large_line}
+use Rattle.chw_cli.proofs.Limits.{deep_body_line, depth_line, long_text_line, too_large_line, full_table_line}
 use Rattle.chw_cli.proofs.Telling.{told_by}
 use Rattle.chw_cli.proofs.tell.tell.Goals as goal
 
@@ -43,6 +43,10 @@ returns-in-Depth g c =
 pub returns-in-DeepBody : goal.returns-in-DeepBody
 returns-in-DeepBody g c =
     told_by g.E.Sink.put_gives g.E.Sink.written g.E.Sink.faults c.args.refusal.now _ c.in-DeepBody.is _ ⊥ _ _ _ _ (sym deep_body_line) refl (λ no. absurd no) c.put_line-in-DeepBody.ensures
+
+pub returns-in-FullTable : goal.returns-in-FullTable
+returns-in-FullTable g c =
+    told_by g.E.Sink.put_gives g.E.Sink.written g.E.Sink.faults c.args.refusal.now _ c.in-FullTable.is _ ⊥ _ _ _ _ (sym full_table_line) refl (λ no. absurd no) c.put_line-in-FullTable.ensures
 
 pub returns-in-Spent : goal.returns-in-Spent
 returns-in-Spent g c =
