@@ -12,7 +12,7 @@ use netlist::{Op1, Op2};
 use std::alloc::Global;
 
 /// The sum of two numbers.
-pub(crate) fn sum(a: u32, b: u32) -> Result<u32, NoMemory>
+pub fn sum(a: u32, b: u32) -> Result<u32, NoMemory>
     ensures { IfOk result (λ s. s ≡ a + b) }
 {
     a.checked_add(b).ok_or(NoMemory)
@@ -26,7 +26,7 @@ pub(crate) fn product(a: u32, b: u32) -> Result<u32, NoMemory>
 }
 
 /// The one wire of an operand that has one.
-pub(crate) fn only(wires: &[WireId]) -> WireId
+pub fn only(wires: &[WireId]) -> WireId
     ensures { result ≡ only wires.now }
 {
     if wires.is_empty() {
@@ -60,7 +60,7 @@ pub(crate) fn repeated(
 }
 
 /// So many wires, numbered from this number on.
-pub(crate) fn wires_from(alloc: Global, first: u32, count: u32) -> Result<Seq<WireId>, NoMemory>
+pub fn wires_from(alloc: Global, first: u32, count: u32) -> Result<Seq<WireId>, NoMemory>
     ensures { IfOk result (λ wires. wires ≡ wires_from first count) }
 {
     let mut wires = Vec::new(alloc);
@@ -84,7 +84,7 @@ fn push_new(wires: &mut Vec<WireId>, number: u32, width: u32) -> Result<(), NoMe
 }
 
 /// The wire of a part of this width; none where it has no bits.
-pub(crate) fn new_wires(alloc: Global, number: u32, width: u32) -> Result<Seq<WireId>, NoMemory>
+pub fn new_wires(alloc: Global, number: u32, width: u32) -> Result<Seq<WireId>, NoMemory>
     ensures { IfOk result (λ wires. wires ≡ new_wires number (width ∷ [])) }
 {
     let mut wires = Vec::new(alloc);
@@ -119,7 +119,7 @@ pub(crate) fn zeros(alloc: Global, width: u32) -> Result<Bits, NoMemory>
 }
 
 /// The lowest bits of a number, so many.
-pub(crate) fn number(alloc: Global, width: u32, number: u32) -> Result<Bits, NoMemory>
+pub fn number(alloc: Global, width: u32, number: u32) -> Result<Bits, NoMemory>
     ensures { IfOk result (λ bits. bits ≡ bits_of width number) }
 {
     let mut bits = zeros(alloc, width)?;

@@ -1,0 +1,56 @@
+-- Bodies below their lambdas, and their modules.
+use Rattle.std.proofs.Common.{◌≡◌, ◌∙◌, sym, ap, refl, subst, ℕ, ◌+◌, arith, List, [], ◌∷◌, ◌++◌, reverse, length, append_assoc, append-nil, length-append}
+use Rattle.std.proofs.lemmas.List.{reverse-append}
+use Rattle.chw_base.specs.declared.index.WireId.{WireId}
+use Rattle.chw_types.specs.TypeTree.{TypeTree}
+use Rattle.chw_terms.specs.declared.scene.Made.{Made}
+use Rattle.chw_terms.specs.declared.scene.Sort.TheVariants.{Value}
+use Rattle.chw_terms.specs.TermTree.{TermTree, lam}
+use Rattle.netlist.specs.declared.net.Module.{Module}
+use Rattle.net_built.specs.Bodies.{BodyBuilt, body_lambda, body_block}
+use Rattle.net_built.specs.Circuits.{Ground}
+use Rattle.net_built.specs.Data.{value_part}
+use Rattle.net_built.specs.Modules.{IsModuleOf}
+use Rattle.net_built.specs.Terms.{Variable, variable}
+use Rattle.net_built.specs.Wires.{Piece, new_wires, present, wire_count}
+use Rattle.value_build.specs.Bodies.{IsInput, IsUnder, IsModuleBelow}
+use Rattle.value_build.specs.InScope.{in_scope, as_variables}
+use Rattle.value_build.specs.declared.scope.Variable.{Variable as Held}
+
+pub under_none : (ground : Ground) (e : TermTree) (inputs : List ℕ) (scope : List Held) → inputs ≡ [] → scope ≡ []
+    → IsUnder ground e e inputs scope
+under_none ground e inputs scope empty none more p outputs built =
+    subst (λ ins. BodyBuilt ground Value [] 0 e (ins ++ more) p outputs) (sym empty)
+    (subst (λ n. BodyBuilt ground Value [] n e more p outputs) (ap length empty)
+    (subst (λ vs. BodyBuilt ground Value (in_scope vs) (length inputs) e more p outputs) none built))
+
+pub under_lambda : (ground : Ground) (e inner body : TermTree) (t : TypeTree) (before later : List ℕ) (outer scope : List Held)
+    → inner ≡ lam t body → IsInput ground t before later outer scope
+    → IsUnder ground e inner before outer → IsUnder ground e body later scope
+under_lambda ground e inner body t before later outer scope is it under more p outputs built =
+    let w : ℕ = it.width in
+    let here : Variable = variable t (new_wires (length before) (w ∷ [])) in
+    let vars : in_scope scope ≡ here ∷ in_scope outer = ap reverse it.bound ∙ reverse-append (as_variables outer) (here ∷ []) in
+    let count : length later ≡ length before + wire_count (w ∷ []) = ap length it.inputs ∙ length-append before (present (w ∷ [])) in
+    let below = subst (λ n. BodyBuilt ground Value (here ∷ in_scope outer) n body more p outputs) count
+    (subst (λ vs. BodyBuilt ground Value vs (length later) body more p outputs) vars built) in
+    let whole = subst (λ f. BodyBuilt ground Value (in_scope outer) (length before) f (present (w ∷ []) ++ more) p outputs) (sym is)
+    (body_lambda (value_part it.measured) below) in
+    subst (λ ins. BodyBuilt ground Value [] 0 e ins p outputs)
+    (sym (append_assoc before (present (w ∷ [])) more) ∙ ap (λ ins. ins ++ more) (sym it.inputs))
+    (under (present (w ∷ []) ++ more) p outputs whole)
+
+pub module_of_value : (ground : Ground) (it : Made) (inner : TermTree) (inputs : List ℕ) (scope : List Held) (built : Module)
+    → it.sort ≡ Value → IsUnder ground it.body inner inputs scope
+    → IsModuleBelow ground (in_scope scope) inputs inner built → IsModuleOf ground it built
+module_of_value ground it inner inputs scope built value under below =
+    let body = under [] below.cells built.outputs (body_block below.block) in
+    record {
+      inputs = inputs;
+      cells = below.cells;
+      body = subst (λ sort. BodyBuilt ground sort [] 0 it.body inputs below.cells built.outputs) (sym value)
+          (subst (λ ins. BodyBuilt ground Value [] 0 it.body ins below.cells built.outputs) (append-nil inputs) body);
+      are_inputs = below.are_inputs;
+      are_widths = below.are_widths;
+      are_cells = below.are_cells;
+    }

@@ -1,0 +1,10 @@
+pub mod Behind
+pub mod Kept
+pub mod Lambdas
+pub mod Measures
+pub mod Operands
+pub mod Parts
+pub mod Patterns
+pub mod Rows
+pub mod Scopes
+pub mod Spines

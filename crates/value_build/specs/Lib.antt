@@ -1,0 +1,10 @@
+pub mod Added
+pub mod Alternatives
+pub mod Arguments
+pub mod Bodies
+pub mod Grounds
+pub mod Groups
+pub mod InScope
+pub mod Known
+pub mod Places
+pub mod Tests
