@@ -71,7 +71,7 @@ fn of_vector<'t>(args: &'t [Arg]) -> Option<OfVector<'t>>
 
 // An element of a vector, by a number of the type.
 fn element(scope: &[Variable], into: &mut Pieces, w: u32, args: &[Arg]) -> Result<(), NoMemory>
-    ensures { OnOk result ((ground : Ground) → Adds (ValueCells ground (in_scope scope.now) (next into.old) w (prim VGet)
+    ensures { OnOk result ((g : Ground) → Adds (ValueCells g (in_scope scope.now) (next into.old) w (prim VGet)
         (types_in args.now) (terms_in args.now)) into.old into.new) }
 {
     let Some(p) = of_vector(args) else {
@@ -121,7 +121,7 @@ fn element_at(
     w: u32,
     args: &[Arg],
 ) -> Result<(), NoMemory>
-    ensures { OnOk result ((ground : Ground) → Adds (ValueCells ground (in_scope scope.now) (next into.old) w (prim VAt)
+    ensures { OnOk result ((g : Ground) → Adds (ValueCells g (in_scope scope.now) (next into.old) w (prim VAt)
         (types_in args.now) (terms_in args.now)) into.old into.new) }
 {
     let Some(p) = by_word(args) else {
@@ -143,7 +143,7 @@ fn primitive(
     which: Prim,
     args: &[Arg],
 ) -> Result<(), NoMemory>
-    ensures { OnOk result ((ground : Ground) → Adds (ValueCells ground (in_scope scope.now) (next into.old) w (prim which)
+    ensures { OnOk result ((g : Ground) → Adds (ValueCells g (in_scope scope.now) (next into.old) w (prim which)
         (types_in args.now) (terms_in args.now)) into.old into.new) }
 {
     match which {
@@ -167,7 +167,7 @@ fn vector(
     w: u32,
     elements: &[Term],
 ) -> Result<(), NoMemory>
-    ensures { OnOk result ((ground : Ground) (t : TypeTree) → Adds (ValueCells ground (in_scope scope.now) (next into.old) w
+    ensures { OnOk result ((g : Ground) (t : TypeTree) → Adds (ValueCells g (in_scope scope.now) (next into.old) w
         (vec_lit t (terms_of elements.now)) [] []) into.old into.new) }
 {
     let wire = into.next_wire();
@@ -204,7 +204,7 @@ fn bare_cells(
     w: u32,
     head: &Head,
 ) -> Result<(), NoMemory>
-    ensures { OnOk result ((ground : Ground) → Adds (ValueCells ground (in_scope scope.now) (next into.old) w
+    ensures { OnOk result ((g : Ground) → Adds (ValueCells g (in_scope scope.now) (next into.old) w
         (tree_of head.now) [] []) into.old into.new) }
 {
     match head {
