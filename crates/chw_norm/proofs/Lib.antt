@@ -7,6 +7,7 @@ mod Ends
 mod Firsts
 mod Grown
 mod Lambdas
+mod Last
 mod Normal
 mod Numbered
 mod Onward

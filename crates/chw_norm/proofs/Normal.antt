@@ -55,7 +55,7 @@ one_opening p h g =
     let item : h.0 ≡ g.0 = same_Some h.0 g.0 (sym h.1 ∙ g.1) in
     h.2 ∙ ap (λ (it : Def). opened p (top_of p.top.«def».number it) ∷ []) item ∙ sym g.2
 
-rest_of_run : {rules : List Rule} {p : Program} {made made' : List Made} {steps others : List Step}
+pub rest_of_run : {rules : List Rule} {p : Program} {made made' : List Made} {steps others : List Step}
     → OneState → HasNoStep rules p made → ShallowRun rules p steps made
     → ShallowRun rules p others made' → Rest rules p made' made (length others) (length steps)
 rest_of_run {p = p} law none run other =
