@@ -10,7 +10,7 @@ use Rattle.value_build.specs.Known.{AreRight, Keeps}
 -- where the table grows
 pub right_grown : (datas : List Data) (ts us : List TypeTree) (known : List (Option ℕ))
     → Grows ts us → AreRight datas ts known → AreRight datas us known
-right_grown datas ts us known grows right n w at = let it = right n w at in (it.0, (grows n it.0 it.1, it.2))
+right_grown datas ts us known grows right n w at = let it = right n w at in (it.0, grows n it.0 it.1, it.2)
 
 -- where one more width is kept
 pub right_kept : (datas : List Data) (us : List TypeTree) (known more : List (Option ℕ)) (number width : ℕ) (t : TypeTree)
@@ -20,5 +20,5 @@ right_kept datas us known more number width t right is measured keeps n w at = b
   where
     by : ((n ≡ number) × (w ≡ width)) ⊎ (slice_get known n ≡ Some (Some w))
         → (u : TypeTree) × (slice_get us n ≡ Some u) × HasWidth datas u w
-    by (inl e) = (t, (subst (λ k. slice_get us k ≡ Some t) (sym e.0) is, subst (HasWidth datas t) (sym e.1) measured))
+    by (inl e) = (t, subst (λ k. slice_get us k ≡ Some t) (sym e.0) is, subst (HasWidth datas t) (sym e.1) measured)
     by (inr b) = right n w b
