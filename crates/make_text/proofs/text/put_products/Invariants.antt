@@ -1,0 +1,6 @@
+use Rattle.std.proofs.Common.{◌≡◌, ◌++◌}
+use Rattle.make_text.specs.MakeText.{each, product}
+use Rattle.make_text.proofs.text.put_products.Given as goal
+
+abbrev pub invariant-loop-k : goal.invariant-loop-k
+invariant-loop-k l = l.out.items ≡ l.initial.out.items ++ each product l.k
