@@ -1,18 +1,17 @@
 -- The cells of a case agree in width: what is tested, the fields, the tests and the choice.
-use Rattle.std.proofs.Common.{◌≡◌, ℕ, zero, suc, ◌+◌, ◌-◌, ◌<◌, ◌≤◌, arith, Bool, List, [], ◌∷◌, ◌++◌, length, map, Some, refl, sym, ap, ◌∙◌, subst, unwrap_or, option_map}
+use Rattle.std.proofs.Common.{◌≡◌, ℕ, suc, ◌+◌, ◌-◌, ◌<◌, ◌≤◌, arith, Bool, List, [], ◌∷◌, ◌++◌, length, map, Some, refl, sym, ap, ◌∙◌, subst, unwrap_or, option_map}
 use Rattle.std.specs.List.{slice_get, AllByRecursion}
 use Rattle.chw_base.specs.declared.index.WireId.{WireId}
 use Rattle.chw_base.specs.declared.limits.TheConstants.{DATA_BITS}
 use Rattle.chw_bits.proofs.Numbers.{length-bits_of}
 use Rattle.chw_types.specs.declared.declarations.Data.{Data}
-use Rattle.chw_types.specs.Arguments.{arguments}
 use Rattle.chw_types.specs.SamePromises.{SameValues, natural_value}
 use Rattle.chw_types.specs.TypeMoves.{Substitution, sub}
 use Rattle.chw_types.specs.TypeTree.{TypeTree, data_of}
 use Rattle.chw_terms.specs.declared.term.Pattern.{Pattern}
 use Rattle.chw_terms.specs.declared.term.Pattern.TheVariants.{Default}
 use Rattle.chw_terms.specs.TermTree.{TermTree, Alts, no_alts, alt, case_of}
-use Rattle.chw_typing.specs.Alternatives.{Hides, HidesNone, NoneHidden}
+use Rattle.chw_typing.specs.Alternatives.{Hides, NoneHidden}
 use Rattle.chw_typing.specs.HeadTypes.{PatternOf, of_con, of_lit, of_any}
 use Rattle.chw_typing.specs.Scopes.{Setting}
 use Rattle.chw_typing.specs.Typing.{HasType, h_case}

@@ -1,5 +1,5 @@
 -- Right sides of typed circuits in normal form: what is known of their operands.
-use Rattle.std.proofs.Common.{◌≡◌, ℕ, suc, ◌-◌, ◌≤◌, Bool, List, [], ◌∷◌, ◌++◌, length, Some, refl, sym, ap, ◌∙◌, subst}
+use Rattle.std.proofs.Common.{◌≡◌, ℕ, suc, ◌≤◌, Bool, List, [], ◌∷◌, ◌++◌, length, Some, refl, sym, ap, ◌∙◌, subst}
 use Rattle.std.specs.List.{slice_get, AllByRecursion}
 use Rattle.std.proofs.lemmas.List.{append-nil}
 use Rattle.chw_base.specs.declared.index.WireId.{WireId}
@@ -9,7 +9,7 @@ use Rattle.chw_types.specs.SamePromises.{SameValues}
 use Rattle.chw_types.specs.SameTypes.{SameTypes}
 use Rattle.chw_types.specs.TypeTree.{TypeTree}
 use Rattle.type_laws.specs.SameKept.{FieldsKeepSame}
-use Rattle.chw_prims.specs.declared.prim.Primitive.TheVariants.{Fmap, Ap, Pure, Register, BlockRam, UnsafeSynchronizer}
+use Rattle.chw_prims.specs.declared.prim.Primitive.TheVariants.{Fmap, Ap, Pure, Register, BlockRam}
 use Rattle.chw_terms.specs.declared.scene.Sort.TheVariants.{Value, Circuit}
 use Rattle.chw_terms.specs.TermTree.{TermTree, var, made, con, prim}
 use Rattle.chw_terms.specs.TermView.{applied}

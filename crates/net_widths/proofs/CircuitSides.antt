@@ -1,10 +1,8 @@
 -- The cells of right sides of circuits, by what is known of their operands.
-use Rattle.std.proofs.Common.{◌≡◌, ℕ, zero, suc, ◌+◌, ◌-◌, ◌≤◌, arith, Bool, List, [], ◌∷◌, ◌++◌, length, Some, refl, ap, ◌∙◌, subst}
+use Rattle.std.proofs.Common.{◌≡◌, ℕ, zero, suc, ◌+◌, ◌-◌, ◌≤◌, arith, Bool, List, [], ◌∷◌, ◌++◌, length, Some, refl, ap, ◌∙◌}
 use Rattle.std.specs.List.{slice_get, AllByRecursion}
 use Rattle.chw_base.specs.declared.index.ConId.{ConId}
 use Rattle.chw_base.specs.declared.index.WireId.{WireId}
-use Rattle.chw_base.specs.declared.limits.TheConstants.{RAM_WORDS, SCALAR_BITS}
-use Rattle.chw_types.specs.declared.declarations.Data.{Data}
 use Rattle.chw_types.specs.TypeTree.{TypeTree}
 use Rattle.chw_prims.specs.declared.prim.Primitive.TheVariants.{Fmap, Ap, Pure, Register, BlockRam, UnsafeSynchronizer}
 use Rattle.chw_terms.specs.declared.term.Pattern.TheVariants.{OfCon}
@@ -12,7 +10,7 @@ use Rattle.chw_terms.specs.TermTree.{TermTree, var, made, con, prim, case_of, no
 use Rattle.chw_typing.specs.HeadTypes.{PatternOf}
 use Rattle.chw_layout.specs.Measured.{closed_value}
 use Rattle.netlist.specs.declared.net.Cell.{Cell}
-use Rattle.netlist.specs.declared.net.Cell.TheVariants.{Const, Copy, Reg, Use}
+use Rattle.netlist.specs.declared.net.Cell.TheVariants.{Const, Reg, Use}
 use Rattle.netlist.specs.declared.net.Module.{Module}
 use Rattle.net_rules.specs.WellFormed.{WidthsAgree, HasFewWords}
 use Rattle.net_built.specs.Circuits.{Ground, module_of, used, IsLifted, HaveParts, field_wires, CircuitCells, of_variable, of_synchronizer, of_pure, of_register, of_block_ram, of_mapped, of_lifted, of_call, of_product, of_projection}

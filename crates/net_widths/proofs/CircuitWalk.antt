@@ -1,5 +1,5 @@
 -- The cells of typed circuits in normal form, and the widths of their outputs.
-use Rattle.std.proofs.Common.{◌≡◌, ℕ, zero, suc, ◌+◌, List, [], ◌∷◌, ◌++◌, reverse, refl, sym, subst, append_assoc}
+use Rattle.std.proofs.Common.{ℕ, ◌+◌, List, [], ◌∷◌, ◌++◌, reverse, sym, subst, append_assoc}
 use Rattle.std.specs.List.{AllByRecursion}
 use Rattle.chw_base.specs.declared.index.WireId.{WireId}
 use Rattle.chw_types.specs.declared.declarations.Data.{Data}
@@ -41,7 +41,7 @@ use Rattle.net_widths.proofs.CircuitForms.{LiftedFit, CircuitsFit, side_fits}
 use Rattle.net_widths.proofs.CircuitSides.{SideKept, circuit_kept}
 use Rattle.net_widths.proofs.Kept.{none_kept, then_kept}
 use Rattle.net_widths.proofs.MemoryCells.{then_few}
-use Rattle.net_widths.proofs.PortsWide.{PortWide, PortsWide, wide_and, wide_onto, bound_wide, port_wide}
+use Rattle.net_widths.proofs.PortsWide.{PortsWide, wide_and, wide_onto, bound_wide, port_wide}
 use Rattle.net_widths.proofs.Small.{IsPart, Small, none_small, then_small, parts_small}
 
 pub each_of : {datas : List Data} {sort : Sort} {t : TypeTree} {ws : List ℕ} → HasParts datas sort t ws → AllByRecursion IsPart ws

@@ -26,7 +26,7 @@ use Rattle.chw_typing.specs.Scopes.{Setting, HasKind, AreTermTypes}
 use Rattle.chw_typing.specs.Typing.{HasType, HasTypeUpTo, h_vec, count}
 use Rattle.chw_layout.specs.Datum.{Datums, no_data, datum_and, elements}
 use Rattle.chw_layout.specs.Encodes.{count_of}
-use Rattle.chw_layout.specs.Measured.{closed_value, fits, HasWidth}
+use Rattle.chw_layout.specs.Measured.{closed_value, HasWidth}
 use Rattle.chw_layout.proofs.Encodings.{encoded_length}
 use Rattle.chw_layout.proofs.Fitting.{scalar_width}
 use Rattle.layout_laws.specs.SameLayout.{SameKeepsMeasure}

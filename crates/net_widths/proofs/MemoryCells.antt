@@ -14,7 +14,7 @@ use Rattle.netlist.specs.declared.net.Cell.TheVariants.{Const, Join, Cut, Ram}
 use Rattle.netlist.specs.declared.net.Module.{Module}
 use Rattle.net_rules.specs.WellFormed.{HasFewWords}
 use Rattle.net_built.specs.Memories.{past_all, address, address_wire, filled_up, narrowed, memory}
-use Rattle.net_built.specs.Wires.{wire, new_wires, wire_count, present, Piece, nothing, one, ◌▸◌, after, last_wire}
+use Rattle.net_built.specs.Wires.{wire, new_wires, present, Piece, nothing, one, ◌▸◌, after, last_wire}
 use Rattle.net_built.specs.Words.{zeros, only}
 use Rattle.net_fits.specs.Widths.{AreWide, StandFrom}
 use Rattle.net_fits.proofs.Reading.{all_append}

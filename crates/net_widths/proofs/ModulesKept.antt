@@ -1,5 +1,5 @@
 -- Modules that are built keep the rules on widths and on limits.
-use Rattle.std.proofs.Common.{◌≡◌, ℕ, zero, suc, ◌+◌, ◌≤◌, arith, List, [], ◌∷◌, ◌++◌, length, take, Some, refl, sym, ap, ◌∙◌, subst}
+use Rattle.std.proofs.Common.{◌≡◌, ℕ, zero, suc, ◌+◌, ◌≤◌, arith, List, [], ◌∷◌, ◌++◌, length, take, Some, refl, sym, subst}
 use Rattle.std.specs.List.{slice_get, AllByRecursion}
 use Rattle.std.proofs.lemmas.Option.{slice_get_within}
 use Rattle.chw_types.specs.SamePromises.{SameValues}
@@ -12,7 +12,7 @@ use Rattle.chw_typing.specs.Scopes.{Setting}
 use Rattle.layout_laws.specs.SameLayout.{SameKeepsMeasure}
 use Rattle.netlist.specs.Sound.{IsWireWidth}
 use Rattle.netlist.specs.declared.net.Cell.{Cell}
-use Rattle.netlist.specs.declared.net.Cell.TheVariants.{Reg, Ram, Use}
+use Rattle.netlist.specs.declared.net.Cell.TheVariants.{Ram}
 use Rattle.netlist.specs.declared.net.Module.{Module}
 use Rattle.netlist.specs.declared.net.Net.{Net}
 use Rattle.net_rules.specs.WellFormed.{HasFewWords, WidthsAgree}
@@ -29,7 +29,7 @@ use Rattle.net_built.specs.Wires.{Piece}
 use Rattle.net_built.proofs.NoLoops.{normal_free}
 use Rattle.net_fits.specs.Widths.{StandFrom}
 use Rattle.net_fits.proofs.Drivers.{module_at}
-use Rattle.net_fits.proofs.Reading.{Under, IsPlain, Reads, ReadsWires}
+use Rattle.net_fits.proofs.Reading.{Under, IsPlain, ReadsWires}
 use Rattle.net_fits.proofs.Scopes.{none_sized}
 use Rattle.net_fits.proofs.Uses.{BeforePlace, AllBefore, order_behind}
 use Rattle.net_fits.proofs.ValueReads.{ValueCalls, body_reads}

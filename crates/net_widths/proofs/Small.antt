@@ -1,6 +1,6 @@
 -- The widths of the wires of pieces are within the limit.
 use Rattle.std.specs.Prelude.{nat_lt, if◌then◌else◌}
-use Rattle.std.proofs.Common.{◌≡◌, ℕ, zero, suc, ◌+◌, ◌-◌, ◌≤◌, ◌==◌, ◌^◌, min, arith, Bool, true, false, List, [], ◌∷◌, ◌++◌, refl, sym, subst}
+use Rattle.std.proofs.Common.{ℕ, zero, suc, ◌+◌, ◌-◌, ◌≤◌, ◌==◌, ◌^◌, min, arith, Bool, true, false, List, [], ◌∷◌, ◌++◌}
 use Rattle.std.specs.List.{AllByRecursion}
 use Rattle.chw_base.specs.declared.index.DomId.{DomId}
 use Rattle.chw_base.specs.declared.index.WireId.{WireId}
@@ -19,7 +19,7 @@ use Rattle.netlist.specs.declared.net.Op2.TheVariants.{Add, Mul, Eq, LtU, LtS, S
 use Rattle.net_built.specs.Data.{constructed, field_cuts, test, tests, test_wires, choices, chosen}
 use Rattle.net_built.specs.Memories.{address, filled_up, narrowed, memory}
 use Rattle.net_built.specs.Vectors.{element, elements, element_wires, words_from, element_at}
-use Rattle.net_built.specs.Wires.{wire, present, wire_count, Piece, nothing, after, ◌▸◌}
+use Rattle.net_built.specs.Wires.{wire, present, wire_count, Piece, nothing, after}
 use Rattle.net_built.specs.Words.{compared, shifted, reduced, extended, widened, word_cells}
 use Rattle.net_fits.proofs.Reading.{all_append}
 use Rattle.net_fits.proofs.Rows.{given_width}

@@ -1,5 +1,5 @@
 -- The last module that is built has outputs as wide as the program's ports.
-use Rattle.std.proofs.Common.{◌≡◌, ℕ, zero, suc, ◌+◌, ◌≤◌, arith, List, [], ◌∷◌, ◌++◌, length, map, Some, refl, sym, ap, ◌∙◌, subst, length-append}
+use Rattle.std.proofs.Common.{◌≡◌, ℕ, zero, suc, ◌+◌, arith, List, [], ◌∷◌, ◌++◌, length, map, Some, refl, sym, ap, subst, length-append}
 use Rattle.std.specs.List.{slice_get}
 use Rattle.chw_base.specs.declared.index.WireId.{WireId}
 use Rattle.chw_clock.specs.declared.event.Port.{Port}
@@ -25,7 +25,7 @@ use Rattle.rewriting.specs.Origins.{setting_at}
 use Rattle.rule_types.specs.States.{IsTypedState, StatesHaveTypedOrigins}
 use Rattle.typing_laws.specs.SpineLaws.{ConAtArguments, ConIsSaturated, PrimAtArguments}
 use Rattle.net_built.specs.Built.{Built, ground_of}
-use Rattle.net_built.specs.Data.{HaveWidths, HasParts, port_parts}
+use Rattle.net_built.specs.Data.{HaveWidths, port_parts}
 use Rattle.net_built.specs.Modules.{IsModuleOf}
 use Rattle.net_built.specs.Terms.{result_of}
 use Rattle.net_built.specs.Wires.{present}

@@ -1,7 +1,7 @@
 -- Uses of modules that are built agree in width with the modules.
 use Rattle.std.specs.Prelude.{IfSome}
-use Rattle.std.proofs.Common.{◌≡◌, inl, inr, ℕ, zero, suc, ◌+◌, ◌≤◌, arith, List, [], ◌∷◌, ◌++◌, length, map, take, Some, refl, sym, ap, ◌∙◌, subst}
-use Rattle.std.specs.List.{slice_get, AllByRecursion}
+use Rattle.std.proofs.Common.{◌≡◌, inl, inr, ℕ, zero, suc, ◌≤◌, arith, List, [], ◌∷◌, ◌++◌, length, map, take, Some, sym, ap, ◌∙◌, subst}
+use Rattle.std.specs.List.{slice_get}
 use Rattle.chw_base.specs.declared.index.WireId.{WireId}
 use Rattle.chw_types.specs.declared.kind.Kind.{Kind}
 use Rattle.chw_types.specs.TypeTree.{TypeTree}
@@ -28,7 +28,7 @@ use Rattle.net_built.specs.Built.{Built, ground_of}
 use Rattle.net_built.specs.Circuits.{module_of}
 use Rattle.net_built.specs.Data.{HasParts, value_part}
 use Rattle.net_built.specs.Modules.{IsModuleOf}
-use Rattle.net_built.specs.Terms.{operands_of, result_of, Variable, wires_at, wires_of_all}
+use Rattle.net_built.specs.Terms.{operands_of, result_of, wires_at, wires_of_all}
 use Rattle.net_built.specs.Wires.{present, wire_count, new_wires}
 use Rattle.net_built.proofs.Parts.{same_some, parts_once}
 use Rattle.net_fits.specs.Widths.{AreWide, StandFrom}

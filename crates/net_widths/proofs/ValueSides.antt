@@ -1,13 +1,10 @@
 -- The cells of right sides of typed values in normal form, but of cases.
-use Rattle.std.proofs.Common.{◌≡◌, ◌⊎◌, inl, inr, ℕ, zero, suc, ◌+◌, ◌-◌, ◌≤◌, arith, Bool, List, [], ◌∷◌, ◌++◌, length, map, Some, refl, sym, ap, ◌∙◌, subst, append-nil}
+use Rattle.std.proofs.Common.{◌≡◌, inl, inr, ℕ, ◌-◌, ◌≤◌, arith, List, [], ◌∷◌, ◌++◌, length, map, Some, refl, sym, ap, ◌∙◌, subst, append-nil}
 use Rattle.std.specs.Prelude.{slice_index}
 use Rattle.std.specs.List.{slice_get, AllByRecursion}
-use Rattle.chw_base.specs.declared.index.WireId.{WireId}
-use Rattle.chw_base.specs.declared.limits.TheConstants.{DATA_BITS}
 use Rattle.chw_types.specs.declared.kind.Kind.{Kind}
 use Rattle.chw_types.specs.declared.kind.Kind.TheVariants.{Nat, Val}
 use Rattle.chw_types.specs.declared.kind.Scalar.TheVariants.{U}
-use Rattle.chw_types.specs.Arguments.{arguments}
 use Rattle.chw_types.specs.SamePromises.{SameValues}
 use Rattle.chw_types.specs.SameTypes.{SameTypes}
 use Rattle.chw_types.specs.TypeMoves.{sub}
@@ -29,7 +26,7 @@ use Rattle.rewriting.specs.Shapes.{IsVariable}
 use Rattle.rewriting.specs.Spots.{IsOnWords, TakesElement}
 use Rattle.normal_forms.specs.Values.{on_names, IsSide, side_variable, side_literal, side_constructor, side_vector, side_primitive, side_call, side_case}
 use Rattle.chw_layout.specs.Encodes.{first_constructor}
-use Rattle.chw_layout.specs.Measured.{closed_value, fits, tag_width, HasWidth, MeasuredFields}
+use Rattle.chw_layout.specs.Measured.{closed_value, fits, tag_width, HasWidth}
 use Rattle.chw_layout.proofs.Fitting.{con_width, cons_width}
 use Rattle.chw_layout.proofs.Measures.{fields_once}
 use Rattle.layout_laws.specs.SameLayout.{SameKeepsMeasure}
@@ -40,7 +37,7 @@ use Rattle.net_rules.specs.WellFormed.{WidthsAgree}
 use Rattle.net_built.specs.Bodies.{ValueCells, value_variable, value_literal, value_constructor, value_vector, value_primitive, value_element, value_element_at, value_call}
 use Rattle.net_built.specs.Circuits.{Ground, module_of}
 use Rattle.net_built.specs.Modules.{made_in}
-use Rattle.net_built.specs.Terms.{head_of, types_of, operands_of, Variable, wires_at, wires_of, wires_of_all}
+use Rattle.net_built.specs.Terms.{head_of, types_of, operands_of, Variable, wires_of, wires_of_all}
 use Rattle.net_built.specs.Vectors.{element, element_at}
 use Rattle.net_built.specs.Wires.{present, wire_count, new_wires, Piece}
 use Rattle.net_fits.specs.Laws.{ground_over}

@@ -1,5 +1,5 @@
 -- The cells of typed values in normal form.
-use Rattle.std.proofs.Common.{◌≡◌, ℕ, zero, suc, ◌+◌, ◌-◌, ◌≤◌, true, arith, Bool, List, [], ◌∷◌, ◌++◌, length, reverse, Some, refl, sym, ap, ◌∙◌, subst, append_assoc}
+use Rattle.std.proofs.Common.{◌≡◌, ℕ, ◌-◌, ◌≤◌, true, arith, List, [], ◌∷◌, ◌++◌, length, reverse, refl, sym, subst, append_assoc}
 use Rattle.std.specs.List.{AllByRecursion}
 use Rattle.chw_base.specs.declared.index.WireId.{WireId}
 use Rattle.chw_types.specs.declared.kind.Kind.{Kind}
@@ -14,7 +14,7 @@ use Rattle.chw_typing.specs.HeadTypes.{PatternOf}
 use Rattle.chw_typing.specs.Programs.{IsSound}
 use Rattle.chw_typing.specs.Scopes.{Setting, HasKind, AreTermTypes, with_more, declared}
 use Rattle.chw_typing.specs.Typing.{HasType, h_lam, h_letrec, AreBound, none_bound, bound_and, AllGive, none_give, give_and}
-use Rattle.chw_typing.proofs.Kinded.{bound_typed, function_parts, function_takes, typed_more}
+use Rattle.chw_typing.proofs.Kinded.{bound_typed, function_takes, typed_more}
 use Rattle.graph_order.specs.References.{HasNoCycle}
 use Rattle.layout_laws.specs.SameLayout.{SameKeepsMeasure}
 use Rattle.chw_layout.specs.Measured.{HasWidth}
@@ -24,17 +24,17 @@ use Rattle.rewriting.specs.Origins.{Origins, setting_at}
 use Rattle.normal_forms.specs.Values.{IsBlock, block_letrec as is_letrec, AreSides, no_sides, side_and, IsSide, AreBlocks, no_blocks, block_and}
 use Rattle.netlist.specs.declared.net.Module.{Module}
 use Rattle.net_built.specs.Bodies.{BlockBuilt, block_variable, block_letrec, GroupBuilt, group_none, group_and, SideBuilt, side_of_value, side_of_case, AltsBuilt, alts_none, alts_and, BodyBuilt, body_lambda, body_block}
-use Rattle.net_built.specs.Data.{HaveWidths, value_part, Tested, tested_of, variables_from, field_cuts, chosen, tests, test_wires, words_of}
+use Rattle.net_built.specs.Data.{HaveWidths, value_part, Tested, variables_from, chosen, tests, test_wires, words_of}
 use Rattle.net_built.specs.Loops.{refers, HasNoLoops, HaveNoLoops, HasNoLoopsIn}
 use Rattle.net_built.specs.Modules.{made_in, made_in_group, made_in_alts}
-use Rattle.net_built.specs.Terms.{Variable, wires_at}
+use Rattle.net_built.specs.Terms.{Variable}
 use Rattle.net_built.specs.Wires.{new_wires, present, Piece, ◌▸◌, after}
 use Rattle.net_built.proofs.Parts.{width_once}
 use Rattle.net_fits.specs.Laws.{ground_over}
 use Rattle.net_fits.specs.Widths.{AreWide, StandFrom, WideAt}
 use Rattle.net_fits.proofs.CallShapes.{case_side, all_first, all_rest}
 use Rattle.net_fits.proofs.Choosing.{EachLong}
-use Rattle.net_fits.proofs.Scopes.{Fits, found, var_at, wires_there}
+use Rattle.net_fits.proofs.Scopes.{Fits, found, var_at}
 use Rattle.net_fits.proofs.ValueDrivers.{bound_count, case_typed, same_found, alternative, inside_group}
 use Rattle.net_fits.proofs.ValueWidths.{EachWide, one_wide, onto_wide, fields_wide, bindings_wide, block_wide, group_wide}
 use Rattle.net_fits.proofs.Wide.{stand_parts, wide_from}

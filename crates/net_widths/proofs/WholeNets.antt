@@ -1,5 +1,5 @@
 -- What is built keeps the rules on widths and on limits.
-use Rattle.std.proofs.Common.{◌≡◌, ℕ, ◌+◌, ◌≤◌, arith, List, length, Some}
+use Rattle.std.proofs.Common.{◌≡◌, ℕ, ◌≤◌, arith, List, length, Some}
 use Rattle.std.specs.List.{slice_get}
 use Rattle.chw_base.specs.declared.limits.TheConstants.{MADE_DEFINITIONS}
 use Rattle.chw_types.specs.SamePromises.{SameValues}
