@@ -1,0 +1,4 @@
+pub mod FlatCells
+pub mod Paths
+pub mod Places
+pub mod Ranks
