@@ -1,5 +1,5 @@
 -- What is promised of the order of wires.
--- Final: all statements of this file but those of cases (ResultsSettle to FieldsSettle), whose premises may grow.
+-- All statements of this file are final; those of cases (ResultsSettle on) may gain a premise.
 use Rattle.std.specs.Prelude.{◌≡◌, ℕ, zero, suc, ◌+◌, ◌<◌, ◌≤◌, List, [], ◌∷◌, ◌++◌, length}
 use Rattle.std.specs.Prelude.{Bool, map, Some, slice_get}
 use Rattle.chw_base.specs.declared.index.ConId.{ConId}
@@ -17,6 +17,7 @@ use Rattle.chw_terms.specs.declared.term.Pattern.TheVariants.{OfCon}
 use Rattle.chw_terms.specs.TermTree.{TermTree, var, made, con, prim, lit, vec_lit, case_of}
 use Rattle.chw_terms.specs.TermTree.{Alts, no_alts, alt}
 use Rattle.chw_terms.specs.TermView.{terms_of}
+use Rattle.chw_typing.specs.Alternatives.{IsCovered}
 use Rattle.chw_typing.specs.HeadTypes.{fields_at, PatternOf}
 use Rattle.rewriting.specs.Origins.{Origins}
 use Rattle.rewriting.specs.Spots.{asked_for, IsOnWords}
@@ -135,6 +136,12 @@ LooksSettle =
     → 2 ≤ alts_count alts → length results ≡ alts_count alts
     → AllSettle net path (case_wires on alts w n p results) path wires
 
+-- a case that leaves nothing out has several alternatives where its meaning looks
+abbrev pub LooksHaveSeveral : Type 0
+LooksHaveSeveral =
+    (datas : List Data) (alts : Alts)
+    → IsCovered datas alts → choice datas alts ≡ looks → 2 ≤ alts_count alts
+
 -- a case of one alternative has the wires of its result
 abbrev pub OneResult : Type 0
 OneResult =
@@ -187,6 +194,18 @@ ProductsSettle =
     (part_wires (leaves_before i parts + j) widths (last_wires n piece widths)) path
     (part_wires j own it.wires)
 
+-- the parts of a projection are those of the field that it takes
+abbrev pub ProjectedParts : Type 0
+ProjectedParts =
+    (o : Origins) (order : List ℕ) (scope : List Variable) (net : Net) (path : List ℕ) (n : ℕ)
+    (widths : List ℕ) (t : TypeTree) (piece : Piece) (c : ConId) (count x z i : ℕ)
+    (fields : List TypeTree) (parts : List (List ℕ)) (it : Variable)
+    → z + suc i ≡ count
+    → CircuitGiven o order scope net path n widths t
+    (case_of (var x) (alt (OfCon c count) (var z) no_alts)) piece
+    → slice_get scope x ≡ Some it → PatternOf o.program.datas it.ty (OfCon c count) fields
+    → HaveParts o.program.datas fields parts → slice_get parts i ≡ Some widths
+
 -- a projection settles at a leaf by the leaf of the field in the variable that is taken apart
 abbrev pub ProjectionsSettle : Type 0
 ProjectionsSettle =
@@ -217,3 +236,19 @@ InputsSettle =
     (widths : List ℕ) (k : ℕ) (at : UsedAt net path (front ++ (wires ++ back)) drives inner)
     → AllSettle net (at.place ∷ path)
     (part_wires k widths (new_wires (length front) widths)) path (part_wires k widths wires)
+
+-- the wires of what a use of a value gives settle by the outputs of the used instance
+abbrev pub ValueUsesSettle : Type 0
+ValueUsesSettle =
+    (net : Net) (path : List ℕ) (inner : Module) (n w : ℕ) (reads : List WireId)
+    (at : UsedAt net path reads (new_wires n (w ∷ [])) inner)
+    → length inner.outputs ≡ wire_count (w ∷ [])
+    → AllSettle net path (new_wires n (w ∷ [])) (at.place ∷ path) inner.outputs
+
+-- and those of an input of a value by the operand that is read
+abbrev pub ValueInputsSettle : Type 0
+ValueInputsSettle =
+    (net : Net) (path : List ℕ) (inner : Module) (front wires back drives : List WireId) (w : ℕ)
+    (at : UsedAt net path (front ++ (wires ++ back)) drives inner)
+    → length wires ≡ wire_count (w ∷ [])
+    → AllSettle net (at.place ∷ path) (new_wires (length front) (w ∷ [])) path wires
