@@ -69,9 +69,10 @@ module _ (net : Net) (path : List ℕ) (w : ℕ) where
       let is : y ≡ x = cc in
       let number : at ≡ at + 1 - 1 = omega arith in
       subst (λ (z : WireId × WireId). Meets net path (at + 1 - 1) z.0.number × Meets net path (at + 1 - 1) z.1.number) is
-      (subst (λ n. Meets net path n y.0.number × Meets net path n y.1.number) number
-      (cell_meets net path (choices (suc w) (y ∷ []) other at).cells 0 0 at (Mux (wire at) y.0 y.1 other) y.0 has refl tt refl refl,
-      cell_meets net path (choices (suc w) (y ∷ []) other at).cells 0 1 at (Mux (wire at) y.0 y.1 other) y.1 has refl tt refl refl))
+      (subst (λ n. Meets net path n y.0.number × Meets net path n y.1.number) number (
+        cell_meets net path (choices (suc w) (y ∷ []) other at).cells 0 0 at (Mux (wire at) y.0 y.1 other) y.0 has refl tt refl refl,
+        cell_meets net path (choices (suc w) (y ∷ []) other at).cells 0 1 at (Mux (wire at) y.0 y.1 other) y.1 has refl tt refl refl,
+      ))
   choices_pair (y ∷ []) (suc i) x other at e has = absurd cc
   choices_pair (y ∷ z ∷ xs) zero x other at e has =
       let is : y ≡ x = cc in
@@ -79,9 +80,10 @@ module _ (net : Net) (path : List ℕ) (w : ℕ) where
       let rest : Meets net path (at + 1 + suc (length xs) - 1) at = choices_other z xs (wire at) (at + 1) (λ i c e. has (suc i) c e) in
       let number : at + 1 + suc (length xs) - 1 ≡ at + suc (suc (length xs)) - 1 = omega arith in
       let last : Meets net path (at + suc (suc (length xs)) - 1) at = subst (λ n. Meets net path n at) number rest in
-      subst (λ (u : WireId × WireId). Meets net path (at + suc (suc (length xs)) - 1) u.0.number × Meets net path (at + suc (suc (length xs)) - 1) u.1.number) is
-      (by_more last (cell_meets net path cells 0 0 at (Mux (wire at) y.0 y.1 other) y.0 has refl tt refl refl),
-      by_more last (cell_meets net path cells 0 1 at (Mux (wire at) y.0 y.1 other) y.1 has refl tt refl refl))
+      subst (λ (u : WireId × WireId). Meets net path (at + suc (suc (length xs)) - 1) u.0.number × Meets net path (at + suc (suc (length xs)) - 1) u.1.number) is (
+        by_more last (cell_meets net path cells 0 0 at (Mux (wire at) y.0 y.1 other) y.0 has refl tt refl refl),
+        by_more last (cell_meets net path cells 0 1 at (Mux (wire at) y.0 y.1 other) y.1 has refl tt refl refl),
+      )
   choices_pair (y ∷ z ∷ xs) (suc i) x other at e has =
       let rest = choices_pair (z ∷ xs) i x (wire at) (at + 1) e (λ i c e. has (suc i) c e) in
       let number : at + 1 + suc (length xs) - 1 ≡ at + suc (suc (length xs)) - 1 = omega arith in

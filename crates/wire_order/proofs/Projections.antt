@@ -54,10 +54,10 @@ projection_piece (of_projection {it = it} {fields = fields} parts known pattern 
 
 module _ (values : SameValues) (keep : FieldsKeepSame) (o : Origins) (order : List ℕ) (scope : List Variable) (net : Net) (path : List ℕ) (n : ℕ) (widths : List ℕ) (t : TypeTree) (piece : Piece) (c : ConId) (count x z i : ℕ) (fields : List TypeTree) (parts : List (List ℕ)) (it : Variable)
     (place : z + suc i ≡ count) (g : CircuitGiven o order scope net path n widths t (projected c count x z) piece) (known : slice_get scope x ≡ Some it) (pattern_of : PatternOf o.program.datas it.ty (OfCon c count) fields) (have_fields : HaveParts o.program.datas fields parts) where
-  p : Program
+  abbrev p : Program
   p = o.program
 
-  s : Setting
+  abbrev s : Setting
   s = setting_at o
 
   pattern : ConPattern p.datas it.ty c count fields
