@@ -1,6 +1,6 @@
 -- Cases: their wires settle by those of each result, and by those of what is tested.
-use Rattle.std.specs.Prelude.{◌-◌, take, reverse}
-use Rattle.std.proofs.Common.{◌≡◌, ◌<◌, ◌≤◌, ℕ, zero, suc, ◌+◌, Bool, List, [], ◌∷◌, ◌++◌, length, Some, slice_get, inl, inr, refl, sym, ap, ◌∙◌, subst, arith}
+use Rattle.std.specs.Prelude.{◌-◌}
+use Rattle.std.proofs.Common.{◌≡◌, ◌<◌, ◌≤◌, ℕ, zero, suc, Bool, List, [], ◌∷◌, ◌++◌, length, Some, slice_get, inl, inr, refl, sym, ap, subst, arith}
 use Rattle.std.proofs.lemmas.Bool.{cases_lt}
 use Rattle.std.proofs.lemmas.Option.{slice_get_within, slice_get-get_or}
 use Rattle.chw_base.specs.declared.index.WireId.{WireId}
@@ -10,9 +10,9 @@ use Rattle.chw_terms.specs.TermTree.{Alts, no_alts, alt}
 use Rattle.chw_layout.specs.Measured.{tag_width}
 use Rattle.netlist.specs.declared.net.Cell.TheVariants.{Cut}
 use Rattle.netlist.specs.declared.net.Net.{Net}
-use Rattle.net_built.specs.Data.{Tested, constructor_count, tested_of, words_of, test, tests, test_wires, last_of, chosen, chosen_wires, case_cells, case_wires, field_cuts, variables_from}
+use Rattle.net_built.specs.Data.{Tested, constructor_count, tested_of, words_of, test, tests, test_wires, chosen, chosen_wires, case_cells, case_wires, field_cuts, variables_from}
 use Rattle.net_built.specs.Terms.{Variable, variable}
-use Rattle.net_built.specs.Wires.{wire, wire_count, new_wires, Piece, one, ◌▸◌, after, last_wire, last_wires}
+use Rattle.net_built.specs.Wires.{wire, new_wires, Piece, one, after, last_wire, last_wires}
 use Rattle.net_built.specs.Words.{only}
 use Rattle.cell_bits.specs.Bearing.{HasCells}
 use Rattle.side_bits.specs.Cases.{alts_count}

@@ -1,6 +1,6 @@
 -- Choices and tests: the last wire settles by each test and by each result.
-use Rattle.std.specs.Prelude.{reverse, zip, true}
-use Rattle.std.proofs.Common.{◌≡◌, ◌<◌, ◌≤◌, ℕ, zero, suc, ◌+◌, ◌-◌, Bool, List, [], ◌∷◌, ◌++◌, length, map, Some, slice_get, refl, sym, ap, ◌∙◌, subst, arith}
+use Rattle.std.specs.Prelude.{reverse, zip}
+use Rattle.std.proofs.Common.{◌≡◌, ◌<◌, ℕ, zero, suc, ◌+◌, ◌-◌, Bool, List, [], ◌∷◌, length, map, Some, slice_get, refl, sym, ap, ◌∙◌, subst, arith}
 use Rattle.std.proofs.lemmas.Grind.{reverse_onto}
 use Rattle.std.proofs.lemmas.List.{length-reverse}
 use Rattle.chw_base.specs.declared.index.WireId.{WireId}
@@ -8,11 +8,11 @@ use Rattle.netlist.specs.declared.net.Cell.TheVariants.{Const, Bin, Mux}
 use Rattle.netlist.specs.declared.net.Net.{Net}
 use Rattle.netlist.specs.declared.net.Op2.TheVariants.{Eq}
 use Rattle.net_built.specs.Data.{test, last_of, choices, chosen}
-use Rattle.net_built.specs.Wires.{wire, Piece, one, ◌▸◌, after, last_wire}
+use Rattle.net_built.specs.Wires.{wire, last_wire}
 use Rattle.net_built.specs.Words.{only}
 use Rattle.cell_bits.specs.Bearing.{HasCells}
 use Rattle.wire_order.specs.Awaits.{by_more}
-use Rattle.wire_order.proofs.Reached.{Held, only_is, read_only, in_front, behind, Meets, Ends, cell_meets}
+use Rattle.wire_order.proofs.Reached.{Held, read_only, in_front, behind, Meets, Ends, cell_meets}
 
 -- what stands in a list stands in it from behind
 in_reverse : {A : Type 0} (xs : List A) (i : ℕ) (x : A) → slice_get xs i ≡ Some x → (j : ℕ) × (slice_get (reverse xs) j ≡ Some x)

@@ -1,9 +1,8 @@
 -- Right sides of circuits that copy wires.
 use Rattle.std.specs.Prelude.{slice_get}
-use Rattle.std.proofs.Common.{◌≡◌, ◌<◌, ℕ, zero, suc, ◌+◌, List, [], ◌∷◌, length, map, Some, refl, sym, ap, ◌∙◌, subst, arith}
+use Rattle.std.proofs.Common.{◌≡◌, ◌<◌, ℕ, zero, ◌+◌, List, [], ◌∷◌, length, map, Some, refl, sym, ap, ◌∙◌, subst}
 use Rattle.chw_base.specs.declared.index.WireId.{WireId}
 use Rattle.chw_types.specs.Arguments.{arguments}
-use Rattle.chw_types.specs.declared.declarations.Data.{Data}
 use Rattle.chw_types.specs.SamePromises.{SameValues}
 use Rattle.chw_types.specs.TypeMoves.{Substitution, sub}
 use Rattle.chw_types.specs.TypeTree.{TypeTree, data_of, signal, no_types}
@@ -23,7 +22,6 @@ use Rattle.typing_laws.specs.Alike.{AreLike}
 use Rattle.rewriting.specs.Origins.{Origins, setting_at}
 use Rattle.normal_forms.specs.Values.{on_names}
 use Rattle.chw_meaning.specs.Values.{Thunk, closed, none}
-use Rattle.chw_meaning.proofs.Once.{same_some}
 use Rattle.chw_meaning.proofs.Widths.{width_once}
 use Rattle.netlist.specs.declared.net.Net.{Net}
 use Rattle.net_built.specs.Circuits.{Ground as Built, CircuitCells, of_variable, of_synchronizer, of_product, HaveParts}
@@ -33,7 +31,7 @@ use Rattle.net_built.specs.Wires.{Piece, last_wires, copies}
 use Rattle.net_built.proofs.Parts.{parts_once}
 use Rattle.cell_bits.specs.Bearing.{HasCells}
 use Rattle.side_bits.specs.Sides.{types_in}
-use Rattle.side_bits.proofs.Heads.{names, IsHead}
+use Rattle.side_bits.proofs.Heads.{names}
 use Rattle.side_bits.proofs.Operands.{sound_alone}
 use Rattle.circuit_bits.specs.Leaves.{CircuitGiven, part_wires, leaves_before}
 use Rattle.circuit_bits.proofs.Delays.{CrossingTyped, crossing_typed}

@@ -1,6 +1,6 @@
 -- Elements of vectors as right sides.
 use Rattle.std.specs.Prelude.{min, ◌*◌, ◌^◌}
-use Rattle.std.proofs.Common.{◌≡◌, ◌<◌, ◌≤◌, ℕ, zero, suc, ◌+◌, ◌-◌, Bool, List, [], ◌∷◌, ◌++◌, length, Some, slice_get, refl, sym, ap, ◌∙◌, subst, arith}
+use Rattle.std.proofs.Common.{◌≡◌, ◌<◌, ℕ, zero, suc, ◌+◌, ◌-◌, Bool, List, [], ◌∷◌, ◌++◌, length, Some, slice_get, refl, sym, ap, ◌∙◌, subst, arith}
 use Rattle.std.proofs.lemmas.Nat.{pow_pos}
 use Rattle.chw_base.specs.declared.index.WireId.{WireId}
 use Rattle.chw_types.specs.declared.kind.Kind.TheVariants.{Nat, Val}
@@ -24,7 +24,7 @@ use Rattle.net_built.specs.Circuits.{Ground as Built}
 use Rattle.net_built.specs.Data.{tests, test, test_wires, chosen}
 use Rattle.net_built.specs.Terms.{Variable, wires_of, wires_at}
 use Rattle.net_built.specs.Vectors.{element, elements, element_wires, words_from, element_at}
-use Rattle.net_built.specs.Wires.{wire, Piece, one, ◌▸◌, after, last_wire, last_wires}
+use Rattle.net_built.specs.Wires.{wire, Piece, ◌▸◌, after, last_wire, last_wires}
 use Rattle.net_built.specs.Words.{only}
 use Rattle.cell_bits.specs.Bearing.{HasCells}
 use Rattle.side_bits.specs.Sides.{types_in, LooksAt, IsIdle, index_of_one}

@@ -1,6 +1,6 @@
 -- The flat cells of an instance: those of its module, and the copies at its uses.
 use Rattle.std.specs.Prelude.{map}
-use Rattle.std.proofs.Common.{◌≡◌, ℕ, ◌+◌, List, [], ◌∷◌, take, Some, slice_get, refl, sym, ap, subst}
+use Rattle.std.proofs.Common.{◌≡◌, ℕ, ◌+◌, List, ◌∷◌, take, Some, slice_get, refl, subst}
 use Rattle.chw_base.specs.declared.index.WireId.{WireId}
 use Rattle.net_flat.specs.Flattened.{IsFlatOf, NoUse, moved, wire_from}
 use Rattle.net_flat.specs.Flattened as flattened

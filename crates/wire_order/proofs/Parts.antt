@@ -1,6 +1,6 @@
 -- Wires of parts: where wires settle place by place, so do those of each part.
-use Rattle.std.specs.Prelude.{take, drop}
-use Rattle.std.proofs.Common.{◌≡◌, ◌<◌, ℕ, zero, suc, ◌+◌, ◌-◌, List, [], ◌∷◌, ◌++◌, length, Some, slice_get, refl, sym, ap, ◌∙◌, subst, arith}
+use Rattle.std.specs.Prelude.{drop}
+use Rattle.std.proofs.Common.{◌≡◌, ℕ, zero, suc, ◌+◌, ◌-◌, List, [], ◌∷◌, ◌++◌, length, Some, slice_get, refl, sym, ap, ◌∙◌, subst, arith}
 use Rattle.chw_base.specs.declared.index.WireId.{WireId}
 use Rattle.netlist.specs.declared.net.Cell.TheVariants.{Copy}
 use Rattle.netlist.specs.declared.net.Module.{Module}

@@ -10,7 +10,7 @@ use Rattle.net_built.specs.Wires.{wire, Piece, one, ◌▸◌, after, last_wires
 use Rattle.net_built.specs.Words.{only}
 use Rattle.cell_bits.specs.Bearing.{HasCells}
 use Rattle.cell_bits.proofs.Settling.{has_first, has_second}
-use Rattle.wire_order.specs.Awaits.{AllSettle, Settles, by_cell, by_more}
+use Rattle.wire_order.specs.Awaits.{AllSettle, Settles, by_cell}
 
 -- there are as many wires as this width asks for
 abbrev pub Held : List WireId → ℕ → Type 0

@@ -11,7 +11,7 @@ use Rattle.chw_terms.specs.declared.term.Pattern.TheVariants.{OfCon, OfLit, Defa
 use Rattle.chw_terms.specs.TermTree.{TermTree, Alts, no_alts, alt}
 use Rattle.chw_terms.specs.Constructors.{con_at}
 use Rattle.chw_typing.specs.Alternatives.{NoneHidden}
-use Rattle.chw_typing.specs.HeadTypes.{PatternOf, of_con, of_lit, of_any}
+use Rattle.chw_typing.specs.HeadTypes.{PatternOf, of_con}
 use Rattle.chw_typing.proofs.Heads.{is_constructor}
 use Rattle.chw_layout.specs.Measured.{tag_width}
 use Rattle.chw_layout.proofs.Tags.{tag_suffices}

@@ -1,7 +1,6 @@
 -- The cells of each form of primitive on words read the wires of its operands.
-use Rattle.std.specs.Prelude.{false, replicate}
-use Rattle.std.proofs.Common.{◌≡◌, ◌<◌, ℕ, zero, suc, ◌+◌, ◌-◌, List, [], ◌∷◌, ◌++◌, length, Some, slice_get, refl, sym, ap, ◌∙◌, subst, arith}
-use Rattle.std.proofs.lemmas.List.{length-replicate}
+use Rattle.std.specs.Prelude.{replicate}
+use Rattle.std.proofs.Common.{◌≡◌, ◌<◌, ℕ, zero, suc, ◌+◌, ◌-◌, List, [], ◌∷◌, ◌++◌, length, Some, slice_get, refl, arith}
 use Rattle.chw_base.specs.declared.index.WireId.{WireId}
 use Rattle.chw_types.specs.declared.kind.Scalar.{Scalar}
 use Rattle.chw_types.specs.declared.kind.Scalar.TheVariants.{U, S, B}
@@ -15,13 +14,9 @@ use Rattle.net_built.specs.Wires.{wire, Piece, one, ◌▸◌, after, last_wire}
 use Rattle.net_built.specs.Words.{only, zeros, binary, compared, shifted, reduced, extended, widened, sliced, copied}
 use Rattle.cell_bits.specs.Bearing.{HasCells}
 use Rattle.wire_order.specs.Awaits.{by_more}
-use Rattle.wire_order.proofs.Reached.{front_cells, back_cells, Held, only_is, read_only, behind, in_front, Meets, Ends, one_meets, one_ends, then_ends}
+use Rattle.wire_order.proofs.Reached.{front_cells, back_cells, Held, only_is, read_only, behind, Ends, one_ends, then_ends}
 
 module _ (net : Net) (path : List ℕ) where
-  -- the first wire that a cell of one operand reads
-  alone : (n m at : ℕ) (cell : Cell) (a : List WireId) (i : ℕ) (v : WireId) → 0 < m → Held a n → slice_get a i ≡ Some v → (Some (only a) ≡ Some v → Ends net path at (one m cell) v) → Ends net path at (one m cell) v
-  alone n m at cell a i v l h e f = f (read_only a n i v h e)
-
   pub flipped_ends : (n at : ℕ) (a : List WireId) (i : ℕ) (v : WireId) → Held a n → slice_get a i ≡ Some v → HasCells net path (one n (Un (wire at) Not (only a))).cells → Ends net path at (one n (Un (wire at) Not (only a))) v
   flipped_ends n at a i v h e has = one_ends net path n at 0 (Un (wire at) Not (only a)) v (only_is a n i v h e).1 tt refl (read_only a n i v h e) has
 

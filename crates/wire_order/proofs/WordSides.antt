@@ -6,7 +6,7 @@ use Rattle.chw_types.specs.declared.declarations.Data.{Data}
 use Rattle.chw_types.specs.declared.kind.Scalar.{Scalar}
 use Rattle.chw_types.specs.declared.kind.Scalar.TheVariants.{U, B}
 use Rattle.chw_types.specs.Arguments.{arguments}
-use Rattle.chw_types.specs.SamePromises.{SameValues, natural_value}
+use Rattle.chw_types.specs.SamePromises.{SameValues}
 use Rattle.chw_types.specs.TypeMoves.{sub}
 use Rattle.chw_types.specs.TypeTree.{TypeTree, scalar}
 use Rattle.chw_types.specs.TypeView.{trees_of}
@@ -163,7 +163,7 @@ module _ (values : SameValues) (o : Origins) (order : List ℕ) (scope : List Va
       let b : List WireId = operand_at scope (names xs) 1 in
       let is : piece ≡ word_cells q n m at a b = word_piece on (built_at head types xs g.built) in
       let cells = subst (λ (p : Piece). HasCells net path p.cells) is g.cells in
-      let place : (k : ℕ) → at_operand.i ≡ k → operand_at scope (names xs) k ≡ it.wires = λ k e. operand_wires scope xs k x it (subst (λ j. slice_get xs j ≡ Some x) e at_operand.at) known in
+      let place : (k : ℕ) → at_operand.i ≡ k → operand_at scope (names xs) k ≡ it.wires = λ k e. operand_wires scope xs k x it (subst (λ j. slice_get xs j ≡ Some x) {x = at_operand.i} e at_operand.at) known in
       subst (λ (p : Piece). AllSettle net path (last_wires at p (w ∷ [])) path it.wires) (sym is)
       (last_settle net path at w (word_cells q n m at a b) it.wires
       (λ some. operand_ends q on n m its.width at_operand.i a b it.wires operand some (place 0) (place 1) its.many cells))
