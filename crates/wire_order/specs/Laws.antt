@@ -1,5 +1,4 @@
 -- What is promised of the order of wires.
--- All statements of this file are proved and final.
 use Rattle.std.specs.Prelude.{◌≡◌, ℕ, zero, suc, ◌+◌, ◌<◌, ◌≤◌, List, [], ◌∷◌, ◌++◌, length}
 use Rattle.std.specs.Prelude.{Bool, map, Some, slice_get}
 use Rattle.chw_base.specs.declared.index.ConId.{ConId}
