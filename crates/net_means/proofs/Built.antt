@@ -1,6 +1,5 @@
 -- The flat net of a normal state to which a run leads has the bits of what the program means.
-use Rattle.std.specs.Prelude.{slice_get}
-use Rattle.std.proofs.Common.{◌≡◌, ◌<◌, ◌↔◌, ℕ, zero, suc, ◌+◌, Bool, List, [], length, Some, refl, sym, ap, ◌∙◌, subst, arith}
+use Rattle.std.proofs.Common.{◌≡◌, ◌<◌, ◌↔◌, ℕ, ◌+◌, Bool, List, [], length, sym, ap, ◌∙◌, subst, arith}
 use Rattle.chw_clock.specs.Histories.{FitsPorts}
 use Rattle.chw_base.specs.declared.index.WireId.{WireId}
 use Rattle.chw_clock.specs.declared.event.Event.{Event}
@@ -26,6 +25,7 @@ use Rattle.carrying.specs.YieldLaws.{ShownIsYielded}
 use Rattle.act_runs.specs.Laws.{RunActs, RunGives}
 use Rattle.netlist.specs.NetValue.{NetValue}
 use Rattle.netlist.specs.Orders.{IsOrder}
+use Rattle.netlist.specs.Sound.{Sound}
 use Rattle.netlist.specs.declared.net.Flat.{Flat}
 use Rattle.netlist.specs.declared.net.Module.{Module}
 use Rattle.netlist.specs.declared.net.Net.{Net}
@@ -51,7 +51,7 @@ BitsThroughUses =
     → (ValueIn net path h w bits ↔ NetValue flat h (base + w) bits)
 
 module _ (through : BitsThroughUses) (wide : EncodingHasWidth) (values : SameValues) (keep : FieldsKeepSame) (yielded : ShownIsYielded) (one_ports : OnePorts) (one_whole : OneWhole) (typed_origins : StatesHaveTypedOrigins) (acts : RunActs) (gives : RunGives) (begin : RunsBeginWithTop) (all : AllHaveBits) where
-  module _ (rules : List Rule) (p : Program) (n : ℕ) (steps : List Step) (state : List Made) (net : Net) (flat : Flat) (places : List ℕ) (tidy : IsTidy p) (typed : IsTyped p) (run : Run rules p n steps state) (normal : IsNormal p state) (acyclic : IsAcyclic state) (built : Built p state net) (formed : WellFormed net) (is_flat : IsFlatOf net flat) (order : IsOrder flat places) where
+  module _ (rules : List Rule) (p : Program) (n : ℕ) (steps : List Step) (state : List Made) (net : Net) (flat : Flat) (places : List ℕ) (tidy : IsTidy p) (typed : IsTyped p) (run : Run rules p n steps state) (normal : IsNormal p state) (acyclic : IsAcyclic state) (built : Built p state net) (formed : WellFormed net) (is_flat : IsFlatOf net flat) (sound : Sound flat) (order : IsOrder flat places) where
     typed_state : IsTypedState p state
     typed_state = (acts rules p n steps state tidy typed run).0
 
@@ -71,7 +71,7 @@ module _ (through : BitsThroughUses) (wide : EncodingHasWidth) (values : SameVal
     each h k fit l =
         let same = one_ports p fit.ports net.ports fit.are_ports built.ports in
         let fits : FitsPorts net.ports h = subst (λ ports. FitsPorts ports h) same fit.fits in
-        output_means all wide values keep yielded d flat places formed is_flat order first.it typed_state begins first.is_first first.made_of h fit fits
+        output_means all wide values keep yielded d flat places formed is_flat sound order first.it typed_state begins first.is_first first.made_of h fit fits
         (λ w bits below v.
         let none : 0 + w ≡ w = omega arith in
         subst (λ w. NetValue flat h w bits) none

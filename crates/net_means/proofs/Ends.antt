@@ -1,6 +1,5 @@
 -- The variable that a block gives.
-use Rattle.std.specs.Prelude.{slice_get}
-use Rattle.std.proofs.Common.{◌≡◌, ℕ, zero, suc, ◌+◌, List, [], ◌∷◌, ◌++◌, length, map, reverse, Some, refl, sym, ap, ◌∙◌, subst, arith}
+use Rattle.std.proofs.Common.{◌≡◌, ℕ, zero, suc, List, [], ◌∷◌, ◌++◌, length, reverse, refl, sym, ap, ◌∙◌, subst}
 use Rattle.std.proofs.lemmas.List.{map-append}
 use Rattle.chw_base.specs.declared.index.WireId.{WireId}
 use Rattle.chw_types.specs.declared.declarations.Data.{Data}
@@ -9,8 +8,7 @@ use Rattle.chw_terms.specs.declared.scene.Sort.{Sort}
 use Rattle.chw_terms.specs.declared.scene.Sort.TheVariants.{Circuit}
 use Rattle.chw_terms.specs.TermTree.{TermTree, var, letrec, Group, no_bindings}
 use Rattle.chw_typing.specs.Scopes.{Setting, AreTermTypes, with_more, declared}
-use Rattle.chw_typing.specs.Typing.{HasType, h_letrec, AreBound}
-use Rattle.chw_typing.specs.Programs.{IsSound}
+use Rattle.chw_typing.specs.Typing.{HasType, h_letrec}
 use Rattle.chw_typing.proofs.Kinded.{bound_typed, typed_more}
 use Rattle.chw_typing.proofs.Lists.{map_reverse, turned_onto}
 use Rattle.rewriting.specs.Origins.{with_origins, with_origins_group}
@@ -20,7 +18,7 @@ use Rattle.net_built.specs.Built.{ground_of}
 use Rattle.net_built.specs.Circuits.{Ground}
 use Rattle.net_built.specs.Data.{HasParts}
 use Rattle.net_built.specs.Terms.{Variable, variable, wires_at}
-use Rattle.net_built.specs.Wires.{Piece, new_wires, wires_from, wire_count, last_wires}
+use Rattle.net_built.specs.Wires.{Piece, new_wires, wire_count}
 use Rattle.net_fits.proofs.Pieces.{count_from}
 use Rattle.cell_bits.specs.Bearing.{HasCells}
 use Rattle.side_bits.specs.Sides.{types_in}

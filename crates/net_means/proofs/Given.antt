@@ -1,25 +1,24 @@
 -- The leaves of a port that is given show what its streams show.
 use Rattle.std.specs.Prelude.{slice_get}
-use Rattle.std.proofs.Common.{◌≡◌, ◌<◌, ℕ, zero, suc, ◌+◌, Bool, List, [], ◌∷◌, ◌++◌, length, map, Some, refl, sym, ap, ◌∙◌, subst, arith}
+use Rattle.std.proofs.Common.{◌≡◌, ℕ, zero, suc, ◌+◌, Bool, List, [], ◌∷◌, ◌++◌, length, Some, refl, sym, ap, ◌∙◌, subst, arith}
 use Rattle.std.proofs.lemmas.List.{append_assoc}
-use Rattle.chw_types.specs.Arguments.{list_of, arguments}
+use Rattle.chw_types.specs.Arguments.{list_of}
 use Rattle.chw_types.specs.declared.declarations.ConDecl.{ConDecl}
 use Rattle.chw_types.specs.declared.declarations.Data.{Data}
 use Rattle.chw_types.specs.declared.ports.Leaf.{Leaf}
 use Rattle.chw_types.specs.Ports.{Leaves, one_leaf, leaves_of_fields, LeavesOfAll, no_leaves, leaves_and}
 use Rattle.chw_types.specs.Representable.{Representable}
 use Rattle.chw_types.specs.TypeMoves.{Substitution, sub}
-use Rattle.chw_types.specs.TypeTree.{TypeTree, TypeTrees, no_types, domain, signal}
+use Rattle.chw_types.specs.TypeTree.{TypeTree, TypeTrees, domain, signal}
 use Rattle.chw_terms.specs.Constructors.{con_at}
 use Rattle.chw_terms.specs.declared.program.Program.{Program}
-use Rattle.chw_terms.specs.TermTree.{con}
 use Rattle.chw_layout.specs.Datum.{Datum}
 use Rattle.chw_layout.specs.Encodes.{first_constructor}
 use Rattle.chw_layout.specs.Measured.{HasWidth}
 use Rattle.layout_laws.proofs.Numbering.{at_place, one_numbering}
-use Rattle.chw_meaning.specs.Gives.{Input, stream_in, at_types, PortGiven, given_stream, given_product, FieldsGiven, given_no_field, given_field, LeafOf, leaf_of, PortLeaves, leaf_signal, leaves_product, FieldLeaves, no_field_leaves, field_leaves}
+use Rattle.chw_meaning.specs.Gives.{Input, stream_in, PortGiven, given_stream, given_product, FieldsGiven, given_no_field, given_field, LeafOf, leaf_of, PortLeaves, leaf_signal, leaves_product, FieldLeaves, no_field_leaves, field_leaves}
 use Rattle.chw_meaning.specs.Steps.{params_of, fields_of, takes_types, takes_thunks}
-use Rattle.chw_meaning.specs.Values.{History, con_head, Thunk, closed, applied, field, stream, Thunks, none, thunk_and, thunk_at, count_of}
+use Rattle.chw_meaning.specs.Values.{History, con_head, Thunk, applied, field, stream, Thunks, none, thunk_and, thunk_at, count_of}
 use Rattle.chw_meaning.proofs.GivenOnce.{same_fields}
 use Rattle.chw_meaning.proofs.Once.{same_some}
 use Rattle.carrying.specs.Carrying.{Shows}
@@ -27,8 +26,8 @@ use Rattle.carrying.proofs.Terms.{shows_through}
 use Rattle.netlist.specs.declared.net.Net.{Net}
 use Rattle.use_laws.specs.ValueIn.{ValueIn}
 use Rattle.circuit_bits.specs.Leaves.{HasAllOf}
-use Rattle.net_means.proofs.Products.{Reaches, HeadGiven, head_given, with_field, fields_made, field_follows}
-use Rattle.net_means.proofs.Streams.{Shown, nothing_shown, no_bits_shown, bits_shown}
+use Rattle.net_means.proofs.Products.{none_further, Reaches, head_given, with_field, fields_made, field_follows}
+use Rattle.net_means.proofs.Streams.{Shown, no_bits_shown, bits_shown}
 
 -- leaves of a thunk, of these widths, show bits at the history; the input wires from the first number on, up to the second, have them
 pub data LeavesShow (p : Program) (net : Net) (h : History) : ℕ → List LeafOf → List ℕ → ℕ → Type 0 where
@@ -75,6 +74,10 @@ module _ (p : Program) (net : Net) (h : History) where
   given_along : {fs gs : List TypeTree} {σ : Substitution} {on th : Thunk} {ins more : List Input} → fs ≡ gs → FieldsGiven p.datas fs σ on ins th more → FieldsGiven p.datas gs σ on ins th more
   given_along {σ = σ} {on = on} {th = th} {ins = ins} {more = more} e g = subst (λ fs. FieldsGiven p.datas fs σ on ins th more) e g
 
+  fields_beside : {n : ℕ} {f : TypeTree} {fs : List TypeTree} {σ : Substitution} {th : Thunk} {between rest : List Leaf} {ins more : List Input} (first : PortShown n (sub f σ) (field (length fs) th) between ins) → FieldsShown first.last fs σ th rest more → FieldsShown n (f ∷ fs) σ th rest more
+  fields_beside first others =
+      record { leaves = first.leaves ++ others.leaves; are = field_leaves first.are others.are; widths = first.widths ++ others.widths; last = others.last; show = show_beside first.show others.show; left = others.left }
+
   -- the first constructor of a data type
   first_con : (d : ℕ) (it : Data) (k : ConDecl) → slice_get p.datas d ≡ Some it → it.cons ≡ k ∷ [] → con_at p.datas (first_constructor p.datas d) ≡ Some (record { of = d; it = it; decl = k })
   first_con d it k there one =
@@ -101,9 +104,8 @@ module _ (p : Program) (net : Net) (h : History) where
         let next : Reaches p c h (applied on x) ts (thunk_and x ths) = with_field p c h on x ts ths (omega (arith, full)) r in
         let count : count_of (thunk_and x ths) + length fs ≡ takes_thunks p.datas (con_head c) = omega (arith, full) in
         let made = fields_made p c h others ts (thunk_and x ths) many count next in
-        let place : length fs ≡ length fs + zero = omega arith in
-        let at : thunk_at made.all (length fs) ≡ Some x = ap (thunk_at made.all) place ∙ made.kept zero x refl in
+        let at : thunk_at made.all (length fs) ≡ Some x = none_further made.all (length fs) x (made.kept zero x refl) in
         let first = port_shown a given n (ms ++ rest) (field (length fs) whole) (subst (λ ls. Shown p net h n ls ins) (append_assoc ls ms rest) s)
         (field_follows p c h whole th x (length fs) made.turns made.all all made.forced at) in
         let more = fields_shown b others c ts (thunk_and x ths) many count next first.last rest whole first.left all in
-        record { leaves = first.leaves ++ more.leaves; are = field_leaves {ls = first.leaves} {ms = more.leaves} first.are more.are; widths = first.widths ++ more.widths; last = more.last; show = show_beside first.show more.show; left = more.left }
+        fields_beside first more

@@ -1,19 +1,15 @@
 -- At a history of a program the inputs of the top have the bits of what its streams are.
 use Rattle.std.specs.Prelude.{slice_get, replicate}
 use Rattle.std.specs.List.{AllByRecursion}
-use Rattle.std.proofs.Common.{◌≡◌, ◌<◌, ℕ, zero, suc, ◌+◌, List, [], ◌∷◌, ◌++◌, length, map, Some, refl, sym, ap, ◌∙◌, subst, arith}
+use Rattle.std.proofs.Common.{◌≡◌, ℕ, zero, suc, List, [], ◌∷◌, ◌++◌, length, map, Some, refl, sym, ap, subst}
 use Rattle.chw_clock.specs.Histories.{FitsPorts}
 use Rattle.chw_clock.specs.declared.event.Event.{Event}
 use Rattle.chw_types.specs.declared.declarations.Data.{Data}
-use Rattle.chw_types.specs.declared.kind.Kind.{Kind}
 use Rattle.chw_types.specs.declared.ports.Leaf.{Leaf}
-use Rattle.chw_types.specs.Ports.{Leaves}
 use Rattle.chw_types.specs.SamePromises.{SameValues}
 use Rattle.chw_types.specs.TypeTree.{TypeTree}
 use Rattle.type_laws.specs.SameKept.{FieldsKeepSame}
-use Rattle.chw_terms.specs.declared.program.Program.{Program}
 use Rattle.chw_terms.specs.declared.scene.Made.{Made}
-use Rattle.chw_terms.specs.declared.scene.Sort.{Sort}
 use Rattle.chw_terms.specs.declared.scene.Sort.TheVariants.{Circuit}
 use Rattle.chw_terms.specs.TermTree.{TermTree}
 use Rattle.chw_typing.specs.Typing.{HasType}
@@ -36,9 +32,9 @@ use Rattle.carrying.specs.TermLaws.{onto, under_lambdas}
 use Rattle.net_built.specs.Terms.{Variable}
 use Rattle.net_fits.specs.Laws.{BeginsWithTop}
 use Rattle.circuit_bits.specs.Instances.{Design, HaveBits, NoLambda, Parameters}
-use Rattle.net_means.specs.Inputs.{IsPast, InputsHaveBits, TopGiven}
+use Rattle.net_means.specs.Inputs.{InputsHaveBits, TopGiven}
 use Rattle.net_means.proofs.Parameters.{InputsGiven, no_inputs, input_and, on_inputs, result_leaves, ScopeHas, parameters_have}
-use Rattle.net_means.proofs.Streams.{Shown, streams_show}
+use Rattle.net_means.proofs.Streams.{streams_show}
 
 all_and : {A : Type 0} (P : A → Type 0) (xs : List A) (y : A) → AllByRecursion P xs → P y → AllByRecursion P (xs ++ y ∷ [])
 all_and P [] y all one = (one, tt)

@@ -1,22 +1,21 @@
 -- Each output of the flat net has the bits of what the program means.
 use Rattle.std.specs.Prelude.{slice_get}
 use Rattle.std.specs.List.{AllByRecursion}
-use Rattle.std.proofs.Common.{◌≡◌, ◌<◌, ◌↔◌, ℕ, zero, suc, ◌+◌, Bool, List, [], ◌∷◌, ◌++◌, length, map, Some, refl, sym, ap, ◌∙◌, subst, arith}
+use Rattle.std.proofs.Common.{◌≡◌, ◌<◌, ℕ, zero, suc, Bool, List, [], ◌∷◌, length, Some, refl, sym, ap, ◌∙◌, subst}
 use Rattle.chw_base.specs.declared.index.WireId.{WireId}
 use Rattle.chw_clock.specs.Histories.{FitsPorts}
-use Rattle.chw_clock.specs.declared.event.Event.{Event}
 use Rattle.chw_types.specs.declared.ports.Leaf.{Leaf}
 use Rattle.chw_types.specs.Ports.{Leaves}
 use Rattle.chw_types.specs.SamePromises.{SameValues}
 use Rattle.chw_types.specs.SameTypes.{SameTypes}
-use Rattle.chw_types.specs.TypeTree.{TypeTree, no_types}
+use Rattle.chw_types.specs.TypeTree.{no_types}
 use Rattle.chw_types.proofs.SameLaws.{same_turned}
 use Rattle.type_laws.specs.SameKept.{FieldsKeepSame}
 use Rattle.chw_terms.specs.declared.program.Program.{Program}
 use Rattle.chw_terms.specs.declared.scene.Made.{Made}
 use Rattle.chw_terms.specs.declared.scene.Sort.{Sort}
 use Rattle.chw_terms.specs.declared.scene.Sort.TheVariants.{Circuit}
-use Rattle.chw_terms.specs.TermTree.{TermTree, var, global}
+use Rattle.chw_terms.specs.TermTree.{TermTree, global}
 use Rattle.chw_typing.specs.Programs.{IsSound, setting_of}
 use Rattle.chw_typing.specs.Scopes.{Setting, HasKind, IsTermType}
 use Rattle.chw_typing.specs.Typing.{HasType}
@@ -24,7 +23,7 @@ use Rattle.chw_typing.proofs.Kinded.{type_kinded}
 use Rattle.chw_typing.proofs.Lists.{found_in_map, found_before_map}
 use Rattle.typing_laws.specs.Alike.{AreLike}
 use Rattle.rewriting.specs.Named.{UnderLambdas}
-use Rattle.rewriting.specs.Origins.{Origins, setting_at, with_origins}
+use Rattle.rewriting.specs.Origins.{setting_at, with_origins}
 use Rattle.rewriting.specs.Steps.{origins_in}
 use Rattle.rule_types.specs.States.{IsTypedState}
 use Rattle.chw_layout.specs.Encodes.{Encodes}
@@ -32,7 +31,6 @@ use Rattle.chw_layout.specs.EncodingPromises.{EncodingHasWidth}
 use Rattle.layout_laws.specs.LeavesAgree.{payloads, result_payloads}
 use Rattle.layout_laws.proofs.LeavesAgree.{leaves_agree, leaves_there}
 use Rattle.chw_meaning.specs.Gives.{Better, Gives, LeafOf, leaves_port}
-use Rattle.chw_meaning.specs.Laws.{OnePorts}
 use Rattle.chw_meaning.specs.Means.{Fit, Means}
 use Rattle.chw_meaning.specs.Values.{History, Thunk, none, closed, thunk_at}
 use Rattle.chw_meaning.proofs.Once.{same_some}
@@ -40,9 +38,8 @@ use Rattle.carrying.specs.TermLaws.{onto, on_thunks, under_lambdas}
 use Rattle.carrying.specs.YieldLaws.{ShownIsYielded}
 use Rattle.netlist.specs.NetValue.{NetValue}
 use Rattle.netlist.specs.Orders.{IsOrder}
-use Rattle.netlist.specs.Sound.{IsWire}
+use Rattle.netlist.specs.Sound.{IsWire, Sound}
 use Rattle.netlist.specs.declared.net.Flat.{Flat}
-use Rattle.netlist.specs.declared.net.Module.{Module}
 use Rattle.netlist.specs.declared.net.Net.{Net}
 use Rattle.net_flat.specs.Flattened.{IsFlatOf}
 use Rattle.net_rules.specs.WellFormed.{NamesHold, WellFormed}
@@ -52,12 +49,11 @@ use Rattle.use_laws.specs.ValueIn.IsModuleAt.{top as module_at_top}
 use Rattle.net_built.specs.Built.{ground_of}
 use Rattle.net_built.specs.Modules.{IsModuleOf}
 use Rattle.net_built.specs.Data.{HaveWidths, HasParts, port_parts}
-use Rattle.net_built.specs.Terms.{Variable, wires_at}
+use Rattle.net_built.specs.Terms.{Variable}
 use Rattle.net_built.specs.Wires.{wire_count}
 use Rattle.net_built.proofs.Parts.{parts_once}
 use Rattle.net_fits.specs.Laws.{BeginsWithTop}
 use Rattle.cell_bits.specs.Bearing.{Bears, bears_bits}
-use Rattle.side_bits.specs.Sides.{types_in}
 use Rattle.side_bits.proofs.Operands.{sound_alone, var_at}
 use Rattle.circuit_bits.specs.Blocks.{BodyStands}
 use Rattle.circuit_bits.specs.Instances.{Block, BlockAt, Design, HasBlock, Parameters, the_top}
@@ -67,7 +63,7 @@ use Rattle.circuit_bits.proofs.Names.{variable_has_all}
 use Rattle.circuit_bits.proofs.Ports.{parts_along}
 use Rattle.circuit_bits.proofs.Signals.{wires_there}
 use Rattle.circuit_bits.proofs.Uses.{follower_has}
-use Rattle.net_means.specs.Inputs.{AllHaveBits, InputsHaveBits}
+use Rattle.net_means.specs.Inputs.{AllHaveBits}
 use Rattle.net_means.specs.Outputs.{OutputMeans}
 use Rattle.net_means.proofs.Ends.{Ending, block_ends, stands_built, block_plain, parameters_held}
 use Rattle.net_means.proofs.Inputs.{Inputs, inputs, have}
@@ -93,7 +89,7 @@ same_payload ls ms k l m same at there =
     (ap (λ ts. slice_get ts k) same ∙ found_in_map (λ (l : Leaf). l.payload) ls k l at)
 
 -- what the outputs of the top's module are at a history of the program
-module _ (all : AllHaveBits) (wide : EncodingHasWidth) (values : SameValues) (keep : FieldsKeepSame) (yielded : ShownIsYielded) (d : Design) (flat : Flat) (places : List ℕ) (formed : WellFormed d.net) (is_flat : IsFlatOf d.net flat) (order : IsOrder flat places) (it : Made) (typed : IsTypedState d.program d.state) (begins : BeginsWithTop d.program d.state) (first : slice_get d.state 0 ≡ Some it) (of : IsModuleOf (ground_of d.program d.built.order) it is_flat.m) (h : History) (fit : Fit d.program h) (fits : FitsPorts d.net.ports h) where
+module _ (all : AllHaveBits) (wide : EncodingHasWidth) (values : SameValues) (keep : FieldsKeepSame) (yielded : ShownIsYielded) (d : Design) (flat : Flat) (places : List ℕ) (formed : WellFormed d.net) (is_flat : IsFlatOf d.net flat) (sound : Sound flat) (order : IsOrder flat places) (it : Made) (typed : IsTypedState d.program d.state) (begins : BeginsWithTop d.program d.state) (first : slice_get d.state 0 ≡ Some it) (of : IsModuleOf (ground_of d.program d.built.order) it is_flat.m) (h : History) (fit : Fit d.program h) (fits : FitsPorts d.net.ports h) where
   abbrev s : Setting
   s = setting_at (origins_in d.program d.state)
 
@@ -196,7 +192,7 @@ module _ (all : AllHaveBits) (wide : EncodingHasWidth) (values : SameValues) (ke
 
   variable_leaf : (k : ℕ) (l : k < length flat.outputs) → VariableLeaf d.program d.net [] end.inner end.γ h end.x (output k l).number
   variable_leaf k l =
-      all d flat places given.thunks [] h h (block Circuit) end.g end.inner end.γ formed is_flat order (have wide values keep d it h typed begins first fit) ([], refl) fits stands end.inside end.x (output k l).number v widths found.1 held.1 (output k l).within
+      all d flat places given.thunks [] h h (block Circuit) end.g end.inner end.γ formed is_flat sound order (have wide values keep d it h typed begins first fit) ([], refl) fits stands end.inside end.x (output k l).number v widths found.1 held.1 (output k l).within
 
   leaf : (k : ℕ) (l : k < length flat.outputs) → LeafHas d.program d.net [] h given.result whole v.wires (output k l).number
   leaf k l =

@@ -1,6 +1,5 @@
 -- An output has no other bits, and no other meaning.
-use Rattle.std.specs.Prelude.{slice_get}
-use Rattle.std.proofs.Common.{◌≡◌, ℕ, Bool, List, Some, subst}
+use Rattle.std.proofs.Common.{◌≡◌, ℕ, Bool, List, subst}
 use Rattle.chw_base.specs.declared.index.WireId.{WireId}
 use Rattle.chw_clock.specs.declared.event.Event.{Event}
 use Rattle.chw_meaning.specs.Laws.{OneMeaning}

@@ -1,6 +1,6 @@
 -- The parameters of the top have bits, on the thunks of what a program's streams are.
 use Rattle.std.specs.Prelude.{slice_get}
-use Rattle.std.proofs.Common.{◌≡◌, ◌<◌, ℕ, zero, suc, ◌+◌, List, [], ◌∷◌, ◌++◌, length, map, Some, refl, sym, ap, ◌∙◌, subst, arith}
+use Rattle.std.proofs.Common.{◌≡◌, ◌<◌, ℕ, zero, suc, ◌+◌, List, [], ◌∷◌, ◌++◌, length, Some, refl, sym, ap, ◌∙◌, subst}
 use Rattle.chw_types.specs.declared.declarations.Data.{Data}
 use Rattle.chw_types.specs.declared.kind.Kind.{Kind}
 use Rattle.chw_types.specs.declared.ports.Leaf.{Leaf}
@@ -21,18 +21,18 @@ use Rattle.chw_typing.proofs.Kinded.{function_takes, function_gives}
 use Rattle.typing_laws.specs.Alike.{AreLike}
 use Rattle.rewriting.specs.Named.{UnderLambdas, under_none, under_one}
 use Rattle.rewriting.specs.Origins.{Origins, setting_at}
-use Rattle.chw_meaning.specs.Gives.{Input, PortGiven, Given, given_port, OnInputs, on_all, on_next}
+use Rattle.chw_meaning.specs.Gives.{Input, PortGiven, given_port, OnInputs, on_all, on_next}
 use Rattle.chw_meaning.specs.Values.{History, Thunk, applied, Thunks, thunk_and}
 use Rattle.carrying.specs.TermLaws.{onto, on_thunks, under_lambdas}
 use Rattle.netlist.specs.declared.net.Net.{Net}
 use Rattle.net_built.specs.Data.{HasParts}
 use Rattle.net_built.specs.Terms.{Variable, variable}
-use Rattle.net_built.specs.Wires.{new_wires, wires_from, wire_count}
+use Rattle.net_built.specs.Wires.{new_wires, wire_count}
 use Rattle.net_built.proofs.Parts.{parts_once}
 use Rattle.side_bits.specs.Sides.{types_in}
 use Rattle.side_bits.proofs.Operands.{sound_alone}
 use Rattle.circuit_bits.specs.Instances.{NoLambda, Parameters, no_parameter, parameter_and}
-use Rattle.circuit_bits.specs.Leaves.{HasAllOf, LeafHas, VariableLeaf}
+use Rattle.circuit_bits.specs.Leaves.{LeafHas, VariableLeaf}
 use Rattle.circuit_bits.proofs.Ports.{parts_along}
 use Rattle.circuit_bits.proofs.Uses.{follower_has}
 use Rattle.net_means.proofs.Given.{PortShown, port_shown}

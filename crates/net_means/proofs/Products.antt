@@ -1,6 +1,6 @@
 -- A product that is made of given fields, and what its fields have.
 use Rattle.std.specs.Prelude.{if◌then◌else◌, nat_lt, ◌||◌}
-use Rattle.std.proofs.Common.{◌≡◌, ◌+◌, ◌<◌, ℕ, zero, suc, Bool, true, false, List, [], ◌∷◌, length, Some, refl, sym, ap, ◌∙◌, subst, arith}
+use Rattle.std.proofs.Common.{◌≡◌, ◌+◌, ◌<◌, ℕ, zero, suc, Bool, true, false, List, length, Some, refl, sym, ap, ◌∙◌, subst, arith}
 use Rattle.std.proofs.lemmas.Bool.{lt-ltb, le-ltb}
 use Rattle.chw_types.specs.Arguments.{list_of}
 use Rattle.chw_types.specs.TypeMoves.{Substitution}
@@ -20,6 +20,9 @@ or_true false = refl
 
 one_further : (all : Thunks) (n i : ℕ) (x : Thunk) → thunk_at all (n + suc i) ≡ Some x → thunk_at all (suc n + i) ≡ Some x
 one_further all n i x e = let same : suc n + i ≡ n + suc i = omega arith in ap (thunk_at all) same ∙ e
+
+pub none_further : (all : Thunks) (n : ℕ) (x : Thunk) → thunk_at all (n + zero) ≡ Some x → thunk_at all n ≡ Some x
+none_further all n x e = let same : n ≡ n + zero = omega arith in ap (thunk_at all) same ∙ e
 
 module _ (p : Program) (c : ℕ) (h : History) where
   -- what the constructor does on these arguments, the term has, and the thunk

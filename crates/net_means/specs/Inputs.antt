@@ -1,16 +1,16 @@
 -- The inputs of a built net's top at the histories of a program.
 use Rattle.std.specs.Prelude.{◌≡◌, ℕ, zero, List, [], ◌++◌, Some, slice_get}
 use Rattle.chw_clock.specs.Histories.{FitsPorts}
-use Rattle.chw_types.specs.TypeTree.{TypeTree, no_types}
+use Rattle.chw_types.specs.TypeTree.{TypeTree}
 use Rattle.chw_types.specs.Ports.{Leaves}
 use Rattle.chw_types.specs.declared.ports.Leaf.{Leaf}
 use Rattle.chw_terms.specs.TermTree.{TermTree}
-use Rattle.chw_terms.specs.declared.program.Program.{Program}
 use Rattle.chw_terms.specs.declared.scene.Made.{Made}
 use Rattle.chw_meaning.specs.Gives.{Input, OnInputs}
-use Rattle.chw_meaning.specs.Values.{History, Thunk, Thunks, none, closed}
+use Rattle.chw_meaning.specs.Values.{History, Thunk, Thunks, none}
 use Rattle.carrying.specs.TermLaws.{onto, on_thunks, under_lambdas}
 use Rattle.netlist.specs.Orders.{IsOrder}
+use Rattle.netlist.specs.Sound.{Sound}
 use Rattle.netlist.specs.declared.net.Flat.{Flat}
 use Rattle.net_flat.specs.Flattened.{IsFlatOf}
 use Rattle.chw_terms.specs.TermTree.{Group}
@@ -32,13 +32,13 @@ InputsHaveBits d inputs last =
     → Parameters d.program.datas it.sort zero params [] scope
     → HaveBits d it.sort [] h scope (onto inputs none)
 
--- then, where the net is well formed and its flat net has an order, all variables of all blocks
--- have them, at this history and at each earlier one
+-- then, where the net is well formed and its flat net is sound and has an order, all variables of
+-- all blocks have them, at this history and at each earlier one
 abbrev pub AllHaveBits : Type 0
 AllHaveBits =
     (d : Design) (flat : Flat) (places : List ℕ) (inputs : List Thunk) (path : List ℕ)
     (last h : History) (b : Block) (g : Group) (scope : List Variable) (γ : Thunks)
-    → WellFormed d.net → IsFlatOf d.net flat → IsOrder flat places
+    → WellFormed d.net → IsFlatOf d.net flat → Sound flat → IsOrder flat places
     → InputsHaveBits d inputs last → IsPast last h → FitsPorts d.net.ports h
     → BlockAt d inputs path h b → Inside d path b g scope γ
     → HaveBits d b.sort path h scope γ

@@ -36,13 +36,13 @@ InputsAreGiven =
 
 -- the flat net of what is built of a tidy and typed program has at its outputs the bits of what the
 -- program means: where a run leads to the state, it is normal, and no made definition uses itself,
--- the net is well formed, and the flat net has an order
+-- the net is well formed, and the flat net is sound and has an order
 abbrev pub BuiltNetsMean : Type 0
 BuiltNetsMean =
     (rules : List Rule) (p : Program) (n : ℕ) (steps : List Step) (state : List Made) (net : Net)
     (flat : Flat) (places : List ℕ)
     → IsTidy p → IsTyped p → Run rules p n steps state → IsNormal p state → IsAcyclic state
-    → Built p state net → WellFormed net → IsFlatOf net flat → IsOrder flat places
+    → Built p state net → WellFormed net → IsFlatOf net flat → Sound flat → IsOrder flat places
     → NetMeans p flat
 
 -- so it is where all variables of a built net have bits
