@@ -76,11 +76,11 @@ second_kind : (s : Setting) {t u : TypeTree} {ts : TypeTrees} {j k : Kind} {ks :
 second_kind s (kind_and j (kind_and k more)) = k
 
 -- the types of these primitives on their operands
-record CrossingTyped (s : Setting) (vars : List TypeTree) (d e a : TypeTree) (x : ℕ) (t : TypeTree) : Type 0 where
-  operand : HasTypeUpTo s [] vars (var x) (signal d a)
-  same : SameTypes (signal e a) t
+pub record CrossingTyped (s : Setting) (vars : List TypeTree) (d e a : TypeTree) (x : ℕ) (t : TypeTree) : Type 0 where
+  pub operand : HasTypeUpTo s [] vars (var x) (signal d a)
+  pub same : SameTypes (signal e a) t
 
-crossing_typed : (s : Setting) (vars : List TypeTree) (d e a : TypeTree) (x : ℕ) (t : TypeTree) → IsSound s → AreTermTypes s [] vars → HasType s [] vars (on_names (prim UnsafeSynchronizer) (d ∷ e ∷ a ∷ []) (x ∷ [])) t → CrossingTyped s vars d e a x t
+pub crossing_typed : (s : Setting) (vars : List TypeTree) (d e a : TypeTree) (x : ℕ) (t : TypeTree) → IsSound s → AreTermTypes s [] vars → HasType s [] vars (on_names (prim UnsafeSynchronizer) (d ∷ e ∷ a ∷ []) (x ∷ [])) t → CrossingTyped s vars d e a x t
 unfolding sub
 crossing_typed s vars d e a x t sound scoped typed =
     let at = prim_at_arguments s [] vars UnsafeSynchronizer (Dom ∷ Dom ∷ Val ∷ []) (signal (ty_var 2) (ty_var 0) ∷ []) (signal (ty_var 1) (ty_var 0)) (d ∷ e ∷ a ∷ []) (names (x ∷ [])) t sound scoped refl refl refl typed in

@@ -71,13 +71,13 @@ there_below (y ∷ xs) zero x e = omega arith
 there_below (y ∷ xs) (suc i) x e = let l = there_below xs i x e in omega (arith, l)
 
 -- the field of a variable
-record GivenAt (s : Setting) (vars : List TypeTree) (σ τ : Substitution) (fs : List TypeTree) (i x : ℕ) : Type 0 where
-  type : TypeTree
-  is : slice_get fs i ≡ Some type
-  typed : HasTypeUpTo s [] vars (var x) (sub type σ)
-  like : AreLike s (sub type σ) (sub type τ)
+pub record GivenAt (s : Setting) (vars : List TypeTree) (σ τ : Substitution) (fs : List TypeTree) (i x : ℕ) : Type 0 where
+  pub type : TypeTree
+  pub is : slice_get fs i ≡ Some type
+  pub typed : HasTypeUpTo s [] vars (var x) (sub type σ)
+  pub like : AreLike s (sub type σ) (sub type τ)
 
-given_at : (s : Setting) (vars : List TypeTree) (σ τ : Substitution) (fs : List TypeTree) (xs : List ℕ) (i x : ℕ) → AreGiven s [] vars (map (λ f. sub f σ) fs) (names xs) → AllLike s σ τ fs → slice_get xs i ≡ Some x → GivenAt s vars σ τ fs i x
+pub given_at : (s : Setting) (vars : List TypeTree) (σ τ : Substitution) (fs : List TypeTree) (xs : List ℕ) (i x : ℕ) → AreGiven s [] vars (map (λ f. sub f σ) fs) (names xs) → AllLike s σ τ fs → slice_get xs i ≡ Some x → GivenAt s vars σ τ fs i x
 given_at s vars σ τ fs [] i x given like e = absurd cc
 given_at s vars σ τ [] (y ∷ xs) i x given like e = absurd given
 given_at s vars σ τ (f ∷ fs) (y ∷ xs) zero x given like e =
@@ -116,7 +116,7 @@ module _ (o : Origins) (scope : List Variable) (h : History) (th : Thunk) (value
       ∙ fields_wires fs σ xs parts i j x ws given.1 have.1 e one l
 
 -- fields at types that are the same have the same parts
-have_along : (o : Origins) → IsSound (setting_at o) → SameValues → FieldsKeepSame → History → Thunk → (σ τ : Substitution) (fs : List TypeTree) (parts : List (List ℕ)) → AllLike (setting_at o) σ τ fs → HaveParts o.program.datas (map (λ f. sub f σ) fs) parts → HaveParts o.program.datas (map (λ f. sub f τ) fs) parts
+pub have_along : (o : Origins) → IsSound (setting_at o) → SameValues → FieldsKeepSame → History → Thunk → (σ τ : Substitution) (fs : List TypeTree) (parts : List (List ℕ)) → AllLike (setting_at o) σ τ fs → HaveParts o.program.datas (map (λ f. sub f σ) fs) parts → HaveParts o.program.datas (map (λ f. sub f τ) fs) parts
 have_along o sound values keep h th σ τ [] [] like have = tt
 have_along o sound values keep h th σ τ [] (ws ∷ parts) like have = absurd have
 have_along o sound values keep h th σ τ (f ∷ fs) [] like have = absurd have
@@ -135,15 +135,15 @@ product_field p c it types xs γ δ h i k x at on_types on_terms is count n v f 
     (suc (plus d.0 n), f_field (f_closed d.1) (parameter_variables (each_closed (names xs) γ δ) none k i (closed (var x) γ δ) there (count ∙ sym (many ∙ on_terms))) f)
 
 -- the types of a product on its variables
-record ProductTyped (s : Setting) (vars : List TypeTree) (c : ℕ) (it : Constructor) (types : List TypeTree) (xs : List ℕ) (t : TypeTree) : Type 0 where
-  on_types : length types ≡ length it.it.params
-  on_terms : length (names xs) ≡ length it.decl.fields
-  given : AreGiven s [] vars (map (λ f. sub f (arguments (trees_of types))) it.decl.fields) (names xs)
-  us : TypeTrees
-  is : t ≡ data_of it.of us
-  like : AllLike s (arguments (trees_of types)) (arguments us) it.decl.fields
+pub record ProductTyped (s : Setting) (vars : List TypeTree) (c : ℕ) (it : Constructor) (types : List TypeTree) (xs : List ℕ) (t : TypeTree) : Type 0 where
+  pub on_types : length types ≡ length it.it.params
+  pub on_terms : length (names xs) ≡ length it.decl.fields
+  pub given : AreGiven s [] vars (map (λ f. sub f (arguments (trees_of types))) it.decl.fields) (names xs)
+  pub us : TypeTrees
+  pub is : t ≡ data_of it.of us
+  pub like : AllLike s (arguments (trees_of types)) (arguments us) it.decl.fields
 
-product_typed : (s : Setting) (vars : List TypeTree) (c : ℕ) (it : Constructor) (types : List TypeTree) (xs : List ℕ) (t u : TypeTree) → IsSound s → FieldsKeepSame → AreTermTypes s [] vars → con_at s.datas c ≡ Some it → HasType s [] vars (on_names (con c) types xs) u → SameTypes t u → AsksForNone u → ProductTyped s vars c it types xs t
+pub product_typed : (s : Setting) (vars : List TypeTree) (c : ℕ) (it : Constructor) (types : List TypeTree) (xs : List ℕ) (t u : TypeTree) → IsSound s → FieldsKeepSame → AreTermTypes s [] vars → con_at s.datas c ≡ Some it → HasType s [] vars (on_names (con c) types xs) u → SameTypes t u → AsksForNone u → ProductTyped s vars c it types xs t
 product_typed s vars c it types xs t u sound keep scoped known typed same asks =
     let whole = con_takes s [] vars c it (types_then types (names xs)) u sound scoped known typed asks in
     let are : types_then types (names xs) ≡ types_then whole.0.types whole.0.es =

@@ -52,7 +52,7 @@ use Rattle.circuit_bits.proofs.Names.{variable_has_all}
 use Rattle.circuit_bits.proofs.PartWires.{copies_part}
 use Rattle.circuit_bits.proofs.Ports.{field_has_all, Follower, leaf_follows, leaf_width, parts_along}
 
-abbrev projected : ConId → ℕ → ℕ → ℕ → TermTree
+abbrev pub projected : ConId → ℕ → ℕ → ℕ → TermTree
 projected c count x z = case_of (var x) (alt (OfCon c count) (var z) no_alts)
 
 -- the cells of a projection
@@ -69,40 +69,40 @@ projection_piece : {ground : Built} {scope : List Variable} {n : ℕ} {widths : 
 projection_piece (of_projection {it = it} {fields = fields} parts known pattern have) = record { it = it; known = known; fields = fields; pattern = pattern; parts = parts; have = have; is = refl }
 
 -- the constructor of a pattern
-record ConPattern (datas : List Data) (u : TypeTree) (c : ConId) (count : ℕ) (fields : List TypeTree) : Type 0 where
-  it : Constructor
-  known : con_at datas c.number ≡ Some it
-  ts : TypeTrees
-  is : u ≡ data_of it.of ts
-  many : length it.decl.fields ≡ count
-  are : fields ≡ fields_at it ts
+pub record ConPattern (datas : List Data) (u : TypeTree) (c : ConId) (count : ℕ) (fields : List TypeTree) : Type 0 where
+  pub it : Constructor
+  pub known : con_at datas c.number ≡ Some it
+  pub ts : TypeTrees
+  pub is : u ≡ data_of it.of ts
+  pub many : length it.decl.fields ≡ count
+  pub are : fields ≡ fields_at it ts
 
-con_pattern : {datas : List Data} {u : TypeTree} {c : ConId} {count : ℕ} {fields : List TypeTree} → PatternOf datas u (OfCon c count) fields → ConPattern datas u c count fields
+pub con_pattern : {datas : List Data} {u : TypeTree} {c : ConId} {count : ℕ} {fields : List TypeTree} → PatternOf datas u (OfCon c count) fields → ConPattern datas u c count fields
 con_pattern (of_con {ts = ts} it known of many) = record { it = it; known = known; ts = ts; is = ap (λ d. data_of d ts) (sym of); many = many; are = refl }
 
 -- a typed case with one alternative
-record OneCase (s : Setting) (vars : List TypeTree) (x : ℕ) (c : ConId) (count z : ℕ) (t : TypeTree) : Type 0 where
-  of : TypeTree
-  is : slice_get vars x ≡ Some of
-  kind : Kind
-  has : HasKind s [] of kind
-  fields : List TypeTree
-  pattern : PatternOf s.datas of (OfCon c count) fields
-  names : List TypeTree
-  same : AreSame fields names
-  named : slice_get (with_more names vars) z ≡ Some t
+pub record OneCase (s : Setting) (vars : List TypeTree) (x : ℕ) (c : ConId) (count z : ℕ) (t : TypeTree) : Type 0 where
+  pub of : TypeTree
+  pub is : slice_get vars x ≡ Some of
+  pub kind : Kind
+  pub has : HasKind s [] of kind
+  pub fields : List TypeTree
+  pub pattern : PatternOf s.datas of (OfCon c count) fields
+  pub names : List TypeTree
+  pub same : AreSame fields names
+  pub named : slice_get (with_more names vars) z ≡ Some t
 
-one_case : {s : Setting} {vars : List TypeTree} {x : ℕ} {c : ConId} {count z : ℕ} {t : TypeTree} → HasType s [] vars (projected c count x z) t → OneCase s vars x c count z t
+pub one_case : {s : Setting} {vars : List TypeTree} {x : ℕ} {c : ConId} {count z : ℕ} {t : TypeTree} → HasType s [] vars (projected c count x z) t → OneCase s vars x c count z t
 one_case (h_case {bound = names} {u = u} {j = j} of looked kind b typed of_kind functions more hidden) = record { of = u; is = var_at of; kind = j; has = kind; fields = b.fields; pattern = b.pattern; names = names; same = b.same; named = var_at typed }
 
-as_many_same : (ts us : List TypeTree) → AreSame ts us → length ts ≡ length us
+pub as_many_same : (ts us : List TypeTree) → AreSame ts us → length ts ≡ length us
 as_many_same [] [] a = refl
 as_many_same [] (u ∷ us) a = absurd a
 as_many_same (t ∷ ts) [] a = absurd a
 as_many_same (t ∷ ts) (u ∷ us) a = ap suc (as_many_same ts us a.1)
 
 -- the type that a name has is the same as the field's
-named_field : (fs us : List TypeTree) (i : ℕ) (u : TypeTree) → AreSame fs us → slice_get us i ≡ Some u → (f : TypeTree) × (slice_get fs i ≡ Some f) × SameTypes f u
+pub named_field : (fs us : List TypeTree) (i : ℕ) (u : TypeTree) → AreSame fs us → slice_get us i ≡ Some u → (f : TypeTree) × (slice_get fs i ≡ Some f) × SameTypes f u
 named_field [] [] i u a e = absurd cc
 named_field [] (v ∷ us) i u a e = absurd a
 named_field (f ∷ fs) [] i u a e = absurd a
@@ -114,7 +114,7 @@ past_names : (ts vs : List TypeTree) (k n : ℕ) → n ≡ length ts + k → sli
 past_names [] vs k n e = let same : n ≡ k = omega (arith, e) in ap (slice_get vs) same
 past_names (t ∷ ts) vs k n e = ap (λ (us : List TypeTree). slice_get us n) (turned_onto t ts vs) ∙ past_names ts (t ∷ vs) (suc k) n (omega (arith, e))
 
-name_at : (ts vs : List TypeTree) (z i : ℕ) (u : TypeTree) → z + suc i ≡ length ts → slice_get (with_more ts vs) z ≡ Some u → slice_get ts i ≡ Some u
+pub name_at : (ts vs : List TypeTree) (z i : ℕ) (u : TypeTree) → z + suc i ≡ length ts → slice_get (with_more ts vs) z ≡ Some u → slice_get ts i ≡ Some u
 name_at [] vs z i u e at = absurd (omega (arith, e))
 name_at (t ∷ ts) vs z zero u e at =
     sym (past_names ts (t ∷ vs) zero z (omega (arith, e))) ∙ sym (ap (λ (us : List TypeTree). slice_get us z) (turned_onto t ts vs)) ∙ at
@@ -129,7 +129,7 @@ count_append : (xs ys : List ℕ) → wire_count (xs ++ ys) ≡ wire_count xs + 
 count_append xs ys = ap (λ (ws : List ℕ). length ws) (present_append xs ys) ∙ length-append (present xs) (present ys)
 
 -- the wires of a leaf of a field are among the field's
-projected_wires : (parts : List (List ℕ)) (i j : ℕ) (ws : List ℕ) (wires : List WireId) → slice_get parts i ≡ Some ws → j < length ws → length wires ≡ wire_count (in_turn parts) → part_wires (leaves_before i parts + j) (in_turn parts) wires ≡ part_wires j ws (field_wires i parts wires)
+pub projected_wires : (parts : List (List ℕ)) (i j : ℕ) (ws : List ℕ) (wires : List WireId) → slice_get parts i ≡ Some ws → j < length ws → length wires ≡ wire_count (in_turn parts) → part_wires (leaves_before i parts + j) (in_turn parts) wires ≡ part_wires j ws (field_wires i parts wires)
 projected_wires [] i j ws wires e l many = absurd cc
 projected_wires (vs ∷ parts) zero j ws wires e l many =
     let part : vs ≡ ws = cc in
@@ -155,7 +155,7 @@ projection_has_all p c count x z it γ δ h known single below n v f =
     let taken : choice p.datas (alt (OfCon c count) (var z) no_alts) ≡ takes count (var z) = ap (λ o. by_fields (is_only o) count (var z)) known ∙ ap (λ b. by_fields b count (var z)) one in
     (suc (suc n), f_closed (e_takes taken (e_var (field_variables count z (closed (var x) γ δ) γ below) f)))
 
-data_kinds : (s : Setting) {d : ℕ} {it : Data} {ts : TypeTrees} {k : Kind} → slice_get s.datas d ≡ Some it → HasKind s [] (data_of d ts) k → KindsOf s.datas s.domains [] ts it.params
+pub data_kinds : (s : Setting) {d : ℕ} {it : Data} {ts : TypeTrees} {k : Kind} → slice_get s.datas d ≡ Some it → HasKind s [] (data_of d ts) k → KindsOf s.datas s.domains [] ts it.params
 data_kinds s {it = it} {ts = ts} known (kind_data {it = other} there kinds) = let same : other ≡ it = same_some there known in subst (λ (x : Data). KindsOf s.datas s.domains [] ts x.params) same kinds
 
 module _ (o : Origins) (order : List ℕ) (scope : List Variable) (γ : Thunks) (δ : TypeTrees) (net : Net) (path : List ℕ) (h : History) (n : ℕ) (widths : List ℕ) (t : TypeTree) (piece : Piece) (values : SameValues) (keep : FieldsKeepSame) where

@@ -22,7 +22,7 @@ use Rattle.net_built.specs.Wires.{Piece, new_wires, wire_count}
 use Rattle.net_fits.proofs.Pieces.{count_from}
 use Rattle.cell_bits.specs.Bearing.{HasCells}
 use Rattle.side_bits.specs.Sides.{types_in}
-use Rattle.circuit_bits.specs.Instances.{Design, Block, HasBlock, Inside, inside_variable, inside_letrec, Parameters, no_parameter, parameter_and, BlockAt, the_body, an_alternative, NoLambda}
+use Rattle.circuit_bits.specs.Instances.{Design, Block, HasBlock, Inside, inside_variable, inside_letrec, Parameters, no_parameter, parameter_and, BlockAt, the_body, an_alternative, unseen_alternative, NoLambda}
 use Rattle.circuit_bits.specs.Leaves.{HasAllOf, AreHeld}
 use Rattle.circuit_bits.specs.Memories.{HasWidths}
 use Rattle.circuit_bits.proofs.Follow.{group_follows}
@@ -103,6 +103,7 @@ block_ends d s h {scope = scope} {t = t} outside (block_letrec {x = x} {g = g} b
 pub stands_built : {d : Design} {inputs : List Thunk} {path : List ℕ} {h : History} {b : Block} → BlockAt d inputs path h b → HasBlock d path b
 stands_built (the_body at known is parameters has) = has
 stands_built (an_alternative i at inside is given known first has) = has
+stands_built (unseen_alternative i n m widths at inside is unseen known wide of have cells has) = has
 
 -- a block is no lambda
 pub block_plain : {ground : Ground} {sort : Sort} {scope : List Variable} {n : ℕ} {e : TermTree} {p : Piece} {results : List WireId} → BlockBuilt ground sort scope n e p results → NoLambda e

@@ -63,7 +63,7 @@ use Rattle.circuit_bits.proofs.Names.{variable_has_all}
 use Rattle.circuit_bits.proofs.Ports.{parts_along}
 use Rattle.circuit_bits.proofs.Signals.{wires_there}
 use Rattle.circuit_bits.proofs.Uses.{follower_has}
-use Rattle.net_means.specs.Inputs.{AllHaveBits}
+use Rattle.net_bits.specs.Whole.{AllHaveBits}
 use Rattle.net_means.specs.Outputs.{OutputMeans}
 use Rattle.net_means.proofs.Ends.{Ending, block_ends, stands_built, block_plain, parameters_held}
 use Rattle.net_means.proofs.Inputs.{Inputs, inputs, have}

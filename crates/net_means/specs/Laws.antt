@@ -23,7 +23,7 @@ use Rattle.net_rules.specs.WellFormed.{WellFormed}
 use Rattle.net_built.specs.Built.{Built}
 use Rattle.net_fits.specs.Laws.{BeginsWithTop}
 use Rattle.circuit_bits.specs.Instances.{Design}
-use Rattle.net_means.specs.Inputs.{AllHaveBits, TopGiven}
+use Rattle.net_means.specs.Inputs.{TopGiven}
 use Rattle.net_means.specs.Outputs.{NetMeans, OutputMeans}
 
 -- at a history of the program the top's inputs have the bits of what its streams are
@@ -44,10 +44,6 @@ BuiltNetsMean =
     → IsTidy p → IsTyped p → Run rules p n steps state → IsNormal p state → IsAcyclic state
     → Built p state net → WellFormed net → IsFlatOf net flat → Sound flat → IsOrder flat places
     → NetMeans p flat
-
--- so it is where all variables of a built net have bits
-abbrev pub BuiltNetsMeanIf : Type 0
-BuiltNetsMeanIf = AllHaveBits → BuiltNetsMean
 
 -- an output has no other bits at a history, and means no other data value
 abbrev pub OutputsHaveOneMeaning : Type 0

@@ -1,11 +1,12 @@
 //! Laws of the outputs of built nets, each as the contract of a call that does nothing.
-ghost use Rattle.net_means.specs.Laws.{InputsAreGiven, BuiltNetsMeanIf, OutputsHaveOneMeaning};
+ghost use Rattle.net_means.specs.Laws.{InputsAreGiven, BuiltNetsMean, OutputsHaveOneMeaning};
 
 use act_runs::laws::run_gives;
 use carrying::laws::what_is_shown_is_yielded;
 use chw_layout::laws::encoding_width;
 use chw_meaning::laws::at_most_one_meaning;
 use chw_types::laws::same_values;
+use net_bits::laws::all_have_bits;
 use net_fits::laws::runs_begin_with_top;
 use netlist::laws::a_wire_has_one_value;
 use normal_forms::laws::one_whole;
@@ -22,10 +23,11 @@ pub fn inputs_are_given()
     fields_keep_same();
 }
 
-/// Where all variables of built nets have bits, the outputs of their flat nets have the bits of what the program means.
-pub fn built_nets_mean_if()
-    ensures { BuiltNetsMeanIf }
+/// At each history of a tidy and typed program the outputs of the flat net of what is built have the bits of what the program means.
+pub fn built_nets_mean()
+    ensures { BuiltNetsMean }
 {
+    all_have_bits();
     at_most_one_meaning();
     bits_through_uses();
     encoding_width();
