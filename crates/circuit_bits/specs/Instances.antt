@@ -1,35 +1,36 @@
--- The instances of a built net and their blocks, each with the thunks of its variables; and what is
--- to hold of all of them. That is stated here, and not proved yet.
-use Rattle.std.specs.Prelude.{◌≡◌, ℕ, zero, ◌+◌, ◌<◌, List, [], ◌∷◌, ◌++◌, length, map}
+-- The instances of a built net and their blocks, each with the thunks of its variables; and what it
+-- is for these to have bits.
+use Rattle.std.specs.Prelude.{◌≡◌, ℕ, zero, ◌+◌, ◌-◌, ◌<◌, List, [], ◌∷◌, ◌++◌, length, map}
 use Rattle.std.specs.Prelude.{reverse, Some, slice_get}
 use Rattle.chw_base.specs.declared.index.WireId.{WireId}
-use Rattle.chw_clock.specs.Histories.{FitsPorts}
 use Rattle.chw_types.specs.declared.declarations.Data.{Data}
 use Rattle.chw_types.specs.TypeTree.{TypeTree, no_types}
 use Rattle.chw_terms.specs.declared.program.Program.{Program}
 use Rattle.chw_terms.specs.declared.scene.Made.{Made}
 use Rattle.chw_terms.specs.declared.scene.Sort.{Sort}
 use Rattle.chw_terms.specs.declared.scene.Sort.TheVariants.{Value, Circuit}
+use Rattle.chw_terms.specs.declared.term.Pattern.{Pattern}
 use Rattle.chw_terms.specs.TermTree.{TermTree, var, made, lam, letrec, case_of}
-use Rattle.chw_terms.specs.TermTree.{Group, no_bindings, Alts}
+use Rattle.chw_terms.specs.TermTree.{Group, no_bindings, Alts, alt}
+use Rattle.chw_typing.specs.HeadTypes.{PatternOf}
 use Rattle.chw_typing.specs.Programs.{IsSound}
 use Rattle.rewriting.specs.Origins.{setting_at, with_origins, with_origins_group}
 use Rattle.rewriting.specs.Steps.{origins_in}
 use Rattle.normal_forms.specs.Normal.{IsNormal}
 use Rattle.normal_forms.specs.Values.{on_names}
 use Rattle.chw_layout.specs.Encodes.{HaveConstructors}
-use Rattle.chw_meaning.specs.Values.{History, Thunk, Thunks, none, joined, in_group, body_at}
+use Rattle.chw_layout.specs.Measured.{HasWidth}
+use Rattle.chw_meaning.specs.Eval.{choice, looks}
+use Rattle.chw_meaning.specs.Values.{History, Thunk, closed, Thunks, none, joined, in_group}
+use Rattle.chw_meaning.specs.Values.{body_at, fields_from}
 use Rattle.carrying.specs.DataLaws.{Taken}
 use Rattle.carrying.specs.TermLaws.{onto, under_lambdas, each_closed}
-use Rattle.netlist.specs.Orders.{IsOrder}
-use Rattle.netlist.specs.declared.net.Flat.{Flat}
 use Rattle.netlist.specs.declared.net.Module.{Module}
 use Rattle.netlist.specs.declared.net.Net.{Net}
-use Rattle.net_flat.specs.Flattened.{IsFlatOf}
 use Rattle.net_built.specs.Bodies.{BlockBuilt, GroupBuilt, BodyBuilt}
 use Rattle.net_built.specs.Built.{Built, ground_of}
 use Rattle.net_built.specs.Circuits.{Ground, IsLifted, place_in}
-use Rattle.net_built.specs.Data.{HasParts, variables_from}
+use Rattle.net_built.specs.Data.{HasParts, HaveWidths, tested_of, field_cuts, variables_from}
 use Rattle.net_built.specs.Terms.{Variable, variable, wires_of_all}
 use Rattle.net_built.specs.Wires.{Piece, wire_count, new_wires}
 use Rattle.cell_bits.specs.Bearing.{HasCells}
@@ -180,6 +181,35 @@ mutual
           term = a.body;
           results = results;
         })
+    -- an alternative that is taken without a look at the case's variable, which needn't have bits
+    unseen_alternative : {path : List ℕ} {h : History} {b : Block} {g : Group}
+        {scope : List Variable} {γ : Thunks} {x whole : ℕ} {q : Pattern} {e : TermTree}
+        {more : Alts} {it : Variable} {fields : List TypeTree} {results : List WireId}
+        (i n m : ℕ) (widths : List ℕ)
+        → BlockAt d inputs path h b → Inside d path b g scope γ
+        → body_at g i ≡ Some (case_of (var x) (alt q e more))
+        → ¬ (choice d.program.datas (alt q e more) ≡ looks)
+        → slice_get scope x ≡ Some it → HasWidth d.program.datas it.ty whole
+        → PatternOf d.program.datas it.ty q fields → HaveWidths d.program.datas fields widths
+        → HasCells d.net path
+        (field_cuts (whole - (tested_of d.program.datas it.ty whole n it.wires).bits) it.wires
+        widths m).cells
+        → HasBlock d path
+        (record {
+          sort = Value;
+          scope = reverse (variables_from m fields widths) ++ scope;
+          outside = joined (fields_from zero (length fields) (closed (var x) γ no_types) none) γ;
+          term = e;
+          results = results;
+        })
+        → BlockAt d inputs path h
+        (record {
+          sort = Value;
+          scope = reverse (variables_from m fields widths) ++ scope;
+          outside = joined (fields_from zero (length fields) (closed (var x) γ no_types) none) γ;
+          term = e;
+          results = results;
+        })
 
 -- each of these variables has bits at the history: of a value, on its thunk at every history; of a
 -- circuit, at each of its leaves
@@ -191,22 +221,3 @@ HaveBits d Circuit path h scope γ =
     (x k : ℕ) (it : Variable) (widths : List ℕ) → slice_get scope x ≡ Some it
     → HasParts d.program.datas Circuit it.ty widths → k < length widths
     → VariableLeaf d.program d.net path scope γ h x k
-
--- the inputs of the top have bits at each history of the net's ports
-abbrev pub InputsHaveBits : Design → List Thunk → Type 0
-InputsHaveBits d inputs =
-    (h : History) (it : Made) (params : List TypeTree) (e : TermTree) (scope : List Variable)
-    → FitsPorts d.net.ports h → slice_get d.state zero ≡ Some it
-    → it.body ≡ under_lambdas params e → Parameters d.program.datas it.sort zero params [] scope
-    → HaveBits d it.sort [] h scope (onto inputs none)
-
--- then, where the flat net has an order, all variables of all blocks have them. The induction goes
--- over the length of the history, the place of the wire in the order, and the place of the binding
--- in its group.
-abbrev pub AllHaveBits : Type 0
-AllHaveBits =
-    (d : Design) (flat : Flat) (places : List ℕ) (inputs : List Thunk) (path : List ℕ)
-    (h : History) (b : Block) (g : Group) (scope : List Variable) (γ : Thunks)
-    → IsFlatOf d.net flat → IsOrder flat places → InputsHaveBits d inputs
-    → FitsPorts d.net.ports h → BlockAt d inputs path h b → Inside d path b g scope γ
-    → HaveBits d b.sort path h scope γ

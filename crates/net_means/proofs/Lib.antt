@@ -1,0 +1,13 @@
+pub mod Built
+pub mod Ends
+pub mod Given
+pub mod Inputs
+pub mod LeafBits
+pub mod Means
+pub mod OneOutput
+pub mod Outputs
+pub mod Parameters
+pub mod Products
+pub mod Streams
+pub mod Tops
+pub mod Wholes
