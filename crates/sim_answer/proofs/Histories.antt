@@ -1,5 +1,5 @@
 -- Events whose inputs encode values are a history of the program.
-use Rattle.std.proofs.Common.{◌≡◌, ℕ, suc, zero, ◌+◌, ◌<◌, ◌≤◌, Bool, List, [], ◌∷◌, ◌++◌, length, drop, replicate, Some, refl, sym, ap, ◌∙◌, subst, arith}
+use Rattle.std.proofs.Common.{◌≡◌, ℕ, suc, zero, ◌<◌, Bool, List, [], ◌∷◌, ◌++◌, length, drop, replicate, Some, refl, sym, subst, arith}
 use Rattle.std.specs.List.{AllByRecursion}
 use Rattle.std.specs.Prelude.{reverse, slice_get}
 use Rattle.std.proofs.lemmas.List.{length-reverse, reverse-append}
@@ -9,11 +9,9 @@ use Rattle.chw_clock.specs.declared.event.Ports.{Ports}
 use Rattle.chw_types.specs.TypeTree.{TypeTree}
 use Rattle.chw_types.specs.declared.declarations.Data.{Data}
 use Rattle.chw_types.specs.declared.ports.Leaf.{Leaf}
-use Rattle.chw_terms.specs.Tidy.{IsTidy}
 use Rattle.chw_terms.specs.declared.program.Program.{Program}
 use Rattle.chw_layout.specs.Datum.{Datum}
 use Rattle.chw_layout.specs.Encodes.{HaveConstructors}
-use Rattle.chw_layout.specs.Measured.{HasWidth}
 use Rattle.chw_meaning.specs.Gives.{Input, stream_in}
 use Rattle.chw_meaning.specs.Means.{Decoded, decoded_none, decoded_and, Fit, Streams, no_streams, stream_and, stream_of_one}
 use Rattle.chw_meaning.specs.Values.{History}
@@ -22,7 +20,7 @@ use Rattle.stimulus.specs.Stimulus.{Stim}
 use Rattle.stimulus.specs.Texts.{lines_of}
 use Rattle.stimulus.proofs.Fits.{events_fit}
 use Rattle.sim_answer.specs.Laws.{HistoriesFit}
-use Rattle.sim_answer.specs.Simulation.{AllPairs, HasInputs, HasValues, IsEncoding, IsStimulus, TypesOf, no_type, type_of, no_type_of}
+use Rattle.sim_answer.specs.Simulation.{AllPairs, HasInputs, HasValues, IsEncoding, TypesOf, no_type, type_of, no_type_of}
 
 -- from this input on an event's inputs encode values of these types
 abbrev HasFrom : List Data → List TypeTree → ℕ → Event → Type 0

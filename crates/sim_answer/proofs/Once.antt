@@ -5,7 +5,6 @@ use Rattle.chw_clock.specs.declared.event.Event.{Event}
 use Rattle.chw_clock.specs.declared.event.Ports.{Ports}
 use Rattle.chw_types.specs.declared.ports.Leaf.{Leaf}
 use Rattle.chw_terms.specs.declared.program.Program.{Program}
-use Rattle.chw_layout.specs.Datum.{Datum}
 use Rattle.chw_layout.specs.Encodes.{Encodes}
 use Rattle.chw_layout.specs.EncodingPromises.{OneEncoding}
 use Rattle.chw_meaning.specs.Laws.{OneMeaning, OnePorts}
@@ -15,7 +14,7 @@ use Rattle.chw_meaning.proofs.Once.{same_some}
 use Rattle.stimulus.specs.Output.{Lines}
 use Rattle.stimulus.specs.Stimulus.{Stim}
 use Rattle.sim_answer.specs.Laws.{OneSimulation}
-use Rattle.sim_answer.specs.Simulation.{AreMeant, IsMeant, IsSimulation, MeantAt, meant_at_none, meant_at_more}
+use Rattle.sim_answer.specs.Simulation.{AreMeant, IsMeant, MeantAt, meant_at_none, meant_at_more}
 use Rattle.sim_answer.proofs.Tops.{port_at_once, top_once}
 
 abbrev pub OneStimulus : Type 0

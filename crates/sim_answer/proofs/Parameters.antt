@@ -1,9 +1,7 @@
 -- The types of what a type leads from, parameter by parameter.
 use Rattle.std.proofs.Common.{◌≡◌, ℕ, suc, zero, ◌+◌, ◌<◌, ◌≤◌, List, [], ◌∷◌, ◌++◌, take, Some, refl, sym, ap, ◌∙◌, subst, append_assoc, arith}
-use Rattle.std.specs.List.{AllByRecursion}
 use Rattle.std.specs.Prelude.{slice_get}
 use Rattle.std.proofs.lemmas.List.{append-nil}
-use Rattle.chw_clock.specs.Histories.{HaveWidths}
 use Rattle.chw_clock.specs.declared.event.Port.{Port}
 use Rattle.chw_clock.specs.declared.event.Ports.{Ports}
 use Rattle.chw_types.specs.Ports.{Leaves, IsNoPort}
@@ -18,7 +16,7 @@ use Rattle.chw_terms.specs.declared.program.Program.{Program}
 use Rattle.chw_layout.specs.Measured.{HasWidth}
 use Rattle.chw_meaning.specs.Means.{HasPorts, LeadsFrom, leads_to, leads_from, PortsOf, no_ports, port_and, no_port_and}
 use Rattle.chw_meaning.proofs.Once.{same_some}
-use Rattle.sim_answer.specs.Simulation.{HasInputs, TypesOf, no_type, type_of, no_type_of}
+use Rattle.sim_answer.specs.Simulation.{TypesOf, no_type, type_of, no_type_of}
 use Rattle.sim_answer.specs.Types.{AddsPort, AddsTypes, AreInputs, AreMeasured, AreParameters, IsMeasuredPort, LeadsFromMeasured}
 use Rattle.sim_answer.proofs.Tops.{leaves_once}
 

@@ -1,5 +1,5 @@
 -- A stimulus of values isn't refused, and a text has one fault.
-use Rattle.std.proofs.Common.{◌≡◌, ℕ, suc, zero, ◌+◌, List, [], ◌∷◌, ◌++◌, length, refl, sym, ap, ◌∙◌, subst, arith}
+use Rattle.std.proofs.Common.{◌≡◌, ℕ, List, [], ◌∷◌, ◌++◌, length, refl, sym, ap, ◌∙◌, subst, arith}
 use Rattle.std.specs.List.{AllByRecursion}
 use Rattle.chw_clock.specs.declared.event.Event.{Event}
 use Rattle.chw_clock.specs.declared.event.Ports.{Ports}
@@ -7,12 +7,11 @@ use Rattle.chw_types.specs.TypeTree.{TypeTree}
 use Rattle.chw_terms.specs.declared.program.Program.{Program}
 use Rattle.chw_meaning.specs.Laws.{OnePorts}
 use Rattle.chw_meaning.specs.Means.{HasPorts}
-use Rattle.stimulus.specs.Stimulus.{IsStimFault, Stim, event_of, events_of}
+use Rattle.stimulus.specs.Stimulus.{IsStimFault, Stim, event_of}
 use Rattle.stimulus.specs.Texts.{lines_of}
 use Rattle.stimulus.specs.declared.fault.StimFault.{StimFault}
 use Rattle.sim_answer.specs.Laws.{NothingRefusesAStimulus, OneFault}
-use Rattle.sim_answer.specs.Simulation.{HasInputs, HasValues, IsFirstWithoutValues, IsSimFault, IsStimulus, not_stimulus, not_values}
-use Rattle.sim_answer.specs.declared.fault.SimFault.{SimFault}
+use Rattle.sim_answer.specs.Simulation.{HasInputs, HasValues, IsFirstWithoutValues, not_stimulus, not_values}
 use Rattle.sim_answer.specs.declared.fault.SimFault.TheVariants.{Stimulus, Value}
 use Rattle.sim_answer.proofs.Lines.{all_middle}
 use Rattle.sim_answer.proofs.Strangers.{of_events}

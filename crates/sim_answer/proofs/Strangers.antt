@@ -1,5 +1,5 @@
 -- The first line of a stimulus without values is that of the first event without them.
-use Rattle.std.proofs.Common.{◌≡◌, ℕ, suc, zero, ◌+◌, ◌<◌, ◌≤◌, List, [], ◌∷◌, ◌++◌, length, take, replicate, Some, refl, sym, ap, ◌∙◌, subst, arith}
+use Rattle.std.proofs.Common.{◌≡◌, ℕ, suc, zero, ◌+◌, ◌<◌, ◌≤◌, List, [], ◌∷◌, ◌++◌, length, take, replicate, Some, sym, ap, ◌∙◌, subst, arith}
 use Rattle.std.specs.List.{AllByRecursion}
 use Rattle.std.specs.Prelude.{slice_get}
 use Rattle.chw_clock.specs.declared.event.Event.{Event}
@@ -7,7 +7,6 @@ use Rattle.chw_clock.specs.declared.event.Ports.{Ports}
 use Rattle.chw_types.specs.TypeTree.{TypeTree}
 use Rattle.chw_terms.specs.declared.program.Program.{Program}
 use Rattle.stimulus.specs.Stimulus.{IsRight, Stim, count_of, event_of, events_of, line_events}
-use Rattle.stimulus.specs.Texts.{lines_of}
 use Rattle.sim_answer.specs.Places.{IsLineOf}
 use Rattle.sim_answer.specs.Simulation.{HasInputs, HasValues, IsFirstWithoutValues}
 use Rattle.sim_answer.specs.Types.{IsFirstStranger}

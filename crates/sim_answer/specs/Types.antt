@@ -1,5 +1,5 @@
 -- What the code keeps of the types of a program's inputs, and of the widths of their bits.
-use Rattle.std.specs.Prelude.{◌≡◌, ℕ, ◌<◌, Bool, List, [], ◌∷◌, ◌++◌, length, take, Some, slice_get}
+use Rattle.std.specs.Prelude.{◌≡◌, ℕ, Bool, List, ◌++◌, length, take, Some, slice_get}
 use Rattle.std.specs.List.{AllByRecursion}
 use Rattle.chw_clock.specs.declared.event.Event.{Event}
 use Rattle.chw_clock.specs.declared.event.Ports.{Ports}

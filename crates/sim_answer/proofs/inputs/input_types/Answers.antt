@@ -1,9 +1,8 @@
-use Rattle.std.proofs.Common.{◌≡◌, List, Some, length, refl, sym, subst}
+use Rattle.std.proofs.Common.{◌≡◌, Some, length, refl, sym, subst}
 use Rattle.std.specs.List.{slice_get}
 use Rattle.std.proofs.lemmas.Bool.{ltb-true}
 use Rattle.std.proofs.lemmas.Option.{slice_get_read}
 use Rattle.std.proofs.lemmas.Result.{IfOk-weaker}
-use Rattle.chw_types.specs.TypeTree.{TypeTree}
 use Rattle.sim_answer.specs.Types.{AreInputs, AreParameters, LeadsFromMeasured}
 use Rattle.sim_answer.proofs.Parameters.{are_inputs, top_measured}
 use Rattle.sim_answer.proofs.inputs.input_types.Goals as goal

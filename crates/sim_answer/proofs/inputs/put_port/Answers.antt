@@ -1,6 +1,5 @@
 use Rattle.std.proofs.Common.{sym, subst}
 use Rattle.std.proofs.lemmas.Result.{on_ok_weaker}
-use Rattle.chw_types.specs.declared.ports.Leaf.{Leaf}
 use Rattle.sim_answer.specs.Types.{AddsTypes, AreMeasured}
 use Rattle.sim_answer.proofs.Parameters.{adds_port, measured_leaves}
 use Rattle.sim_answer.proofs.inputs.put_port.Goals as goal

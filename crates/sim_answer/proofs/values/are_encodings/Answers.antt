@@ -1,7 +1,7 @@
-use Rattle.std.proofs.Common.{[], ◌∷◌, ◌++◌, take, length, sym, ap, subst, refl, ◌∙◌, arith}
+use Rattle.std.proofs.Common.{[], ◌∷◌, ◌++◌, take, sym, ap, refl, ◌∙◌, arith}
 use Rattle.std.proofs.lemmas.Bool.{false≢true}
 use Rattle.std.proofs.lemmas.List.{take_more}
-use Rattle.sim_answer.specs.Simulation.{AllPairs, IsEncoding}
+use Rattle.sim_answer.specs.Simulation.{IsEncoding}
 use Rattle.sim_answer.specs.Types.{IsSized}
 use Rattle.sim_answer.proofs.Pairs.{all_taken, pair_at, pairs_more, same_length}
 use Rattle.sim_answer.proofs.values.are_encodings.Goals as goal
