@@ -1,0 +1,9 @@
+pub mod Histories
+pub mod Lines
+pub mod Meant
+pub mod Once
+pub mod Pairs
+pub mod Parameters
+pub mod Refusals
+pub mod Strangers
+pub mod Tops

@@ -1,0 +1,33 @@
+-- What is promised of simulations.
+use Rattle.std.specs.Prelude.{◌≡◌, ℕ, ◌<◌, List, ◌++◌, length, reverse}
+use Rattle.chw_clock.specs.declared.event.Event.{Event}
+use Rattle.chw_clock.specs.declared.event.Ports.{Ports}
+use Rattle.chw_terms.specs.Tidy.{IsTidy}
+use Rattle.chw_terms.specs.declared.program.Program.{Program}
+use Rattle.chw_meaning.specs.Means.{Fit}
+use Rattle.sim_answer.specs.Simulation.{IsSimFault, IsSimulation, IsStimulus}
+use Rattle.sim_answer.specs.declared.fault.SimFault.{SimFault}
+
+-- a program and a text have at most one simulation
+abbrev pub OneSimulation : Type 0
+OneSimulation =
+    (p : Program) (text a b : List ℕ) → IsSimulation p text a → IsSimulation p text b → a ≡ b
+
+-- a stimulus of values for the program isn't refused
+abbrev pub NothingRefusesAStimulus : Type 0
+NothingRefusesAStimulus =
+    (p : Program) (text : List ℕ) (ports : Ports) (events : List Event) (fault : SimFault)
+    → IsStimulus p text ports events → IsSimFault p text fault → ⊥
+
+-- a text is refused for one fault
+abbrev pub OneFault : Type 0
+OneFault =
+    (p : Program) (text : List ℕ) (a b : SimFault)
+    → IsSimFault p text a → IsSimFault p text b → a ≡ b
+
+-- the events up to each of a stimulus of values are a history of the program
+abbrev pub HistoriesFit : Type 0
+HistoriesFit =
+    (p : Program) (text : List ℕ) (ports : Ports) (events earlier later : List Event)
+    → IsTidy p → IsStimulus p text ports events → events ≡ earlier ++ later → 0 < length earlier
+    → Fit p (reverse earlier)

@@ -1,0 +1,33 @@
+//! The laws of simulations, each as the contract of a call that does nothing.
+ghost use Rattle.sim_answer.specs.Laws.{HistoriesFit, NothingRefusesAStimulus, OneFault, OneSimulation};
+
+use chw_layout::laws::encodings;
+use chw_meaning::laws::at_most_one_meaning;
+use layout_laws::laws::zero_exists;
+use stimulus::laws::{no_fault, one_fault, one_stimulus};
+
+/// A program and a text have at most one simulation.
+pub fn one_simulation()
+    ensures { OneSimulation }
+{
+    at_most_one_meaning();
+    encodings();
+    one_stimulus();
+}
+
+/// A stimulus of values for a program isn't refused, and a text is refused for one fault.
+pub fn refusals()
+    ensures stimulus { NothingRefusesAStimulus }
+    ensures one { OneFault }
+{
+    at_most_one_meaning();
+    no_fault();
+    one_fault();
+}
+
+/// The events up to each of a stimulus of values are a history of the program.
+pub fn histories_fit()
+    ensures { HistoriesFit }
+{
+    zero_exists();
+}
