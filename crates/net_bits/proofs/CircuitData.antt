@@ -1,7 +1,7 @@
 -- Products and projections in circuits have bits at their leaves.
 use Rattle.std.proofs.Common.{List, Some, [], ap, arith, length, length-append, refl, subst, suc, sym, zero, ℕ, ◌+◌, ◌-◌, ◌<◌, ◌∙◌, ◌∷◌, ◌≡◌}
 use Rattle.std.specs.Prelude.{slice_get}
-use Rattle.chw_typing.specs.HeadTypes.{PatternOf, of_con, of_lit, of_any, fields_at}
+use Rattle.chw_typing.specs.HeadTypes.{PatternOf, of_con, fields_at}
 use Rattle.circuit_bits.proofs.FieldWires.{in_turn, parts_in_turn}
 use Rattle.circuit_bits.proofs.Products.{port_asks, product_typed}
 use Rattle.circuit_bits.proofs.Projections.{name_at}
@@ -48,7 +48,6 @@ use Rattle.chw_meaning.proofs.Once.{same_some}
 use Rattle.chw_types.specs.TypeView.{trees_of}
 use Rattle.side_bits.specs.Sides.{types_in}
 use Rattle.rewriting.specs.Origins.{with_origins}
-use Rattle.net_bits.proofs.Insides.{within}
 
 -- the field of these parts
 field_at : (datas : List Data) (ts : List TypeTree) (parts : List (List ℕ)) (i : ℕ) (own : List ℕ) → HaveParts datas ts parts → slice_get parts i ≡ Some own → (f : TypeTree) × (slice_get ts i ≡ Some f) × HasParts datas Circuit f own

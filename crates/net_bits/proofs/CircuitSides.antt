@@ -3,7 +3,7 @@ use Rattle.std.proofs.Common.{List, Some, [], ap, arith, length, refl, subst, su
 use Rattle.std.specs.Prelude.{slice_get}
 use Rattle.chw_prims.specs.declared.prim.Primitive.{Primitive as Prim}
 use Rattle.normal_forms.specs.Circuits.{IsConstant, beginning_with, content_type}
-use Rattle.net_built.specs.Circuits.{Ground, CircuitCells, of_register, of_block_ram, of_pure, of_synchronizer}
+use Rattle.net_built.specs.Circuits.{Ground, CircuitCells, of_register, of_block_ram, of_pure}
 use Rattle.circuit_bits.specs.Instances.{Block}
 use Rattle.chw_prims.specs.declared.prim.Primitive.TheVariants.{BlockRam, Pure, Register, UnsafeSynchronizer}
 use Rattle.chw_terms.specs.declared.scene.Sort.TheVariants.{Circuit}

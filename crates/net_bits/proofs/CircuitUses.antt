@@ -5,7 +5,7 @@ use Rattle.std.proofs.lemmas.List.{length-map}
 use Rattle.std.specs.Prelude.{slice_get}
 use Rattle.net_built.specs.Wires.{Piece, last_wires, new_wires, present, wire_count, wires_from}
 use Rattle.net_built.specs.Circuits.{used as used_piece, Ground, CircuitCells, IsLifted, lifted_on_one, lifted_on_more, of_variable, of_synchronizer, of_pure, of_register, of_block_ram, of_mapped, of_lifted, of_call, of_product, of_projection}
-use Rattle.net_built.proofs.Parts.{lifted_once, parts_once, width_once}
+use Rattle.net_built.proofs.Parts.{lifted_once}
 use Rattle.wire_order.specs.Awaits.{AllSettle}
 use Rattle.typing_laws.specs.Alike.{AreLike}
 use Rattle.circuit_bits.specs.Instances.{Block, InstanceAt, a_call, a_lift}

@@ -8,7 +8,7 @@ use Rattle.net_flat.proofs.Fitting.{Shows}
 use Rattle.net_flat.proofs.Lists.{get_left, get_right}
 use Rattle.net_flat.proofs.Widths.{widths_step}
 use Rattle.net_flat.proofs.Within.{long_before, stands_at, use_split, wires_of_uses}
-use Rattle.std.proofs.Common.{◌≡◌, ℕ, ◌+◌, ◌<◌, List, [], ◌∷◌, ◌++◌, length, take, Some, slice_get, refl, sym, ap, subst, ◌∙◌, arith}
+use Rattle.std.proofs.Common.{◌≡◌, ℕ, ◌+◌, List, [], ◌∷◌, ◌++◌, length, take, Some, slice_get, sym, ap, subst, ◌∙◌, arith}
 use Rattle.chw_base.specs.declared.index.ModId.{ModId}
 use Rattle.chw_base.specs.declared.index.WireId.{WireId}
 use Rattle.net_rules.specs.WellFormed.{WellFormed}

@@ -3,7 +3,7 @@ use Rattle.std.proofs.Common.{List, Some, [], ap, arith, length, nat_lt, refl, r
 use Rattle.std.proofs.lemmas.Bool.{and_parts, ltb-true}
 use Rattle.std.proofs.lemmas.List.{map-append}
 use Rattle.std.specs.Prelude.{slice_get}
-use Rattle.normal_forms.specs.Values.{IsBlock, block_letrec as letrec_is, AreSides, no_sides, side_and, IsSide, AreBlocks, block_and}
+use Rattle.normal_forms.specs.Values.{IsBlock, block_letrec as letrec_is, AreSides, no_sides, side_and, IsSide}
 use Rattle.chw_typing.specs.Typing.{AreBound, HasType, HasTypeUpTo, bound_and, h_letrec, none_bound}
 use Rattle.normal_forms.specs.Circuits.{AreCircuitSides, IsCircuitBody, IsCircuitSide, circuit_letrec, circuit_side_and, no_circuit_sides}
 use Rattle.chw_typing.specs.Scopes.{AreTermTypes, HasKind, Setting, declared, with_more}

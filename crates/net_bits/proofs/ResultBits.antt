@@ -40,7 +40,7 @@ use Rattle.side_bits.specs.Cases.{alts_count}
 use Rattle.net_bits.proofs.Used.{each_at, module_number}
 use Rattle.net_bits.proofs.Standing.{formed}
 use Rattle.net_bits.proofs.There.{found_at, found_within}
-use Rattle.net_bits.proofs.Insides.{found_first, found_rest, piece_rest, widths_rest, within}
+use Rattle.net_bits.proofs.Insides.{found_first, found_rest, piece_rest, widths_rest}
 use Rattle.net_fits.specs.Laws.{ground_over}
 use Rattle.chw_typing.proofs.Lists.{reverse_cons}
 use Rattle.chw_meaning.proofs.Once.{same_some}

@@ -4,7 +4,7 @@ use Rattle.std.proofs.Common.{Bool, List, Some, ap, arith, false, inl, inr, leng
 use Rattle.std.proofs.lemmas.Bool.{cases_lt}
 use Rattle.layout_laws.specs.Numbering.{ConstructorsByPlace, HasPlace}
 use Rattle.carrying.specs.DataLaws.{AreFor, ShownHasTag, Taken, has_tag, is_for, tag_in, taken}
-use Rattle.chw_typing.specs.HeadTypes.{PatternOf, of_con, of_lit, of_any}
+use Rattle.chw_typing.specs.HeadTypes.{PatternOf, of_con}
 use Rattle.chw_typing.specs.Alternatives.{HasDefault, IsFor, IsCovered}
 use Rattle.chw_meaning.specs.Eval.{looks, choice, is_only, by_fields, same_bits}
 use Rattle.chw_terms.specs.TermTree.{Alts, TermTree, alt, no_alts}
@@ -22,7 +22,6 @@ use Rattle.side_bits.specs.Cases.{alts_count}
 use Rattle.net_bits.proofs.There.{found_at, found_within}
 use Rattle.carrying.proofs.Cases.{same_itself}
 use Rattle.chw_meaning.proofs.Once.{same_some}
-use Rattle.net_bits.proofs.Insides.{within}
 
 module _ (datas : List Data) (b : List Bool) where
   abbrev IsTakenOf : Alts → Type 0

@@ -1,5 +1,3 @@
-use Rattle.circuit_bits.specs.Instances.{Design}
-use Rattle.netlist.specs.declared.net.Flat.{Flat}
 use Rattle.net_bits.proofs.Context.{Laws}
 use Rattle.net_bits.proofs.Induction.{all_have, inputs_there}
 use Rattle.net_bits.proofs.SomeBits.{wires_have, wires_once}
