@@ -10,15 +10,15 @@ use Rattle.net_build.proofs.building.build.Goals as goal
 
 pub base_of-requires : goal.base_of-requires
 base_of-requires c =
-    subst HasNoCycle (sym (c.as_slice.ensures ∙ ap (λ (p : Program). p.datas) c.program.ensures.program)) c.requires
+    subst HasNoCycle (sym (c.as_slice.ensures ∙ ap (λ (p : Program). p.datas) c.program-program.ensures.program)) c.requires
 
-pub net-requires : goal.net-requires
-net-requires c =
-    subst (λ (ds : List Data). IsGround ds c.made.result.now c.in_ok-base.base) c.as_slice.ensures c.in_ok-base.ensures
+pub net-net-requires : goal.net-net-requires
+net-net-requires c =
+    subst (λ (ds : List Data). IsGround ds c.made-made.result.now c.in_ok-base.base) c.as_slice.ensures c.in_ok-base.ensures
 
 pub returns : goal.returns
 returns c =
-    IfOk-weaker c.net-net.result (Built c.program.result.now c.made.result.now) (Built c.args.normal.now.program c.args.normal.now.made)
-    (λ n built. subst (λ (p : Program). Built p c.args.normal.now.made n) c.program.ensures.program
-    (subst (λ (ms : List Made). Built c.program.result.now ms n) c.made.ensures.made built))
+    IfOk-weaker c.net-net.result (Built c.program-program.result.now c.made-made.result.now) (Built c.args.normal.now.program c.args.normal.now.made)
+    (λ n built. subst (λ (p : Program). Built p c.args.normal.now.made n) c.program-program.ensures.program
+    (subst (λ (ms : List Made). Built c.program-program.result.now ms n) c.made-made.ensures.made built))
     c.net-net.ensures

@@ -14,14 +14,14 @@ returns-clause-module c =
     let place = c.args.place in
     let order = c.order.result.now in
     let m = c.in-Some.m.now in
-    let it = c.in-Some-2.it.now in
+    let it = c.in-Some-get.it.now in
     IfOk-weaker c.module_of.result (IsModuleOf ground it) (IsModuleAt ground made place)
     (λ built is. record {
       m = m;
       at = ap (λ ms. slice_get ms place) (sym c.order.ensures)
           ∙ slice_get_read order (length order) place m refl (ltb-true _ _ (sym c.in-Some.ensures.lookup.0)) c.in-Some.ensures.lookup.1;
       it = it;
-      is = slice_get_read made (length made) m it refl (ltb-true _ _ (sym c.in-Some-2.ensures.lookup.0)) c.in-Some-2.ensures.lookup.1;
+      is = slice_get_read made (length made) m it refl (ltb-true _ _ (sym c.in-Some-get.ensures.lookup.0)) c.in-Some-get.ensures.lookup.1;
       is_module = is;
     })
     c.module_of.ensures.module

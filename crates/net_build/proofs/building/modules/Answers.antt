@@ -1,4 +1,4 @@
-use Rattle.std.proofs.Common.{◌∙◌, subst, arith}
+use Rattle.std.proofs.Common.{◌∙◌, ap, subst, length, arith}
 use Rattle.net_built.specs.Circuits.{Ground}
 use Rattle.net_build.specs.Nets.{IsModuleAt}
 use Rattle.net_build.proofs.Nets.{modules_grown, modules_whole}
@@ -17,4 +17,4 @@ loop-place-preserved c =
 pub returns-clause-modules : goal.returns-clause-modules
 returns-clause-modules c =
     modules_whole c.args.base.now c.args.made.now c.loop-place.place c.loop-place.modules.items
-    (omega (arith, c.loop-place-test.false, c.order.ensures, c.len-count.ensures)) c.loop-place.invariant.0
+    (omega (arith, c.loop-place-test.false, ap length c.order-count.ensures)) c.loop-place.invariant.0

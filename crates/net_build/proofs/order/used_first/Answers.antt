@@ -18,8 +18,8 @@ loop-turn-preserved c = λ datas tell end leads.
     c.loop-turn.invariant datas tell end
     (subst (λ ts. Leads datas made ts c.loop-turn.placed end) (sym turn) (c.in_ok-perform.ensures datas tell end leads))
 
-pub returns : goal.returns
-returns c = λ datas tell.
+pub returns-in_default : goal.returns-in_default
+returns-in_default c = λ datas tell.
     let made = c.args.made.now in
     let none : c.loop-turn.todo.items ≡ [] =
     nil_from_length c.loop-turn.todo.items (sym c.loop-turn.todo.ok.0 ∙ c.in_default.ensures.cases.0) in
