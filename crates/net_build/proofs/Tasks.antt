@@ -1,11 +1,11 @@
 -- What doing tasks leads to.
-use Rattle.std.proofs.Common.{◌≡◌, ◌∙◌, sym, ap, refl, subst, ℕ, zero, suc, ◌+◌, ◌-◌, ◌<◌, ◌≤◌, arith, Bool, true, false, List, [], ◌∷◌, ◌++◌, map, reverse, length, take, get_or, append_assoc, append-nil, Some, None}
+use Rattle.std.proofs.Common.{◌≡◌, ◌∙◌, sym, ap, refl, subst, ℕ, zero, suc, ◌+◌, ◌-◌, ◌<◌, ◌≤◌, arith, Bool, true, false, List, [], ◌∷◌, ◌++◌, length, take, get_or, append_assoc, append-nil, Some}
 use Rattle.std.specs.List.{slice_get}
 use Rattle.std.proofs.lemmas.List.{reverse-append, take_more, map-append}
 use Rattle.std.proofs.lemmas.Option.{none-some, same_Some}
 use Rattle.chw_types.specs.declared.declarations.Data.{Data}
 use Rattle.chw_terms.specs.declared.scene.Made.{Made}
-use Rattle.net_built.specs.Modules.{holds, made_in, HasOutputs, Visited, already, without_outputs, behind_its_uses, AllVisited, none_visited, visited_and}
+use Rattle.net_built.specs.Modules.{holds, made_in, HasOutputs, already, without_outputs, behind_its_uses, AllVisited, none_visited, visited_and}
 use Rattle.net_build.specs.Outputs.{TellsOutputs, TellOutputs}
 use Rattle.net_build.specs.Tasks.{in_turn, visits, Leads, Continues, Opens}
 use Rattle.net_build.specs.declared.order.Task.{Task}

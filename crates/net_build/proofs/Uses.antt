@@ -1,5 +1,5 @@
 -- The made definitions in a term, in two spellings.
-use Rattle.std.proofs.Common.{◌≡◌, ap, refl, ◌++◌}
+use Rattle.std.proofs.Common.{◌≡◌, refl, ◌++◌}
 use Rattle.chw_terms.specs.TermTree.{TermTree, var, global, made, lam, app, ty_lam, ty_app, letrec, con, prim, lit, vec_lit, case_of, Terms, no_terms, term_and, Group, no_bindings, bind, Alts, no_alts, alt}
 use Rattle.net_built.specs.Modules.{made_in as in_term, made_in_all as in_all, made_in_group as in_group, made_in_alts as in_alts}
 use Rattle.normal_form.specs.MadeIn.{made_in, made_in_all, made_in_group, made_in_alts}

@@ -1,5 +1,5 @@
 -- Which made definitions give something that has a wire.
-use Rattle.std.specs.Prelude.{ℕ, zero, suc, Bool, true, false, List, [], ◌∷◌}
+use Rattle.std.specs.Prelude.{ℕ, suc, Bool, true, false, List, [], ◌∷◌}
 use Rattle.chw_types.specs.declared.declarations.Data.{Data}
 use Rattle.chw_terms.specs.declared.scene.Made.{Made}
 use Rattle.net_built.specs.Modules.{HasOutputs}

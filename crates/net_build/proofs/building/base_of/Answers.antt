@@ -1,4 +1,4 @@
-use Rattle.std.proofs.Common.{◌≡◌, ◌∙◌, ap, sym, subst, List, ℕ}
+use Rattle.std.proofs.Common.{◌∙◌, ap, sym, subst, List, ℕ}
 use Rattle.net_built.specs.Circuits.{Ground}
 use Rattle.net_built.specs.Modules.{IsOrderOfModules}
 use Rattle.net_build.proofs.building.base_of.Goals as goal

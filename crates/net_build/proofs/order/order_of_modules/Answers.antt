@@ -1,4 +1,4 @@
-use Rattle.std.proofs.Common.{◌≡◌, ◌∙◌, [], ap, sym, refl, subst, length, List, ℕ, Some}
+use Rattle.std.proofs.Common.{◌∙◌, [], sym, refl, subst, length, List, ℕ}
 use Rattle.std.proofs.lemmas.Bool.{ltb-true}
 use Rattle.std.proofs.lemmas.Option.{slice_get_read}
 use Rattle.net_built.specs.Modules.{AllVisited}

@@ -1,4 +1,4 @@
-use Rattle.std.proofs.Common.{◌≡◌, ◌-◌, sym, refl, arith, ℕ, List}
+use Rattle.std.proofs.Common.{◌-◌, sym, refl, arith, ℕ, List}
 use Rattle.std.specs.List.{slice_index}
 use Rattle.std.proofs.lemmas.Grind.{get_or_default_zero}
 use Rattle.net_build.proofs.Tasks.{visits_grown}

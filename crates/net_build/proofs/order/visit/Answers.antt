@@ -3,7 +3,6 @@ use Rattle.std.specs.List.{slice_get}
 use Rattle.std.proofs.lemmas.Bool.{ltb-true}
 use Rattle.std.proofs.lemmas.Option.{slice_get_read}
 use Rattle.std.proofs.lemmas.Result.{on_ok_weaker}
-use Rattle.net_built.specs.Modules.{holds}
 use Rattle.net_build.specs.Tasks.{in_turn}
 use Rattle.net_build.proofs.Tasks.{visit_placed, visit_empty, visit_opened}
 use Rattle.net_build.proofs.order.visit.Goals as goal

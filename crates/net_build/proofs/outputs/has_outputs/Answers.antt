@@ -1,4 +1,4 @@
-use Rattle.std.proofs.Common.{◌≡◌, ◌∙◌, ap, refl}
+use Rattle.std.proofs.Common.{◌∙◌, ap, refl}
 use Rattle.net_built.specs.Wires.{wire_count}
 use Rattle.net_build.proofs.OutputsTold.{outputs_told}
 use Rattle.net_build.proofs.outputs.has_outputs.Goals as goal

@@ -1,4 +1,3 @@
-use Rattle.std.proofs.Common.{◌≡◌, ◌∙◌}
 use Rattle.net_build.proofs.tops.add_leaves.Goals as goal
 
 pub returns : goal.returns

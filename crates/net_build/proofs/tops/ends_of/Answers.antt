@@ -1,4 +1,3 @@
-use Rattle.std.proofs.Common.{◌≡◌}
 use Rattle.net_build.proofs.Ports.{led_whole}
 use Rattle.net_build.proofs.tops.ends_of.Goals as goal
 

@@ -1,7 +1,6 @@
-use Rattle.std.proofs.Common.{◌≡◌, ◌∙◌, ap, sym, subst}
+use Rattle.std.proofs.Common.{◌≡◌, ◌∙◌, ap, sym}
 use Rattle.chw_types.specs.TypeTree.{fun}
 use Rattle.chw_types.specs.TypeView.{tree_of}
-use Rattle.net_build.specs.Ports.{AddsLeaves}
 use Rattle.net_build.proofs.Ports.{led_at_first, led_further}
 use Rattle.net_build.proofs.tops.parameters.Goals as goal
 

@@ -1,4 +1,4 @@
-use Rattle.std.proofs.Common.{◌≡◌, ◌∙◌, ap, refl}
+use Rattle.std.proofs.Common.{◌∙◌, ap, refl}
 use Rattle.net_built.specs.Circuits.{Ground}
 use Rattle.net_build.proofs.Ports.{are_ports_of}
 use Rattle.net_build.proofs.tops.ports_at.Goals as goal

@@ -1,4 +1,4 @@
-use Rattle.std.proofs.Common.{◌≡◌, ◌∙◌, subst, arith, sym}
+use Rattle.std.proofs.Common.{◌∙◌, subst, arith}
 use Rattle.net_built.specs.Circuits.{Ground}
 use Rattle.net_build.specs.Ports.{AddsPort}
 use Rattle.net_build.proofs.Ports.{ports_grown, ports_whole}

@@ -1,4 +1,4 @@
-use Rattle.std.proofs.Common.{◌≡◌, ◌∙◌, arith}
+use Rattle.std.proofs.Common.{◌∙◌, arith}
 use Rattle.net_build.proofs.Ports.{no_port, some_port}
 use Rattle.net_build.proofs.tops.push_port.Goals as goal
 
