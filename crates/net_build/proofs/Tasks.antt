@@ -6,7 +6,7 @@ use Rattle.std.proofs.lemmas.Option.{none-some, same_Some}
 use Rattle.chw_types.specs.declared.declarations.Data.{Data}
 use Rattle.chw_terms.specs.declared.scene.Made.{Made}
 use Rattle.net_built.specs.Modules.{holds, made_in, HasOutputs, already, without_outputs, behind_its_uses, AllVisited, none_visited, visited_and}
-use Rattle.net_build.specs.Outputs.{TellsOutputs, TellOutputs}
+use Rattle.net_build.specs.Outputs.{IsOutputMark, AreOutputMarks}
 use Rattle.net_build.specs.Tasks.{in_turn, visits, Leads, Continues, Opens}
 use Rattle.net_build.specs.declared.order.Task.{Task}
 use Rattle.net_build.specs.declared.order.Task.TheVariants.{Visit, Place}
@@ -46,16 +46,16 @@ visits_alone datas state us tasks order end are none leads =
     let done = lead_visits datas state us [] order end all in
     subst (λ k. AllVisited datas state [] us k) done.2 (subst (λ k. AllVisited datas state k us done.0) none done.1)
 
--- it is told of each made definition
-pub told_at : (datas : List Data) (state : List Made) (has : List Bool) (m : ℕ) (b : Bool)
-    → TellOutputs datas state has → slice_get has m ≡ Some b
-    → (it : Made) × (slice_get state m ≡ Some it) × TellsOutputs datas it b
-told_at datas [] [] m b tell is = absurd (none-some b is)
-told_at datas [] (c ∷ has) m b tell is = absurd tell
-told_at datas (it ∷ state) [] m b tell is = absurd tell
-told_at datas (it ∷ state) (c ∷ has) zero b tell is =
-    (it, refl, subst (TellsOutputs datas it) (same_Some c b is) tell.0)
-told_at datas (it ∷ state) (c ∷ has) (suc m) b tell is = told_at datas state has m b tell.1 is
+-- the made definition of a mark
+pub marked_at : (datas : List Data) (state : List Made) (has : List Bool) (m : ℕ) (b : Bool)
+    → AreOutputMarks datas state has → slice_get has m ≡ Some b
+    → (it : Made) × (slice_get state m ≡ Some it) × IsOutputMark datas it b
+marked_at datas [] [] m b marks is = absurd (none-some b is)
+marked_at datas [] (c ∷ has) m b marks is = absurd marks
+marked_at datas (it ∷ state) [] m b marks is = absurd marks
+marked_at datas (it ∷ state) (c ∷ has) zero b marks is =
+    (it, refl, subst (IsOutputMark datas it) (same_Some c b is) marks.0)
+marked_at datas (it ∷ state) (c ∷ has) (suc m) b marks is = marked_at datas state has m b marks.1 is
 
 -- one that is placed
 pub visit_placed : (datas : List Data) (state : List Made) (m : ℕ) (tasks : List Task) (order : List ℕ)
@@ -64,20 +64,20 @@ visit_placed datas state m tasks order is end leads = (order, already is, leads)
 
 -- one without outputs
 pub visit_empty : (datas : List Data) (state : List Made) (has : List Bool) (m : ℕ) (tasks : List Task) (order : List ℕ)
-    → holds order m ≡ false → slice_get has m ≡ Some false → TellOutputs datas state has
+    → holds order m ≡ false → slice_get has m ≡ Some false → AreOutputMarks datas state has
     → Continues datas state (Visit m ∷ tasks) order tasks order
-visit_empty datas state has m tasks order new none tell end leads =
-    let told = told_at datas state has m false tell none in
-    (order, without_outputs new told.1 told.2, leads)
+visit_empty datas state has m tasks order new none marks end leads =
+    let of_it = marked_at datas state has m false marks none in
+    (order, without_outputs new of_it.1 of_it.2, leads)
 
 -- one that is opened
 pub visit_opened : (datas : List Data) (state : List Made) (has : List Bool) (m : ℕ) (before after : List Task) (order : List ℕ)
-    → holds order m ≡ false → slice_get has m ≡ Some true → Opens state m before after → TellOutputs datas state has
+    → holds order m ≡ false → slice_get has m ≡ Some true → Opens state m before after → AreOutputMarks datas state has
     → Continues datas state (Visit m ∷ before) order after order
-visit_opened datas state has m before after order new some opens tell end leads =
-    let told = told_at datas state has m true tell some in
-    let same : told.0 ≡ opens.it = same_Some told.0 opens.it (sym told.1 ∙ opens.is) in
-    let outputs : HasOutputs datas opens.it (suc told.2.0) = subst (λ (it : Made). HasOutputs datas it (suc told.2.0)) same told.2.1 in
+visit_opened datas state has m before after order new some opens marks end leads =
+    let of_it = marked_at datas state has m true marks some in
+    let same : of_it.0 ≡ opens.it = same_Some of_it.0 opens.it (sym of_it.1 ∙ opens.is) in
+    let outputs : HasOutputs datas opens.it (suc of_it.2.0) = subst (λ (it : Made). HasOutputs datas it (suc of_it.2.0)) same of_it.2.1 in
     let all = subst (λ ts. Leads datas state ts order end) opens.are leads in
     let done = lead_visits datas state (made_in opens.it.body) (Place m ∷ before) order end all in
     (done.0 ++ m ∷ [], behind_its_uses new opens.is outputs done.1, done.2)

@@ -4,14 +4,14 @@ use Rattle.chw_types.specs.declared.declarations.Data.{Data}
 use Rattle.chw_terms.specs.declared.scene.Made.{Made}
 use Rattle.net_built.specs.Modules.{HasOutputs}
 
--- the answer is whether what the made definition gives has a wire
-abbrev pub TellsOutputs : List Data → Made → Bool → Type 0
-TellsOutputs datas it true = (n : ℕ) × HasOutputs datas it (suc n)
-TellsOutputs datas it false = HasOutputs datas it 0
+-- the mark is true exactly where what the made definition gives has a wire
+abbrev pub IsOutputMark : List Data → Made → Bool → Type 0
+IsOutputMark datas it true = (n : ℕ) × HasOutputs datas it (suc n)
+IsOutputMark datas it false = HasOutputs datas it 0
 
--- so it is told of each of them, at its place
-abbrev pub TellOutputs : List Data → List Made → List Bool → Type 0
-TellOutputs datas [] [] = Unit {0}
-TellOutputs datas (it ∷ made) (has ∷ more) =
-    TellsOutputs datas it has × TellOutputs datas made more
-TellOutputs datas _ _ = ⊥
+-- there is such a mark for each made definition, at its place
+abbrev pub AreOutputMarks : List Data → List Made → List Bool → Type 0
+AreOutputMarks datas [] [] = Unit {0}
+AreOutputMarks datas (it ∷ made) (has ∷ more) =
+    IsOutputMark datas it has × AreOutputMarks datas made more
+AreOutputMarks datas _ _ = ⊥

@@ -3,7 +3,7 @@
 ghost use Rattle.std.specs.Prelude.{◌≡◌, ◌++◌, ◌∷◌, [], ℕ, List, IfOk, OnOk};
 ghost use Rattle.chw_types.specs.declared.declarations.Data.{Data};
 ghost use Rattle.net_built.specs.Modules.{made_in, AllVisited, IsOrderOfModules};
-ghost use Rattle.net_build.specs.Outputs.{TellOutputs};
+ghost use Rattle.net_build.specs.Outputs.{AreOutputMarks};
 ghost use Rattle.net_build.specs.Tasks.{Continues, Opens, in_turn, visits};
 
 use crate::placed::Placed;
@@ -57,7 +57,7 @@ fn visit(
     placed: &Placed,
     todo: &mut Vec<Task>,
 ) -> Result<(), NoMemory>
-    ensures { OnOk result ((datas : List Data) → TellOutputs datas made.now has.now
+    ensures { OnOk result ((datas : List Data) → AreOutputMarks datas made.now has.now
         → Continues datas made.now (Task.Visit m ∷ in_turn todo.old.items) placed.now (in_turn todo.new.items) placed.now) }
 {
     let is_placed = placed.has(m)?;
@@ -82,7 +82,7 @@ fn perform(
     placed: &mut Placed,
     todo: &mut Vec<Task>,
 ) -> Result<(), NoMemory>
-    ensures { OnOk result ((datas : List Data) → TellOutputs datas made.now has.now
+    ensures { OnOk result ((datas : List Data) → AreOutputMarks datas made.now has.now
         → Continues datas made.now (task ∷ in_turn todo.old.items) placed.old (in_turn todo.new.items) placed.new) }
 {
     match task {
@@ -101,7 +101,7 @@ fn used_first(
     has: &[bool],
     uses: &[u32],
 ) -> Result<Vec<u32>, NoMemory>
-    ensures { IfOk result (λ order. (datas : List Data) → TellOutputs datas made.now has.now
+    ensures { IfOk result (λ order. (datas : List Data) → AreOutputMarks datas made.now has.now
         → AllVisited datas made.now [] uses.now order.items) }
 {
     let mut placed = Placed::none(alloc, made.len())?;
@@ -122,7 +122,7 @@ pub(crate) fn order_of_modules(
     made: &[Made],
     has: &[bool],
 ) -> Result<Vec<u32>, NoMemory>
-    ensures { IfOk result (λ order. (datas : List Data) → TellOutputs datas made.now has.now
+    ensures { IfOk result (λ order. (datas : List Data) → AreOutputMarks datas made.now has.now
         → IsOrderOfModules datas made.now order.items) }
 {
     let Some(top) = made.get(0) else {

@@ -1,7 +1,7 @@
 //! Which made definitions give something that has a wire.
 ghost use Rattle.std.specs.Prelude.{◌≡◌, ◌==◌, not, IfOk, OnOk};
 ghost use Rattle.net_built.specs.Terms.{result_of};
-ghost use Rattle.net_build.specs.Outputs.{TellsOutputs, TellOutputs};
+ghost use Rattle.net_build.specs.Outputs.{IsOutputMark, AreOutputMarks};
 
 use chw_base::NoMemory;
 use chw_terms::Made;
@@ -23,7 +23,7 @@ fn result_of(t: &Ty) -> &Ty
 
 // Whether what a made definition gives has a wire.
 fn has_outputs(alloc: Global, base: &mut Base<'_>, it: &Made) -> Result<bool, NoMemory>
-    ensures tells { IfOk result (TellsOutputs base.old.datas it.now) }
+    ensures mark { IfOk result (IsOutputMark base.old.datas it.now) }
     ensures same { base.new ≡ base.old }
 {
     let widths = parts_of(alloc, base, it.sort, result_of(&it.ty))?;
@@ -37,7 +37,7 @@ pub(crate) fn outputs(
     base: &mut Base<'_>,
     made: &[Made],
 ) -> Result<Vec<bool>, NoMemory>
-    ensures tells { IfOk result (λ has. TellOutputs base.old.datas made.now has.items) }
+    ensures marks { IfOk result (λ has. AreOutputMarks base.old.datas made.now has.items) }
     ensures same { base.new ≡ base.old }
 {
     let mut has = Vec::new(alloc);

@@ -10,7 +10,7 @@ returns-in-Visit c =
     let made = c.args.made.now in
     let placed = c.args.placed.now in
     on_ok_weaker c.visit.result
-    (λ goes datas tell. subst (λ (t : Task). Continues datas made (t ∷ in_turn c.args.todo.now.items) placed (in_turn c.visit.new.todo.items) placed) (sym c.in-Visit.is) (goes datas tell))
+    (λ goes datas marks. subst (λ (t : Task). Continues datas made (t ∷ in_turn c.args.todo.now.items) placed (in_turn c.visit.new.todo.items) placed) (sym c.in-Visit.is) (goes datas marks))
     c.visit.ensures
 
 pub returns-in-Place : goal.returns-in-Place
@@ -20,5 +20,5 @@ returns-in-Place c =
     let before = c.args.placed.now in
     let after = c.put.new.self in
     on_ok_weaker c.put.result
-    (λ is datas tell. subst (λ (t : Task). Continues datas made (t ∷ tasks) before tasks after) (sym c.in-Place.is) (task_placed datas made c.in-Place.m tasks before after is))
+    (λ is datas marks. subst (λ (t : Task). Continues datas made (t ∷ tasks) before tasks after) (sym c.in-Place.is) (task_placed datas made c.in-Place.m tasks before after is))
     c.put.ensures
