@@ -5,6 +5,7 @@ use Rattle.std.proofs.lemmas.List.{reverse-append}
 use Rattle.chw_base.specs.declared.index.WireId.{WireId}
 use Rattle.chw_types.specs.declared.declarations.Data.{Data}
 use Rattle.chw_types.specs.TypeTree.{TypeTree, ty_var, nat_lit, nat_sum, nat_product, domain, scalar, vector, data_of, fun, signal, for_all}
+use Rattle.chw_terms.specs.declared.scene.Sort.{Sort}
 use Rattle.chw_terms.specs.declared.scene.Sort.TheVariants.{Value}
 use Rattle.chw_terms.specs.declared.term.Binding.{Binding}
 use Rattle.chw_terms.specs.declared.term.Pattern.{Pattern}
@@ -135,19 +136,19 @@ alt_made ground it below q e wires outer inner s t u bound block =
     }
 
 -- a letrec that gives a variable
-pub letrec_made : (ground : Ground) (bs : List Binding) (x : ℕ) (expected found : List (List WireId)) (result : List WireId)
+pub letrec_made : (ground : Ground) (sort : Sort) (bs : List Binding) (x : ℕ) (expected found : List (List WireId)) (result : List WireId)
     (outer inner : List Variable) (s t : Piece)
     → inner ≡ outer ++ bound_of bs expected → expected ≡ found → result ≡ wires_at (reverse inner) x
-    → Adds (λ p. GroupBuilt ground Value (reverse inner) (next s) (group_of bs) p (bound_of bs found)) s t
-    → Adds (λ p. BlockBuilt ground Value (reverse outer) (next s) (letrec (group_of bs) (var x)) p result) s t
-letrec_made ground bs x expected found result outer inner s t entered same is group =
+    → Adds (λ p. GroupBuilt ground sort (reverse inner) (next s) (group_of bs) p (bound_of bs found)) s t
+    → Adds (λ p. BlockBuilt ground sort (reverse outer) (next s) (letrec (group_of bs) (var x)) p result) s t
+letrec_made ground sort bs x expected found result outer inner s t entered same is group =
     let bound : List Variable = bound_of bs found in
     let scope : reverse inner ≡ reverse bound ++ reverse outer =
     ap reverse (entered ∙ ap (λ ws. outer ++ bound_of bs ws) same) ∙ reverse-append outer bound in
-    let built = subst (λ vs. GroupBuilt ground Value vs (next s) (group_of bs) group.piece bound) scope group.holds in
+    let built = subst (λ vs. GroupBuilt ground sort vs (next s) (group_of bs) group.piece bound) scope group.holds in
     record {
       piece = group.piece;
       is = group.is;
-      holds = subst (λ ws. BlockBuilt ground Value (reverse outer) (next s) (letrec (group_of bs) (var x)) group.piece ws)
+      holds = subst (λ ws. BlockBuilt ground sort (reverse outer) (next s) (letrec (group_of bs) (var x)) group.piece ws)
           (sym (is ∙ ap (λ vs. wires_at vs x) scope)) (block_letrec bound built);
     }

@@ -45,7 +45,7 @@ fn add_operand(scope: &[Variable], arg: &Arg, wires: &mut Vec<WireId>) -> Result
 }
 
 /// The wires of all terms among arguments.
-pub(crate) fn operand_wires(
+pub fn operand_wires(
     alloc: Global,
     scope: &[Variable],
     args: &[Arg],
@@ -117,7 +117,7 @@ pub(crate) fn number_at(args: &[Arg], number: usize) -> u32
 
 /// The natural that a closed type means, where sums and products end at 4,294,967,295; 0 where it is none.
 #[tactic(auto, unfolding(chw_types::specs::SamePromises::natural_value))]
-pub(crate) fn closed_number(t: &Ty) -> u32
+pub fn closed_number(t: &Ty) -> u32
     ensures { result ≡ closed_value t.now }
 {
     match &t.node {
@@ -138,7 +138,7 @@ fn is_term(arg: &Arg) -> bool
 }
 
 /// Whether no argument is a type.
-pub(crate) fn are_terms(args: &[Arg]) -> bool
+pub fn are_terms(args: &[Arg]) -> bool
     ensures { OnTrue result (types_in args.now ≡ []) }
 {
     for arg in args {

@@ -50,6 +50,30 @@ impl<'a> Base<'a> {
         })
     }
 
+    /// The same with modules in this order.
+    pub fn in_order(self, places: Places) -> Base<'a>
+        ensures { result ≡ record { datas = self.entry.datas; order = places } }
+    {
+        let Base {
+            widths,
+            constructors,
+            places: before,
+        } = self;
+        drop(before);
+        Base {
+            widths,
+            constructors,
+            places,
+        }
+    }
+
+    /// The made definitions that have modules, in the order of the modules.
+    pub fn order(&self) -> &[u32]
+        ensures { result.now ≡ self.now.order }
+    {
+        self.places.order()
+    }
+
     /// How many bits each value of a closed type has, as `Widths::width` says.
     pub fn width(&mut self, alloc: Global, t: &Ty) -> Result<u32, NoMemory>
         ensures width { IfOk result (HasWidth self.old.datas t.now) }

@@ -25,7 +25,7 @@ fn push_input(
     inputs: &mut Vec<u32>,
     t: &Ty,
 ) -> Result<(), NoMemory>
-    ensures input { OnOk result (IsInput base.old t.now inputs.old.items inputs.new.items scope.old.items scope.new.items) }
+    ensures input { OnOk result (IsInput base.old Value t.now inputs.old.items inputs.new.items scope.old.items scope.new.items) }
     ensures base { base.new ≡ base.old }
 {
     let width = base.width(alloc, t)?;
@@ -34,8 +34,8 @@ fn push_input(
     push_present(inputs, width)
 }
 
-// Pushes a width that isn't 0.
-fn push_present(widths: &mut Vec<u32>, width: u32) -> Result<(), NoMemory>
+/// Pushes a width that isn't 0.
+pub fn push_present(widths: &mut Vec<u32>, width: u32) -> Result<(), NoMemory>
     ensures { OnOk result (widths.new.items ≡ widths.old.items ++ present (width ∷ [])) }
 {
     if width == 0 {
@@ -54,7 +54,7 @@ fn inputs<'t>(
     e: &'t Term,
 ) -> Result<&'t Term, NoMemory>
     requires none { (scope.old.items ≡ []) × (inputs.old.items ≡ []) }
-    ensures under { IfOk result (λ inner. IsUnder base.old e.now inner.now inputs.new.items scope.new.items) }
+    ensures under { IfOk result (λ inner. IsUnder base.old Value e.now inner.now inputs.new.items scope.new.items) }
     ensures base { base.new ≡ base.old }
 {
     let mut inner = e;
@@ -139,7 +139,7 @@ fn module(
     known: &[Wires],
     e: &Term,
 ) -> Result<Module, NoMemory>
-    ensures module { IfOk result (IsModuleBelow base.old (in_scope scope.old.items) inputs.now e.now) }
+    ensures module { IfOk result (IsModuleBelow base.old Value (in_scope scope.old.items) inputs.now e.now) }
     ensures base { base.new ≡ base.old }
 {
     let expected = Expected {

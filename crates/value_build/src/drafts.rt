@@ -6,7 +6,7 @@ use chw_base::{NoMemory, Seq, WireId};
 use net_pieces::Pieces;
 
 /// The wires of a letrec's bindings.
-pub(crate) type Wires = Vec<Seq<WireId>>;
+pub type Wires = Vec<Seq<WireId>>;
 
 /// What is expected of the letrecs of a body, in the order of the text: the wires of their bindings.
 #[derive(Clone, Copy)]
@@ -39,7 +39,7 @@ fn same_wires(a: &[WireId], b: &[WireId]) -> bool
 }
 
 /// Whether two lists of lists of wires are equal.
-pub(crate) fn all_same(a: &[Seq<WireId>], b: &[Seq<WireId>]) -> bool
+pub fn all_same(a: &[Seq<WireId>], b: &[Seq<WireId>]) -> bool
     ensures { OnTrue result (a.now ≡ b.now) }
 {
     if a.len() != b.len() {

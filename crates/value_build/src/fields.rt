@@ -56,8 +56,8 @@ fn constructor_fields(
     fields_put(alloc, fields, args)
 }
 
-// The sort and the width of a scalar.
-fn scalar_parts(ty: &Ty) -> Option<(Scalar, &Ty)>
+/// The sort and the width of a scalar.
+pub fn scalar_parts(ty: &Ty) -> Option<(Scalar, &Ty)>
     ensures { IfSome result (λ p. ty.now ≡ scalar p.0 p.1.now) }
 {
     match &ty.node {
@@ -87,7 +87,7 @@ fn is_literal_of(alloc: Global, ty: &Ty, sort: Scalar, bits: &Bits) -> Result<bo
 /// The types of the variables that a pattern for values of this type binds.
 ///
 /// A pattern for other values finds no memory. No case of a normal state has one.
-pub(crate) fn pattern_fields(
+pub fn pattern_fields(
     alloc: Global,
     base: &Base<'_>,
     ty: &Ty,

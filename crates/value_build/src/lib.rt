@@ -1,16 +1,16 @@
 //! The modules of values: the cells of blocks, of right sides and of cases, appended one behind the other as `net_built` has them.
 #![tactic(auto)]
 
-mod arguments;
+pub mod arguments;
 mod base;
 mod blocks;
 pub mod bodies;
 mod cases;
 mod constructors;
-mod drafts;
-mod fields;
+pub mod drafts;
+pub mod fields;
 pub mod places;
-mod scope;
+pub mod scope;
 mod sides;
 pub mod widths;
 

@@ -14,13 +14,13 @@ use std::alloc::Global;
 
 /// A variable: its type, and its wires.
 #[derive(Drop)]
-pub(crate) struct Variable {
-    pub(crate) ty: Ty,
-    pub(crate) wires: Seq<WireId>,
+pub struct Variable {
+    pub ty: Ty,
+    pub wires: Seq<WireId>,
 }
 
 /// The wires of a variable. The last in scope is variable 0. One that isn't in scope has none.
-pub(crate) fn wires_at(scope: &[Variable], x: VarIx) -> &[WireId]
+pub fn wires_at(scope: &[Variable], x: VarIx) -> &[WireId]
     ensures { result.now ≡ wires_at (in_scope scope.now) x.number }
 {
     let number = x.number as usize;
@@ -31,7 +31,7 @@ pub(crate) fn wires_at(scope: &[Variable], x: VarIx) -> &[WireId]
 }
 
 /// The wires of a term that is a variable. Any other has none.
-pub(crate) fn wires_of<'s>(scope: &'s [Variable], e: &Term) -> &'s [WireId]
+pub fn wires_of<'s>(scope: &'s [Variable], e: &Term) -> &'s [WireId]
     ensures { result.now ≡ wires_of (in_scope scope.now) e.now }
 {
     if !e.args.is_empty() {
@@ -44,14 +44,14 @@ pub(crate) fn wires_of<'s>(scope: &'s [Variable], e: &Term) -> &'s [WireId]
 }
 
 /// The same wires once more.
-pub(crate) fn copy_wires(alloc: Global, wires: &[WireId]) -> Result<Seq<WireId>, NoMemory>
+pub fn copy_wires(alloc: Global, wires: &[WireId]) -> Result<Seq<WireId>, NoMemory>
     ensures { IfOk result (λ same. same ≡ wires.now) }
 {
     Ok(Seq::from(Vec::from_slice(alloc, wires)?))
 }
 
 /// A variable in scope once more.
-pub(crate) fn variable_at(alloc: Global, scope: &[Variable], x: VarIx) -> Result<Variable, NoMemory>
+pub fn variable_at(alloc: Global, scope: &[Variable], x: VarIx) -> Result<Variable, NoMemory>
     ensures { IfOk result (λ it. slice_get (in_scope scope.now) x.number ≡ Some (as_variable it)) }
 {
     let number = x.number as usize;
@@ -65,7 +65,7 @@ pub(crate) fn variable_at(alloc: Global, scope: &[Variable], x: VarIx) -> Result
 }
 
 /// Puts a variable of this type into scope, on these wires.
-pub(crate) fn push(
+pub fn push(
     alloc: Global,
     scope: &mut Vec<Variable>,
     ty: &Ty,
@@ -96,7 +96,7 @@ pub(crate) fn push_part(
 }
 
 /// The variable that a term is.
-pub(crate) fn variable_of(e: &Term) -> Option<VarIx>
+pub fn variable_of(e: &Term) -> Option<VarIx>
     ensures { IfSome result (λ x. e.now ≡ var x.number) }
 {
     if !e.args.is_empty() {
@@ -119,7 +119,7 @@ fn wires_of_number(wires: &[Seq<WireId>], number: usize) -> &[WireId]
 }
 
 /// Puts a variable into scope for each binding, on these wires; one for which there are none has none.
-pub(crate) fn enter(
+pub fn enter(
     alloc: Global,
     scope: &mut Vec<Variable>,
     bindings: &[Binding],

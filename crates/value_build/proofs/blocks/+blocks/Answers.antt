@@ -67,7 +67,7 @@ letrec-returns-clause-built t c =
     (λ ws. IsTrue c.args.expected.now.strict → Adds (λ p. BlockBuilt c.args.base.now Value (in_scope c.args.scope.now.items) (next into) (letrec (group_of c.args.bindings.now) c.args.body.now) p ws) into c.sides.new.draft.into)
     (λ ws is strict. subst (λ f. Adds (λ p. BlockBuilt c.args.base.now Value (in_scope c.args.scope.now.items) (next into) (letrec (group_of c.args.bindings.now) f) p ws) into c.sides.new.draft.into)
     (sym c.in-Some.ensures)
-    (letrec_made c.args.base.now c.args.bindings.now x c.expected_at-wires.result.now c.in_ok-found.found.items ws outer inner into c.sides.new.draft.into
+    (letrec_made c.args.base.now Value c.args.bindings.now x c.expected_at-wires.result.now c.in_ok-found.found.items ws outer inner into c.sides.new.draft.into
     c.in_ok-enter.ensures (c.in_ok-settle.ensures strict) (is ∙ c.wires_at.ensures ∙ ap (λ vs. wires_at (in_scope vs) x) (c.deref.ensures.value ∙ c.in_ok-found.ensures.scope)) (c.in_ok-found.ensures.built strict)))
     c.copy_wires-result.ensures
 
@@ -135,8 +135,8 @@ alternative-returns-clause-scope t c =
 pub sides-loop-binding-init : goal.sides-loop-binding-init
 sides-loop-binding-init t c = record {
   built = λ strict.
-      subst (λ ws. Adds (GroupSoFar c.args.base.now (in_scope c.args.scope.now.items) (next c.args.draft.now.into) c.args.bindings.now 0 ws) c.args.draft.now.into c.args.draft.now.into)
-      (sym c.new-found.ensures.items) (group_begun c.args.base.now (in_scope c.args.scope.now.items) c.args.bindings.now c.args.draft.now.into);
+      subst (λ ws. Adds (GroupSoFar c.args.base.now Value (in_scope c.args.scope.now.items) (next c.args.draft.now.into) c.args.bindings.now 0 ws) c.args.draft.now.into c.args.draft.now.into)
+      (sym c.new-found.ensures.items) (group_begun c.args.base.now Value (in_scope c.args.scope.now.items) c.args.bindings.now c.args.draft.now.into);
   scope = refl;
   base = refl;
 }
@@ -145,7 +145,7 @@ pub sides-loop-binding-preserved : goal.sides-loop-binding-preserved
 sides-loop-binding-preserved t c =
     let so = c.loop-binding.invariant in record {
       built = λ strict.
-          group_grown c.args.base.now (in_scope c.args.scope.now.items) c.args.bindings.now c.loop-binding.binding-index c.binding-item.result
+          group_grown c.args.base.now Value (in_scope c.args.scope.now.items) c.args.bindings.now c.loop-binding.binding-index c.binding-item.result
           c.loop-binding.found.items c.push.new.self.items c.in_ok-side.field-0 c.args.draft.now.into c.loop-binding.draft.into c.side.new.draft.into
           c.loop-binding-test.true c.binding-item.is c.in_ok-push.ensures.items (so.built strict)
           (subst (λ vs. Adds (λ p. SideBuilt c.args.base.now Value (in_scope vs) (next c.loop-binding.draft.into) c.binding-item.result.ty c.binding-item.result.body p c.in_ok-side.field-0) c.loop-binding.draft.into c.side.new.draft.into) so.scope
@@ -157,7 +157,7 @@ sides-loop-binding-preserved t c =
 
 pub sides-returns-clause-built : goal.sides-returns-clause-built
 sides-returns-clause-built t c = λ strict.
-    group_whole c.args.base.now (in_scope c.args.scope.now.items) c.args.bindings.now c.loop-binding.binding-index c.loop-binding.found.items
+    group_whole c.args.base.now Value (in_scope c.args.scope.now.items) c.args.bindings.now c.loop-binding.binding-index c.loop-binding.found.items
     c.args.draft.now.into c.loop-binding.draft.into (omega (arith, c.loop-binding-test.false)) (c.loop-binding.invariant.built strict)
 
 -- the alternatives

@@ -1,4 +1,5 @@
 use Rattle.std.proofs.Common.{◌≡◌, ◌+◌, ◌*◌, IsTrue}
+use Rattle.chw_terms.specs.declared.scene.Sort.TheVariants.{Value}
 use Rattle.chw_terms.specs.TermSize.{tree_size, group_size, alts_size}
 use Rattle.chw_terms.specs.TermView.{group_of, alts_of}
 use Rattle.value_build.specs.Added.{Adds, next}
@@ -9,7 +10,7 @@ use Rattle.value_build.proofs.blocks.+blocks.Given as goal
 abbrev pub invariant-sides-loop-binding : goal.invariant-sides-loop-binding
 invariant-sides-loop-binding l = record {
   built : IsTrue l.expected.strict
-      → Adds (GroupSoFar l.initial.base (in_scope l.initial.scope.items) (next l.initial.draft.into) l.bindings l.binding-index l.found.items)
+      → Adds (GroupSoFar l.initial.base Value (in_scope l.initial.scope.items) (next l.initial.draft.into) l.bindings l.binding-index l.found.items)
       l.initial.draft.into l.draft.into;
   scope : l.scope.items ≡ l.initial.scope.items;
   base : l.base ≡ l.initial.base;

@@ -1,4 +1,5 @@
 use Rattle.std.proofs.Common.{◌≡◌, ◌∙◌, [], ap, sym, subst}
+use Rattle.chw_terms.specs.declared.scene.Sort.TheVariants.{Value}
 use Rattle.chw_terms.specs.TermTree.{lam}
 use Rattle.chw_terms.specs.TermView.{tree_of}
 use Rattle.net_built.specs.Circuits.{Ground}
@@ -20,7 +21,7 @@ loop-inner-preserved c =
     let is : c.loop-inner.inner.now ≡ lam t c.deref-inner.result.now =
     sym c.inner.view_is ∙ bare_is (tree_of c.inner.inside.head) args.items none ∙ ap tree_of c.in-Lam.is
     ∙ ap (lam t) (sym c.deref-inner.ensures) in (
-      under_lambda c.args.base.now c.args.e.now c.loop-inner.inner.now c.deref-inner.result.now t before later outer scope is
-          (subst (λ (g : Ground). IsInput g t before later outer scope) same c.in_ok-push_input.ensures.input) c.loop-inner.invariant.0,
+      under_lambda c.args.base.now Value c.args.e.now c.loop-inner.inner.now c.deref-inner.result.now t before later outer scope is
+          (subst (λ (g : Ground). IsInput g Value t before later outer scope) same c.in_ok-push_input.ensures.input) c.loop-inner.invariant.0,
       c.push_input.ensures.base ∙ same,
     )

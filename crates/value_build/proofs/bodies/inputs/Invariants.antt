@@ -1,8 +1,9 @@
 -- what is built of what is left is built of the body
 use Rattle.std.proofs.Common.{◌≡◌}
+use Rattle.chw_terms.specs.declared.scene.Sort.TheVariants.{Value}
 use Rattle.value_build.specs.Bodies.{IsUnder}
 use Rattle.value_build.proofs.bodies.inputs.Given as goal
 
 abbrev pub invariant-loop-inner : goal.invariant-loop-inner
 invariant-loop-inner l =
-    IsUnder l.initial.base l.e l.inner l.inputs.items l.scope.items × (l.base ≡ l.initial.base)
+    IsUnder l.initial.base Value l.e l.inner l.inputs.items l.scope.items × (l.base ≡ l.initial.base)

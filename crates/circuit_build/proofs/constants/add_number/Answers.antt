@@ -1,0 +1,6 @@
+use Rattle.std.proofs.Common.{◌∙◌, ◌++◌, ap}
+use Rattle.circuit_build.proofs.constants.add_number.Goals as goal
+
+pub returns : goal.returns
+returns c =
+    c.in_ok-extend_from_slice.ensures.items ∙ ap (λ xs. c.args.into.now.items ++ xs) (c.as_slice.ensures.value ∙ c.in_ok-bits.ensures)

@@ -1,0 +1,14 @@
+use Rattle.std.proofs.Common.{subst}
+use Rattle.std.proofs.lemmas.Result.{IfOk-weaker}
+use Rattle.chw_terms.specs.declared.scene.Sort.TheVariants.{Circuit}
+use Rattle.net_built.specs.Data.{HaveWidths, HasParts, port_parts}
+use Rattle.circuit_build.proofs.PortParts.{payloads}
+use Rattle.circuit_build.proofs.ports.port_parts.Goals as goal
+
+pub returns-clause-parts : goal.returns-clause-parts
+returns-clause-parts c =
+    let datas = c.args.base.now.datas in
+    let t = c.args.t.now in
+    IfOk-weaker c.payload_widths-widths.result (λ ws. HaveWidths datas (payloads c.deref.result.now) ws.items) (λ ws. HasParts datas Circuit t ws.items)
+    (λ ws have. port_parts c.in_ok-leaves.ensures (subst (λ ls. HaveWidths datas (payloads ls) ws.items) c.deref.ensures.value have))
+    c.payload_widths-widths.ensures.widths

@@ -1,0 +1,11 @@
+use Rattle.std.proofs.Common.{◌∙◌, ◌++◌, ◌∷◌, [], ap, sym, subst}
+use Rattle.chw_terms.specs.declared.scene.Sort.TheVariants.{Value}
+use Rattle.net_built.specs.Data.{HasParts, value_part}
+use Rattle.circuit_build.proofs.ports.value_parts.Goals as goal
+
+pub returns-clause-parts : goal.returns-clause-parts
+returns-clause-parts c =
+    let w = c.in_ok-width.width in
+    subst (HasParts c.args.base.now.datas Value c.args.t.now)
+    (sym (c.in_ok-push.ensures.items ∙ ap (λ ws. ws ++ w ∷ []) c.new-widths.ensures.items))
+    (value_part c.in_ok-width.ensures.width)

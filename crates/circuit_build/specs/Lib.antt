@@ -1,0 +1,3 @@
+pub mod Constants
+pub mod Lifting
+pub mod Projections

@@ -1,0 +1,9 @@
+//! The modules of circuits: the bits of constants, and the cells of right sides, appended one behind the other as `net_built` has them.
+#![tactic(auto)]
+
+pub mod bodies;
+mod circuits;
+mod constants;
+pub mod ports;
+mod projections;
+mod signals;

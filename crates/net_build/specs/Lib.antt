@@ -1,0 +1,5 @@
+pub mod Marks
+pub mod Nets
+pub mod Outputs
+pub mod Ports
+pub mod Tasks
