@@ -14,7 +14,7 @@ use Rattle.chw_grammar.specs.Text.{Text}
 use Rattle.chw_words.specs.declared.command.Command.{Command}
 use Rattle.chw_words.specs.declared.command.Command.TheVariants.{Emit, Check, Normalise, Run}
 use Rattle.data_kinds.specs.Laws.{OneProgram}
-use Rattle.chw_norm.specs.Laws.{NothingRefusesANormalRun}
+use Rattle.chw_norm.specs.Laws.{NothingRefusesANormalRun, OneLastState}
 use Rattle.chw_cli.proofs.Normal.{normal_is_answered, normal_status}
 use Rattle.chw_cli.proofs.OneText.{HasNoFault, HasNoNameFault, HasNoTypeFault, OneDescription, OneFlatText, emit_status, flat_is_emitted, misses_one, one_text_is_answered, text_status, whole_text}
 use Rattle.chw_cli.proofs.Runs.{NothingRefused, NothingWrong, misses_run, run_is_answered, run_status, whole_run}
@@ -25,18 +25,18 @@ abbrev pub NotRefused : Type 0
 NotRefused = (files : Files) (command : Command) (texts : List (List ℕ)) (reads : List Read) (r : Refusal) → AreHeld files (wants command) texts
     → BreakNothing command texts → Held files command (wants command) reads → CommandAnswer command reads (Err r) → ⊥
 
-pub not_refused : OneFlatText → HasNoFault → OneDescription → HasNoNameFault → OneProgram → HasNoTypeFault → NothingRefusesANormalRun → NothingWrong → NothingRefused → NotRefused
-not_refused one sound same named alone typed_ normal right taken files (Emit file budget) texts reads r held_texts breaks held_reads a =
+pub not_refused : OneFlatText → HasNoFault → OneDescription → HasNoNameFault → OneProgram → HasNoTypeFault → NothingRefusesANormalRun → OneLastState → NothingWrong → NothingRefused → NotRefused
+not_refused one sound same named alone typed_ normal last right taken files (Emit file budget) texts reads r held_texts breaks held_reads a =
     one_text_is_answered sound same named alone typed_ HasGoodNet (λ text tree answer. EmitAnswer text answer)
     (λ text tree r d suits e. flat_is_emitted one text r suits e) files (Emit file budget) (description_in file) texts reads r held_texts breaks held_reads a
-not_refused one sound same named alone typed_ normal right taken files (Check file) texts reads r held_texts breaks held_reads a =
+not_refused one sound same named alone typed_ normal last right taken files (Check file) texts reads r held_texts breaks held_reads a =
     one_text_is_answered sound same named alone typed_ (λ text. Unit {0}) (λ text tree answer. answer ≡ Ok (Text tree))
     (λ text tree r d suits e. cc) files (Check file) (description_in file) texts reads r held_texts breaks held_reads a
-not_refused one sound same named alone typed_ normal right taken files (Normalise file budget) texts reads r held_texts breaks held_reads a =
+not_refused one sound same named alone typed_ normal last right taken files (Normalise file budget) texts reads r held_texts breaks held_reads a =
     one_text_is_answered sound same named alone typed_ (HasNormalRun budget) (λ text tree answer. NormaliseAnswer tree budget answer)
-    (λ text tree r d suits e. normal_is_answered same alone normal budget text tree r d suits e) files (Normalise file budget) (description_in file) texts reads r
+    (λ text tree r d suits e. normal_is_answered same alone normal last budget text tree r d suits e) files (Normalise file budget) (description_in file) texts reads r
     held_texts breaks held_reads a
-not_refused one sound same named alone typed_ normal right taken files (Run verilog stimulus) texts reads r held_texts breaks held_reads a =
+not_refused one sound same named alone typed_ normal last right taken files (Run verilog stimulus) texts reads r held_texts breaks held_reads a =
     run_is_answered right taken files (Run verilog stimulus) (verilog_in verilog) (stimulus_in stimulus) texts reads r held_texts breaks held_reads a
 
 -- no command answers where one of its files is missing

@@ -13,7 +13,7 @@ use Rattle.chw_cli.specs.Descriptions.{IsDescription, NoDescription}
 use Rattle.chw_cli.specs.Reads.{Read, Wanted, wants, whole}
 use Rattle.chw_cli.specs.Reads.Read.{fetched}
 use Rattle.chw_cli.specs.declared.refusal.Refusal.{Refusal}
-use Rattle.chw_cli.specs.declared.refusal.Refusal.TheVariants.{Words, Read as Unread, Names, Types, DeepBody, FullTable, Spent, Form, TooLarge, Loop, Stimulus, Verilog}
+use Rattle.chw_cli.specs.declared.refusal.Refusal.TheVariants.{Words, Read as Unread, Names, Types, DeepBody, FullTable, Spent, State, Form, TooLarge, Loop, Stimulus, Verilog}
 use Rattle.chw_check.specs.Faults.{IsTypeFault}
 use Rattle.chw_check.specs.declared.fault.TypeFault.{TypeFault}
 use Rattle.chw_grammar.specs.declared.program.Tree.{Tree}
@@ -35,6 +35,9 @@ use Rattle.flat_form.specs.Grammar.{IsFlatText}
 use Rattle.flat_form.specs.declared.flat.FlatText.{FlatText}
 use Rattle.flat_form.specs.FlatNet.{flat_of}
 use Rattle.flat_law.specs.FlatOf.{SameBits}
+use Rattle.judge.specs.Lines.{state_line}
+use Rattle.judge.specs.States.{IsFinished, RefusesState}
+use Rattle.judge.specs.declared.states.StateFault.{StateFault}
 use Rattle.netlist.specs.Orders.{IsLoop}
 use Rattle.netlist.specs.declared.net.Flat.{Flat}
 use Rattle.norm_lines.specs.Lines.{normal_lines}
@@ -111,14 +114,19 @@ refusal_of_run run.Full = FullTable
 refusal_of_run (run.Spent steps) = Spent steps
 
 -- the answer of `normalise` to a description: the lines of the run of its program, by so many steps
--- at most, to a state in which none is left; or why the run is refused
+-- at most, to a state in which none is left, and which is normal and acyclic; or why the run is
+-- refused, or the state to which it leads
 pub data NormaliseAnswer (tree : Tree) (budget : ℕ) : Result (List ℕ) Refusal → Type 0 where
   normalised : (p : Program) (steps : List Step) (made : List Made) → HasProgram tree p
-      → length steps ≤ budget → Ends built p budget steps (Ok made)
+      → length steps ≤ budget → Ends built p budget steps (Ok made) → IsFinished p made
       → NormaliseAnswer tree budget (Ok (normal_lines (map (λ (s : Step). s.place) steps) made))
   not_normalised : (p : Program) (steps : List Step) (fault : RunFault) → HasProgram tree p
       → length steps ≤ budget → Ends built p budget steps (Err (Fault fault))
       → NormaliseAnswer tree budget (Err (refusal_of_run fault))
+  not_finished : (p : Program) (steps : List Step) (made : List Made) (fault : StateFault)
+      → HasProgram tree p → length steps ≤ budget → Ends built p budget steps (Ok made)
+      → RefusesState p made fault
+      → NormaliseAnswer tree budget (Err (State (state_line p fault)))
 
 -- the refusal of a Verilog text that can't be run
 abbrev pub refusal_of : CircuitFault → Refusal

@@ -16,6 +16,7 @@ use Rattle.chw_words.specs.declared.command.Command.{Command}
 use Rattle.chw_words.specs.declared.command.Command.TheVariants.{Emit, Check, Normalise, Run}
 use Rattle.flat_form.specs.Grammar.{IsFlatText}
 use Rattle.flat_form.specs.declared.flat.FlatText.{FlatText}
+use Rattle.judge.specs.States.{IsFinished}
 use Rattle.netlist.specs.declared.net.Flat.{Flat}
 use Rattle.rewriting.specs.Runs.{Step}
 use Rattle.rewriting.specs.Steps.{HasNoStep}
@@ -36,8 +37,9 @@ pub data BreaksNone (Suits : List ℕ → Type 0) : List (List ℕ) → Type 0 w
 abbrev pub HasGoodNet : List ℕ → Type 0
 HasGoodNet text = (f : FlatText) × IsFlatText text f × HasFewWires f × HasNoLoop f
 
--- the program of the text has a run of so many steps at most to a state in which no step is left, and
--- no step leads to a body over the limit of depth, or to more made definitions than may be held
+-- the program of the text has a run of so many steps at most to a state in which no step is left,
+-- and which is normal and acyclic; no step leads to a body over the limit of depth, or to more made
+-- definitions than may be held
 pub record HasNormalRun (budget : ℕ) (text : List ℕ) : Type 0 where
   pub tree : Tree
   pub description : IsDescription text tree
@@ -48,6 +50,7 @@ pub record HasNormalRun (budget : ℕ) (text : List ℕ) : Type 0 where
   pub made : List Made
   pub run : ShallowRun built program steps made
   pub ended : HasNoStep built program made
+  pub finished : IsFinished program made
 
 -- the first text can be run, and the second is a stimulus for the ports of its flat net
 pub data RunsWith : List (List ℕ) → Type 0 where

@@ -19,6 +19,11 @@ use Rattle.chw_words.specs.declared.command.WordsFault.{WordsFault}
 use Rattle.flat_form.specs.declared.flat.FlatText.{FlatText}
 use Rattle.flat_form.specs.declared.flat.NotFlat.{NotFlat}
 use Rattle.flat_form.specs.FlatNet.{flat_of}
+use Rattle.chw_terms.specs.declared.program.Program.{Program}
+use Rattle.chw_terms.specs.declared.scene.Made.{Made}
+use Rattle.judge.specs.Lines.{state_line}
+use Rattle.judge.specs.States.{RefusesState}
+use Rattle.judge.specs.declared.states.StateFault.{StateFault}
 use Rattle.netlist.specs.Orders.{IsLoop}
 use Rattle.netlist.specs.declared.net.Flat.{Flat}
 use Rattle.netlist.specs.declared.net.Loop.{Loop}
@@ -77,6 +82,16 @@ pub data RefusesNet (f : FlatText) : Refusal → Type 0 where
 -- why a description isn't emitted: want of memory, or the refusal is the answer
 abbrev pub RefusesEmit : List ℕ → Refusal → Type 0
 RefusesEmit text r = (r ≡ refusal.Memory) ⊎ EmitAnswer text (Err r)
+
+-- the refusal of a state that is at fault: its line, or want of memory
+abbrev pub IsRefusalOf : Program → StateFault → Refusal → Type 0
+IsRefusalOf p fault r = (r ≡ refusal.Memory) ⊎ (r ≡ refusal.State (state_line p fault))
+
+-- why the last state of a run is refused: want of memory, or what is wrong with it
+abbrev pub RefusesLast : Program → List Made → Refusal → Type 0
+RefusesLast p made r =
+    (r ≡ refusal.Memory)
+    ⊎ ((fault : StateFault) × RefusesState p made fault × (r ≡ refusal.State (state_line p fault)))
 
 -- why a description isn't normalised: want of memory, or the refusal is the answer
 abbrev pub RefusesNormalise : Tree → ℕ → Refusal → Type 0

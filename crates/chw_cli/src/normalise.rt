@@ -1,11 +1,24 @@
 //! The command `normalise`: the steps by which a description is rewritten, and the definitions that they make.
-ghost use Rattle.std.specs.Prelude.{Ok, IfOk, IfErr};
+ghost use Rattle.std.specs.Prelude.{List, Ok, IfOk, IfErr, OnOk};
 ghost use Rattle.chw_cli.specs.Answer.{HasProgram, NormaliseAnswer};
-ghost use Rattle.chw_cli.specs.Refusals.{RefusesNormalise};
+ghost use Rattle.chw_base.specs.Outcome.{IfFault};
+ghost use Rattle.chw_cli.specs.Refusals.{IsRefusalOf, RefusesLast, RefusesNormalise};
+ghost use Rattle.chw_norm.specs.Rules.{built};
+ghost use Rattle.chw_norm.specs.Running.{ShallowRun};
+ghost use Rattle.chw_terms.specs.Tidy.{IsTidy};
+ghost use Rattle.chw_typing.specs.Programs.{IsTyped};
+ghost use Rattle.judge.specs.States.{IsFinished, RefusesState};
+ghost use Rattle.rewriting.specs.Runs.{Step};
+ghost use Rattle.rewriting.specs.Steps.{HasNoStep};
+ghost use Rattle.rewriting.specs.Typed.{IsTypedScene};
 
 use crate::describe::Description;
 use crate::refusal::Refusal;
+use chw_base::{Name, Or};
+use chw_norm::laws::last_states_are_typed;
 use chw_norm::run;
+use chw_terms::{Made, Program, Scene};
+use judge::{StateFault, judge_state, state_line};
 use looks::LookCount;
 use norm_lines::put_lines;
 use std::alloc::Global;
@@ -24,7 +37,55 @@ pub(crate) fn normalised(
     let mut looks = LookCount::new();
     let program = description.checked.program();
     let made = run(alloc, program, budget, &mut trace, &mut looks)?;
+    check_last(alloc, program, made.list())?;
     let mut bytes = Vec::new(alloc);
     put_lines(&mut bytes, trace.as_slice(), made.list())?;
     Ok(bytes)
+}
+
+// Checks that the last state of a run is a normal one of which no made definition uses itself.
+#[tactic(auto, using(crate::proofs::Normal::refusal_refuses))]
+fn check_last(alloc: Global, program: &Program, made: &[Made]) -> Result<(), Refusal>
+    requires tidy { IsTidy program.now }
+    requires typed { IsTyped program.now }
+    requires run { (steps : List Step) × ShallowRun built program.now steps made.now }
+    requires ended { HasNoStep built program.now made.now }
+    ensures finished { OnOk result (IsFinished program.now made.now) }
+    ensures refused { IfErr result (RefusesLast program.now made.now) }
+{
+    last_states_are_typed();
+    let scene = Scene { program, made };
+    let outcome = judged(alloc, &scene);
+    let Scene {
+        program: _,
+        made: _,
+    } = scene;
+    match outcome {
+        Ok(()) => Ok(()),
+        Err(Or::Memory) => Err(Refusal::Memory),
+        Err(Or::Fault(fault)) => Err(refusal_of_state(alloc, program, &fault)),
+    }
+}
+
+// Judges the last state of a run, and keeps no more of it than why it is refused.
+fn judged(alloc: Global, scene: &Scene) -> Result<(), Or<StateFault>>
+    requires typed { IsTypedScene scene.now }
+    requires ended { HasNoStep built scene.now.program.now scene.now.made.now }
+    ensures finished { OnOk result (IsFinished scene.now.program.now scene.now.made.now) }
+    ensures fault { IfFault result (RefusesState scene.now.program.now scene.now.made.now) }
+{
+    match judge_state(alloc, scene) {
+        Ok(_) => Ok(()),
+        Err(fault) => Err(fault),
+    }
+}
+
+// A refused state as a refusal with its line.
+fn refusal_of_state(alloc: Global, program: &Program, fault: &StateFault) -> Refusal
+    ensures { IsRefusalOf program.now fault.now result }
+{
+    match state_line(alloc, program, fault) {
+        Ok(line) => Refusal::State(Name::from(line)),
+        Err(_) => Refusal::Memory,
+    }
 }

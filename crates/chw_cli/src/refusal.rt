@@ -41,6 +41,8 @@ pub enum Refusal {
     FullTable,
     /// So many steps, which is the budget, were made, and a step is left.
     Spent(u32),
+    /// No step is left, and the state isn't a normal one of which no made definition uses itself: the line that says why.
+    State(Name),
     /// The text isn't of the flat form.
     Form,
     /// The Verilog text denotes no net: the first rule that it breaks, and where.

@@ -14,7 +14,7 @@ use crate::tell::tell;
 use chw_base::{Name, Or, Shelf, Sink};
 use chw_check::laws::typed_has_no_fault;
 use chw_lexer::laws::{no_fault, one_splitting};
-use chw_norm::laws::nothing_refuses_a_normal_run;
+use chw_norm::laws::{nothing_refuses_a_normal_run, one_last_state};
 use chw_parser::laws::one_tree;
 use chw_resolve::laws::well_named_has_no_fault;
 use chw_words::laws::words_are_one_command;
@@ -51,6 +51,7 @@ pub fn top<F: Shelf, K: Sink, E: Sink>(
     one_program();
     typed_has_no_fault();
     nothing_refuses_a_normal_run();
+    one_last_state();
     nothing_refuses_a_run();
     match answer(alloc, words, shelf) {
         Ok(bytes) => match deliver(alloc, bytes.as_slice(), out) {

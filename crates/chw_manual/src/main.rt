@@ -8,7 +8,7 @@ use chw_cli::top::top;
 use std::io;
 
 /// The commands, with their files.
-const ROWS: [[&str; 2]; 43] = [
+const ROWS: [[&str; 2]; 50] = [
     ["check", "bad/lex.chw"],
     ["check", "good/lex.chw"],
     ["check", "bad/syntax.chw"],
@@ -35,6 +35,12 @@ const ROWS: [[&str; 2]; 43] = [
     ["check", "good/default.chw"],
     ["check", "bad/top.chw"],
     ["check", "good/top.chw"],
+    ["normalise", "bad/recursion.chw"],
+    ["normalise", "good/recursion.chw"],
+    ["normalise", "bad/representation.chw"],
+    ["normalise", "good/representation.chw"],
+    ["normalise", "bad/wide.chw"],
+    ["normalise", "good/wide.chw"],
     ["emit", "bad/form.chw"],
     ["emit", "good/form.chw"],
     ["emit", "bad/loop.chw"],
@@ -51,6 +57,7 @@ const ROWS: [[&str; 2]; 43] = [
     ["normalise", "steps/call.chw"],
     ["normalise", "steps/choice.chw"],
     ["normalise", "steps/crossing.chw"],
+    ["normalise", "steps/twice.chw"],
     ["normalise", "worked/memory.chw"],
 ];
 
