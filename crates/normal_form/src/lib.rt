@@ -5,6 +5,6 @@ mod order;
 pub mod states;
 #[cfg(test)]
 mod tests;
-mod uses;
+pub mod uses;
 
 pub use states::Normal;

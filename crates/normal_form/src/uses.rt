@@ -64,8 +64,8 @@ fn add_head_made(head: &Head, found: &mut Vec<u32>) -> Result<(), NoMemory>
     }
 }
 
-// The numbers of the made definitions in the body of one.
-fn body_made(alloc: Global, it: &Made) -> Result<Vec<u32>, NoMemory>
+/// The numbers of the made definitions in the body of one, from left to right.
+pub fn body_made(alloc: Global, it: &Made) -> Result<Vec<u32>, NoMemory>
     ensures { IfOk result (λ found. found.items ≡ body_made it.now) }
 {
     let mut found = Vec::new(alloc);
