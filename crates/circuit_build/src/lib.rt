@@ -6,4 +6,5 @@ mod circuits;
 mod constants;
 pub mod ports;
 mod projections;
+mod shapes;
 mod signals;

@@ -1,9 +1,7 @@
 //! The cells of primitives on signals, and of made definitions.
 ghost use Rattle.std.specs.Prelude.{◌≡◌, ◌∷◌, [], List, IfOk, IfSome, OnOk};
 ghost use Rattle.chw_prims.specs.declared.prim.Primitive.TheVariants.{Fmap, Ap, Pure, Register, BlockRam, UnsafeSynchronizer};
-ghost use Rattle.chw_terms.specs.declared.term.Arg.TheVariants.{OfTerm, OfType};
 ghost use Rattle.chw_terms.specs.TermTree.{prim, made};
-ghost use Rattle.chw_types.specs.TypeTree.{domain};
 ghost use Rattle.net_built.specs.Circuits.{CircuitCells, Ground, used};
 ghost use Rattle.net_built.specs.Terms.{Variable as Placed};
 ghost use Rattle.value_build.specs.Added.{Adds, next};
@@ -13,60 +11,17 @@ ghost use Rattle.net_built.specs.Wires.{◌▸◌};
 ghost use Rattle.circuit_build.specs.Lifting.{on_signal, IsLiftedOn, AreLiftedReads};
 
 use crate::constants::{constant_bits, constant_words};
-use chw_base::{DomId, MadeId, NoMemory, WireId};
+use crate::shapes::{
+    Lifting, domain_of, of_constant, of_crossing, of_delay, of_lifting, of_memory, one_width,
+};
+use chw_base::{MadeId, NoMemory, WireId};
 use chw_prims::Prim;
 use chw_terms::{Arg, Head, Term};
-use chw_types::{Ty, TyNode};
 use net_pieces::{Pieces, copies, memories};
 use std::alloc::Global;
 use value_build::Base;
 use value_build::arguments::{are_terms, closed_number, operand_wires};
 use value_build::scope::{Variable, wires_of};
-
-// The domain that a type is.
-fn domain_of(t: &Ty) -> Option<DomId>
-    ensures { IfSome result (λ d. t.now ≡ domain d.number) }
-{
-    match &t.node {
-        TyNode::DomOf(at) => Some(*at),
-        _ => None,
-    }
-}
-
-// The one width.
-fn one_width(widths: &[u32]) -> Option<u32>
-    ensures { IfSome result (λ w. widths.now ≡ w ∷ []) }
-{
-    match widths {
-        [w] => Some(*w),
-        _ => None,
-    }
-}
-
-// The arguments of a constant as a signal.
-#[derive(Clone, Copy)]
-struct Steady<'t> {
-    domain: &'t Ty,
-    payload: &'t Ty,
-    constant: &'t Term,
-}
-
-fn of_constant<'t>(args: &'t [Arg]) -> Option<Steady<'t>>
-    ensures { IfSome result (λ p. args.now ≡ OfType p.domain.now ∷ OfType p.payload.now ∷ OfTerm p.constant.now ∷ []) }
-{
-    match args {
-        [
-            Arg::OfType(domain),
-            Arg::OfType(payload),
-            Arg::OfTerm(constant),
-        ] => Some(Steady {
-            domain,
-            payload,
-            constant,
-        }),
-        _ => None,
-    }
-}
 
 // One value at all times: `pure @d @a c`.
 fn constant_signal(
@@ -88,34 +43,6 @@ fn constant_signal(
     };
     let bits = constant_bits(alloc, base, p.payload, p.constant)?;
     copies::constant(into, w, bits)
-}
-
-// The arguments of a register.
-#[derive(Clone, Copy)]
-struct Delay<'t> {
-    domain: &'t Ty,
-    payload: &'t Ty,
-    first: &'t Term,
-    signal: &'t Term,
-}
-
-fn of_delay<'t>(args: &'t [Arg]) -> Option<Delay<'t>>
-    ensures { IfSome result (λ p. args.now ≡ OfType p.domain.now ∷ OfType p.payload.now ∷ OfTerm p.first.now ∷ OfTerm p.signal.now ∷ []) }
-{
-    match args {
-        [
-            Arg::OfType(domain),
-            Arg::OfType(payload),
-            Arg::OfTerm(first),
-            Arg::OfTerm(signal),
-        ] => Some(Delay {
-            domain,
-            payload,
-            first,
-            signal,
-        }),
-        _ => None,
-    }
 }
 
 // A register: `register @d @a c x`.
@@ -142,91 +69,6 @@ fn register(
     };
     let bits = constant_bits(alloc, base, p.payload, p.first)?;
     copies::register(into, w, domain, bits, wires_of(scope, p.signal))
-}
-
-// The first argument, which is a type, and those behind it.
-fn first_type(args: &[Arg]) -> Option<(&Ty, &[Arg])>
-    ensures { IfSome result (λ p. args.now ≡ OfType p.0.now ∷ p.1.now) }
-{
-    let Some((first, rest)) = args.split_first() else {
-        return None;
-    };
-    match first {
-        Arg::OfType(t) => Some((t, rest)),
-        Arg::OfTerm(_) => None,
-    }
-}
-
-// The arguments of a block RAM behind its domain and the type of its last place.
-#[derive(Clone, Copy)]
-struct Content<'t> {
-    bits: &'t Ty,
-    payload: &'t Ty,
-    words: &'t Term,
-    read: &'t Term,
-    write: &'t Term,
-}
-
-fn of_content<'t>(args: &'t [Arg]) -> Option<Content<'t>>
-    ensures { IfSome result (λ p. args.now ≡ OfType p.bits.now ∷ OfType p.payload.now ∷ OfTerm p.words.now ∷ OfTerm p.read.now ∷ OfTerm p.write.now ∷ []) }
-{
-    match args {
-        [
-            Arg::OfType(bits),
-            Arg::OfType(payload),
-            Arg::OfTerm(words),
-            Arg::OfTerm(read),
-            Arg::OfTerm(write),
-        ] => Some(Content {
-            bits,
-            payload,
-            words,
-            read,
-            write,
-        }),
-        _ => None,
-    }
-}
-
-// The arguments of a block RAM behind its domain.
-#[derive(Clone, Copy)]
-struct Places<'t> {
-    last: &'t Ty,
-    content: Content<'t>,
-}
-
-fn of_places<'t>(args: &'t [Arg]) -> Option<Places<'t>>
-    ensures { IfSome result (λ p. args.now ≡ OfType p.last.now ∷ OfType p.content.bits.now ∷ OfType p.content.payload.now
-        ∷ OfTerm p.content.words.now ∷ OfTerm p.content.read.now ∷ OfTerm p.content.write.now ∷ []) }
-{
-    let Some((last, rest)) = first_type(args) else {
-        return None;
-    };
-    let Some(content) = of_content(rest) else {
-        return None;
-    };
-    Some(Places { last, content })
-}
-
-// The arguments of a block RAM.
-#[derive(Clone, Copy)]
-struct Memory<'t> {
-    domain: &'t Ty,
-    places: Places<'t>,
-}
-
-fn of_memory<'t>(args: &'t [Arg]) -> Option<Memory<'t>>
-    ensures { IfSome result (λ p. args.now ≡ OfType p.domain.now ∷ OfType p.places.last.now ∷ OfType p.places.content.bits.now
-        ∷ OfType p.places.content.payload.now ∷ OfTerm p.places.content.words.now ∷ OfTerm p.places.content.read.now
-        ∷ OfTerm p.places.content.write.now ∷ []) }
-{
-    let Some((domain, rest)) = first_type(args) else {
-        return None;
-    };
-    let Some(places) = of_places(rest) else {
-        return None;
-    };
-    Some(Memory { domain, places })
 }
 
 // A block RAM: `blockRam @d @n @k @a c x y`.
@@ -257,65 +99,6 @@ fn block_ram(
     let read = wires_of(scope, of.read);
     let write = wires_of(scope, of.write);
     memories::memory(into, alloc, w, k, domain, words, read, write)
-}
-
-// The arguments of a primitive with three types: two terms, or one.
-#[derive(Clone, Copy)]
-struct Lifting<'t> {
-    domain: &'t Ty,
-    from: &'t Ty,
-    to: &'t Ty,
-    function: &'t Term,
-    signal: &'t Term,
-}
-
-fn of_lifting<'t>(args: &'t [Arg]) -> Option<Lifting<'t>>
-    ensures { IfSome result (λ p. args.now ≡ OfType p.domain.now ∷ OfType p.from.now ∷ OfType p.to.now ∷ OfTerm p.function.now ∷ OfTerm p.signal.now ∷ []) }
-{
-    match args {
-        [
-            Arg::OfType(domain),
-            Arg::OfType(from),
-            Arg::OfType(to),
-            Arg::OfTerm(function),
-            Arg::OfTerm(signal),
-        ] => Some(Lifting {
-            domain,
-            from,
-            to,
-            function,
-            signal,
-        }),
-        _ => None,
-    }
-}
-
-// The arguments of a synchroniser.
-#[derive(Clone, Copy)]
-struct Crossing<'t> {
-    from: &'t Ty,
-    to: &'t Ty,
-    payload: &'t Ty,
-    signal: &'t Term,
-}
-
-fn of_crossing<'t>(args: &'t [Arg]) -> Option<Crossing<'t>>
-    ensures { IfSome result (λ p. args.now ≡ OfType p.from.now ∷ OfType p.to.now ∷ OfType p.payload.now ∷ OfTerm p.signal.now ∷ []) }
-{
-    match args {
-        [
-            Arg::OfType(from),
-            Arg::OfType(to),
-            Arg::OfType(payload),
-            Arg::OfTerm(signal),
-        ] => Some(Crossing {
-            from,
-            to,
-            payload,
-            signal,
-        }),
-        _ => None,
-    }
 }
 
 // A signal that is read in another domain: `unsafeSynchronizer @d @e @a x`.
