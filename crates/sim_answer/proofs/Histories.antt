@@ -21,6 +21,7 @@ use Rattle.stimulus.specs.Texts.{lines_of}
 use Rattle.stimulus.proofs.Fits.{events_fit}
 use Rattle.sim_answer.specs.Laws.{HistoriesFit}
 use Rattle.sim_answer.specs.Simulation.{AllPairs, HasInputs, HasValues, IsEncoding, TypesOf, no_type, type_of, no_type_of}
+use Rattle.sim_answer.proofs.Pairs.{all_before, all_push}
 
 -- from this input on an event's inputs encode values of these types
 abbrev HasFrom : List Data → List TypeTree → ℕ → Event → Type 0
@@ -83,14 +84,6 @@ history_fits zeros p ports types e past cons has fit values =
 -- the events of a stimulus fit its ports
 pub stimulus_fits : (text : List ℕ) (ports : Ports) (events : List Event) → Stim text ports events → AllByRecursion (FitsEvent ports) events
 stimulus_fits text ports events read = subst (AllByRecursion (FitsEvent ports)) (sym read.events_are) (events_fit ports (lines_of text) read.right)
-
-all_before : {A : Type 0} (P : A → Type 0) (xs ys : List A) → AllByRecursion P (xs ++ ys) → AllByRecursion P xs
-all_before P [] ys all = tt
-all_before P (x ∷ xs) ys all = (all.0, all_before P xs ys all.1)
-
-all_push : {A : Type 0} (P : A → Type 0) (xs : List A) (x : A) → AllByRecursion P xs → P x → AllByRecursion P (xs ++ x ∷ [])
-all_push P [] x all here = (here, tt)
-all_push P (y ∷ xs) x all here = (all.0, all_push P xs x all.1 here)
 
 all_reverse : {A : Type 0} (P : A → Type 0) (xs : List A) → AllByRecursion P xs → AllByRecursion P (reverse xs)
 all_reverse P [] all = tt

@@ -6,4 +6,5 @@ pub mod Pairs
 pub mod Parameters
 pub mod Refusals
 pub mod Strangers
+pub mod Taken
 pub mod Tops

@@ -68,7 +68,12 @@ all_at P [] i x all below e = absurd (omega (arith, below))
 all_at P (y ∷ xs) zero x all below e = subst P (sym e) all.0
 all_at P (y ∷ xs) (suc i) x all below e = all_at P xs i x all.1 (omega (arith, below)) e
 
-all_push : {A : Type 0} (P : A → Type 0) (xs : List A) (x : A) → AllByRecursion P xs → P x → AllByRecursion P (xs ++ x ∷ [])
+-- what holds of all holds of the first ones, and of one more
+pub all_before : {A : Type 0} (P : A → Type 0) (xs ys : List A) → AllByRecursion P (xs ++ ys) → AllByRecursion P xs
+all_before P [] ys all = tt
+all_before P (x ∷ xs) ys all = (all.0, all_before P xs ys all.1)
+
+pub all_push : {A : Type 0} (P : A → Type 0) (xs : List A) (x : A) → AllByRecursion P xs → P x → AllByRecursion P (xs ++ x ∷ [])
 all_push P [] x all here = (here, tt)
 all_push P (y ∷ xs) x all here = (all.0, all_push P xs x all.1 here)
 

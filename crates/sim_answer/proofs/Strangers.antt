@@ -11,6 +11,7 @@ use Rattle.sim_answer.specs.Places.{IsLineOf}
 use Rattle.sim_answer.specs.Simulation.{HasInputs, HasValues, IsFirstWithoutValues}
 use Rattle.sim_answer.specs.Types.{IsFirstStranger}
 use Rattle.sim_answer.proofs.Lines.{counted, events_split}
+use Rattle.sim_answer.proofs.Pairs.{all_before}
 
 all_front : {A : Type 0} (P : A → Type 0) (xs ys : List A) (n : ℕ) → AllByRecursion P (take n (xs ++ ys)) → length xs ≤ n → AllByRecursion P xs
 all_front P [] ys n all le = tt
@@ -37,10 +38,6 @@ in_copies [] (suc n) e later zero it from to at = cc
 in_copies [] (suc n) e later (suc place) it from to at = in_copies [] n e later place it (omega arith) (omega (arith, to)) at
 in_copies (x ∷ earlier) n e later zero it from to at = absurd (omega (arith, from))
 in_copies (x ∷ earlier) n e later (suc place) it from to at = in_copies earlier n e later place it (omega (arith, from)) (omega (arith, to)) at
-
-all_before : {A : Type 0} (P : A → Type 0) (xs ys : List A) → AllByRecursion P (xs ++ ys) → AllByRecursion P xs
-all_before P [] ys all = tt
-all_before P (x ∷ xs) ys all = (all.0, all_before P xs ys all.1)
 
 pub first_line_without : (p : Program) (text : List ℕ) (ports : Ports) (types : List TypeTree) (events : List Event) (place number : ℕ) → HasInputs p ports types → Stim text ports events
     → IsFirstStranger p.datas types events place → IsLineOf ports text place number → IsFirstWithoutValues p text number

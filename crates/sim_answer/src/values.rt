@@ -1,22 +1,40 @@
 //! Events of which the inputs encode values.
 ghost use Rattle.std.specs.Prelude.{◌↔◌, IsTrue, IfOk, IfSome, IfNone};
+ghost use Rattle.std.specs.Bool.{OnTrue};
 ghost use Rattle.std.specs.List.{AllByRecursion};
 ghost use Rattle.chw_types.specs.References.{HasNoCycle};
 ghost use Rattle.sim_answer.specs.Simulation.{AllPairs, HasValues, IsEncoding};
-ghost use Rattle.sim_answer.specs.Types.{AllAreSized, IsFirstStranger, IsSized};
+ghost use Rattle.sim_answer.specs.Types.{AllAreSized, IsFirstStranger, IsSized, TakesAll};
 
 use chw_base::NoMemory;
 use chw_clock::{Bits, Event};
-use chw_types::{Data, Ty};
+use chw_types::{Data, Ty, TyNode};
 use data_bits::decode;
 use std::alloc::Global;
 
-/// Whether the bits encode a value of the type.
+/// Whether all bits of the type's width encode values: it is a scalar, or a vector of such a type.
+///
+/// Of data types the answer is no.
+fn takes_all(t: &Ty) -> bool
+    ensures { OnTrue result (TakesAll t.now) }
+{
+    match &t.node {
+        TyNode::Vec(_, of) => takes_all(of),
+        TyNode::DataOf(_, _) => false,
+        // What has a width and is neither a vector nor data is a scalar.
+        _ => true,
+    }
+}
+
+/// Whether the bits encode a value of the type. Memory is taken for data types alone.
 fn is_encoding(alloc: Global, bits: &Bits, t: &Ty, datas: &[Data]) -> Result<bool, NoMemory>
     requires order { HasNoCycle datas.now }
     requires width { IsSized datas.now t.now bits.now }
     ensures { IfOk result (λ yes. IsTrue yes ↔ IsEncoding datas.now t.now bits.now) }
 {
+    if takes_all(t) {
+        return Ok(true);
+    }
     Ok(decode(alloc, bits, t, datas)?.is_some())
 }
 
