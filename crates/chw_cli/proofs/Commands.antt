@@ -2,7 +2,7 @@
 use Rattle.std.proofs.Common.{◌≡◌, ℕ, List, Result, Ok, Err, sym, subst}
 use Rattle.chw_base.specs.Files.{Files}
 use Rattle.chw_cli.specs.Answer.{CommandAnswer, EmitAnswer, NormaliseAnswer}
-use Rattle.chw_cli.specs.Exact.{AreHeld, BreakNothing, HasGoodNet, HasNormalRun, Misses}
+use Rattle.chw_cli.specs.Exact.{AreHeld, BreakNothing, IsCompilable, HasNormalRun, Misses}
 use Rattle.chw_cli.specs.Lines.{status_of}
 use Rattle.chw_cli.specs.Reads.{Read, description_in, wants}
 use Rattle.chw_cli.specs.declared.refusal.Refusal.{Refusal}
@@ -15,8 +15,10 @@ use Rattle.chw_words.specs.declared.command.Command.{Command}
 use Rattle.chw_words.specs.declared.command.Command.TheVariants.{Emit, Check, Normalise, Run}
 use Rattle.data_kinds.specs.Laws.{OneProgram}
 use Rattle.chw_norm.specs.Laws.{NothingRefusesANormalRun, OneLastState}
+use Rattle.chw_cli.proofs.Emitting.{emit_status, good_is_emitted}
 use Rattle.chw_cli.proofs.Normal.{normal_is_answered, normal_status}
-use Rattle.chw_cli.proofs.OneText.{HasNoFault, HasNoNameFault, HasNoTypeFault, OneDescription, OneFlatText, emit_status, flat_is_emitted, misses_one, one_text_is_answered, text_status, whole_text}
+use Rattle.compiled.specs.Laws.{NothingRefusesACompile}
+use Rattle.chw_cli.proofs.OneText.{HasNoFault, HasNoNameFault, HasNoTypeFault, OneDescription, misses_one, one_text_is_answered, text_status, whole_text}
 use Rattle.chw_cli.proofs.Runs.{NothingRefused, NothingWrong, misses_run, run_is_answered, run_status, whole_run}
 use Rattle.chw_cli.specs.Reads.{stimulus_in, verilog_in}
 
@@ -25,18 +27,18 @@ abbrev pub NotRefused : Type 0
 NotRefused = (files : Files) (command : Command) (texts : List (List ℕ)) (reads : List Read) (r : Refusal) → AreHeld files (wants command) texts
     → BreakNothing command texts → Held files command (wants command) reads → CommandAnswer command reads (Err r) → ⊥
 
-pub not_refused : OneFlatText → HasNoFault → OneDescription → HasNoNameFault → OneProgram → HasNoTypeFault → NothingRefusesANormalRun → OneLastState → NothingWrong → NothingRefused → NotRefused
-not_refused one sound same named alone typed_ normal last right taken files (Emit file budget) texts reads r held_texts breaks held_reads a =
-    one_text_is_answered sound same named alone typed_ HasGoodNet (λ text tree answer. EmitAnswer text answer)
-    (λ text tree r d suits e. flat_is_emitted one text r suits e) files (Emit file budget) (description_in file) texts reads r held_texts breaks held_reads a
-not_refused one sound same named alone typed_ normal last right taken files (Check file) texts reads r held_texts breaks held_reads a =
+pub not_refused : HasNoFault → OneDescription → HasNoNameFault → OneProgram → HasNoTypeFault → NothingRefusesANormalRun → OneLastState → NothingRefusesACompile → NothingWrong → NothingRefused → NotRefused
+not_refused sound same named alone typed_ normal last compiles right taken files (Emit file budget) texts reads r held_texts breaks held_reads a =
+    one_text_is_answered sound same named alone typed_ (IsCompilable budget) (λ text tree answer. EmitAnswer tree budget answer)
+    (λ text tree r d suits e. good_is_emitted same alone compiles budget text tree r d suits e) files (Emit file budget) (description_in file) texts reads r held_texts breaks held_reads a
+not_refused sound same named alone typed_ normal last compiles right taken files (Check file) texts reads r held_texts breaks held_reads a =
     one_text_is_answered sound same named alone typed_ (λ text. Unit {0}) (λ text tree answer. answer ≡ Ok (Text tree))
     (λ text tree r d suits e. cc) files (Check file) (description_in file) texts reads r held_texts breaks held_reads a
-not_refused one sound same named alone typed_ normal last right taken files (Normalise file budget) texts reads r held_texts breaks held_reads a =
+not_refused sound same named alone typed_ normal last compiles right taken files (Normalise file budget) texts reads r held_texts breaks held_reads a =
     one_text_is_answered sound same named alone typed_ (HasNormalRun budget) (λ text tree answer. NormaliseAnswer tree budget answer)
     (λ text tree r d suits e. normal_is_answered same alone normal last budget text tree r d suits e) files (Normalise file budget) (description_in file) texts reads r
     held_texts breaks held_reads a
-not_refused one sound same named alone typed_ normal last right taken files (Run verilog stimulus) texts reads r held_texts breaks held_reads a =
+not_refused sound same named alone typed_ normal last compiles right taken files (Run verilog stimulus) texts reads r held_texts breaks held_reads a =
     run_is_answered right taken files (Run verilog stimulus) (verilog_in verilog) (stimulus_in stimulus) texts reads r held_texts breaks held_reads a
 
 -- no command answers where one of its files is missing
@@ -46,7 +48,7 @@ NoAnswer = (files : Files) (command : Command) (reads : List Read) (answer : Res
 
 pub no_answer : NothingWrong → NoAnswer
 no_answer right files (Emit file budget) reads answer m h a =
-    misses_one files (Emit file budget) (description_in file) (λ text tree answer. EmitAnswer text answer) reads answer (λ text no. no) m h a
+    misses_one files (Emit file budget) (description_in file) (λ text tree answer. EmitAnswer tree budget answer) reads answer (λ text no. no) m h a
 no_answer right files (Check file) reads answer m h a =
     misses_one files (Check file) (description_in file) (λ text tree answer. answer ≡ Ok (Text tree)) reads answer (λ text no. no) m h a
 no_answer right files (Normalise file budget) reads answer m h a =
@@ -65,7 +67,8 @@ IsOwn _ = Unit {0}
 
 pub command_status : (command : Command) (reads : List Read) (r : Refusal) → CommandAnswer command reads (Err r) → IsOwn (status_of r)
 command_status (Emit file budget) reads r a =
-    text_status IsOwn tt (λ text tree answer. EmitAnswer text answer) (λ text tree r e. subst IsOwn (sym (emit_status text r e)) tt) reads r a
+    text_status IsOwn tt (λ text tree answer. EmitAnswer tree budget answer)
+    (λ text tree r e. emit_status IsOwn tt tt tree budget r e) reads r a
 command_status (Check file) reads r a = text_status IsOwn tt (λ text tree answer. answer ≡ Ok (Text tree)) (λ text tree r e. absurd (cc)) reads r a
 command_status (Normalise file budget) reads r a =
     text_status IsOwn tt (λ text tree answer. NormaliseAnswer tree budget answer) (λ text tree r e. normal_status IsOwn tt tt tree budget r e) reads r a
@@ -83,7 +86,7 @@ longer_status (Check file) _ (of_later _ _ r is) = elim is [ ]
 longer_status (Normalise file budget) _ (of_later _ _ r is) = elim is [ ]
 
 pub answers_whole : (command : Command) (reads : List Read) (answer : Result (List ℕ) Refusal) → CommandAnswer command reads answer → AreWhole reads
-answers_whole (Emit file budget) reads answer a = whole_text (λ text tree answer. EmitAnswer text answer) reads answer a
+answers_whole (Emit file budget) reads answer a = whole_text (λ text tree answer. EmitAnswer tree budget answer) reads answer a
 answers_whole (Check file) reads answer a = whole_text (λ text tree answer. answer ≡ Ok (Text tree)) reads answer a
 answers_whole (Normalise file budget) reads answer a = whole_text (λ text tree answer. NormaliseAnswer tree budget answer) reads answer a
 answers_whole (Run verilog stimulus) reads answer a = whole_run reads answer a

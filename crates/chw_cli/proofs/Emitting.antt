@@ -1,30 +1,66 @@
 -- The refusals of `emit`, by what was found.
-use Rattle.std.proofs.Common.{ℕ, List, inl, inr, refl}
-use Rattle.chw_base.specs.Outcome.{OfFault}
-use Rattle.chw_base.specs.declared.outcome.Or.{Or}
-use Rattle.chw_base.specs.declared.outcome.Or.TheVariants.{Memory, Fault}
-use Rattle.chw_cli.specs.Answer.{HasFewWires}
-use Rattle.chw_cli.specs.Answer.EmitAnswer.{form as emit_form, too_large as emit_too_large, loops as emit_loops}
-use Rattle.chw_cli.specs.Refusals.{RefusesEmit, RefusesNet, of_loop, of_not_flat}
-use Rattle.chw_cli.specs.Refusals.RefusesNet.{memory, too_large, loop}
+use Rattle.std.proofs.Common.{◌≡◌, ℕ, List, Result, Ok, Err, inl, inr, refl, sym, subst}
+use Rattle.chw_cli.specs.Answer.{CompileAnswer, EmitAnswer, HasProgram, IsTypedText, refusal_of_compile}
+use Rattle.chw_cli.specs.Answer.CompileAnswer.{compiled, not_compiled}
+use Rattle.chw_cli.specs.Exact.{IsCompilable}
+use Rattle.chw_cli.specs.Lines.{status_of}
+use Rattle.chw_cli.specs.Refusals.{IsCompileRefusal, RefusesCompile}
 use Rattle.chw_cli.specs.declared.refusal.Refusal.{Refusal}
-use Rattle.flat_form.specs.Grammar.{IsFlatText}
-use Rattle.flat_form.specs.declared.flat.NotFlat.{NotFlat}
-use Rattle.netlist.specs.Orders.{IsLoop}
-use Rattle.netlist.specs.declared.net.Loop.{Loop}
-use Rattle.flat_form.specs.declared.flat.FlatText.{FlatText}
-use Rattle.flat_form.specs.FlatNet.{flat_of}
+use Rattle.chw_cli.specs.declared.status.Status.{Status}
+use Rattle.chw_cli.specs.declared.status.Status.TheVariants as status
+use Rattle.chw_cli.proofs.Normal.{run_status}
+use Rattle.chw_cli.proofs.OneText.{OneDescription, one_program_of}
+use Rattle.chw_grammar.specs.declared.program.Tree.{Tree}
+use Rattle.chw_terms.specs.declared.program.Program.{Program}
+use Rattle.compiled.specs.Compiling.{IsCompileFault}
+use Rattle.compiled.specs.Laws.{NothingRefusesACompile}
+use Rattle.compiled.specs.declared.fault.CompileFault.{CompileFault}
+use Rattle.compiled.specs.declared.fault.CompileFault.TheVariants as compile
+use Rattle.data_kinds.specs.Laws.{OneProgram}
 
-pub loop_refuses : (f : FlatText) (e : Or Loop) → HasFewWires f → OfFault e (λ l. IsLoop (flat_of f) l.cycle) → RefusesNet f (of_loop e)
-loop_refuses f Memory few h = memory
-loop_refuses f (Fault l) few h = loop l.cycle few h
+-- the refusal of what is wrong with a program is the answer to it
+pub fault_refuses : (p : Program) (budget : ℕ) (fault : CompileFault) (r : Refusal)
+    → IsCompileFault p budget fault → IsCompileRefusal p fault r → RefusesCompile p budget r
+fault_refuses p budget fault r wrong (inl short) = inl short
+fault_refuses p budget fault r wrong (inr is) =
+    inr (subst (λ x. CompileAnswer p budget (Err x)) (sym is) (not_compiled fault wrong))
 
--- the refusal of a net is that of its text
-pub net_refuses_text : (text : List ℕ) (f : FlatText) (r : Refusal) → IsFlatText text f → RefusesNet f r → RefusesEmit text r
-net_refuses_text text f _ is memory = inl refl
-net_refuses_text text f _ is (too_large h) = inr (emit_too_large f is h)
-net_refuses_text text f _ is (loop cycle few h) = inr (emit_loops f cycle is few h)
+-- a program that is compiled to some net isn't refused
+compiled_is_emitted : NothingRefusesACompile → (budget : ℕ) (text : List ℕ) (h : IsCompilable budget text)
+    (r : Refusal) → CompileAnswer h.program budget (Err r) → ⊥
+compiled_is_emitted law budget text h r a = only refl a
+  where
+    only : {answer : Result (List ℕ) Refusal} → answer ≡ Err r → CompileAnswer h.program budget answer → ⊥
+    only e (not_compiled fault wrong) = law h.program budget h.net h.flat fault h.compiles wrong
+    only e (compiled net is) = absurd cc
 
-pub form_refuses : (text : List ℕ) (e : Or NotFlat) → OfFault e (λ _. (f : FlatText) → IsFlatText text f → ⊥) → RefusesEmit text (of_not_flat e)
-form_refuses text Memory h = inl refl
-form_refuses text (Fault n) h = inr (emit_form h)
+-- a description that breaks no restriction isn't refused
+pub good_is_emitted : OneDescription → OneProgram → NothingRefusesACompile → (budget : ℕ) (text : List ℕ) (tree : Tree)
+    (r : Refusal) → IsTypedText text tree → IsCompilable budget text → EmitAnswer tree budget (Err r) → ⊥
+good_is_emitted same alone law budget text tree r d h a =
+    let has : HasProgram tree h.program =
+    subst (λ (t : Tree). HasProgram t h.program) (same text h.tree tree h.description d.description) h.has in
+    let this : a.program ≡ h.program = one_program_of alone tree a.program h.program a.has has in
+    compiled_is_emitted law budget text h r (subst (λ q. CompileAnswer q budget (Err r)) this a.answers)
+
+-- the refusal of a program has one of two statuses
+compile_status : (P : Status → Type 0) → P status.Refused → P status.Spent → (p : Program) (fault : CompileFault)
+    → P (status_of (refusal_of_compile p fault))
+compile_status P refused over p (compile.Run fault) = run_status P refused over fault
+compile_status P refused over p (compile.State fault) = refused
+compile_status P refused over p compile.TooLarge = refused
+compile_status P refused over p (compile.Loop cycle) = refused
+
+answer_status : (P : Status → Type 0) → P status.Refused → P status.Spent → (p : Program) (budget : ℕ) (r : Refusal)
+    → CompileAnswer p budget (Err r) → P (status_of r)
+answer_status P refused over p budget r a = only refl a
+  where
+    only : {answer : Result (List ℕ) Refusal} → answer ≡ Err r → CompileAnswer p budget answer → P (status_of r)
+    only e (not_compiled fault wrong) =
+        let is : refusal_of_compile p fault ≡ r = cc in
+        subst (λ q. P (status_of q)) is (compile_status P refused over p fault)
+    only e (compiled net is) = absurd cc
+
+pub emit_status : (P : Status → Type 0) → P status.Refused → P status.Spent → (tree : Tree) (budget : ℕ) (r : Refusal)
+    → EmitAnswer tree budget (Err r) → P (status_of r)
+emit_status P refused over tree budget r a = answer_status P refused over a.program budget r a.answers

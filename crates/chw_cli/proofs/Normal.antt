@@ -73,7 +73,7 @@ normal_is_answered same alone law last budget text tree r d h a = only refl a
         law built p budget h.steps steps h.made fault (subst (λ q. ShallowRun built q h.steps h.made) one h.run)
         (subst (λ q. HasNoStep built q h.made) one h.ended) h.within ends
 
-run_status : (P : Status → Type 0) → P status.Refused → P status.Spent → (fault : RunFault) → P (status_of (refusal_of_run fault))
+pub run_status : (P : Status → Type 0) → P status.Refused → P status.Spent → (fault : RunFault) → P (status_of (refusal_of_run fault))
 run_status P refused over Depth = refused
 run_status P refused over Full = refused
 run_status P refused over (Spent n) = over

@@ -1,21 +1,18 @@
 -- What a command answers to the text of one description.
 use Rattle.std.proofs.Common.{◌≡◌, ℕ, ◌≤◌, List, [], ◌∷◌, length, Result, Err, refl, ap, sym, subst, ◌∙◌, arith}
 use Rattle.chw_base.specs.Files.{Files}
-use Rattle.chw_base.specs.declared.limits.TheConstants.{FLAT_WIRES}
-use Rattle.chw_cli.specs.Answer.{EmitAnswer, HasProgram, IsTypedText, IsWrongText, TextAnswer}
-use Rattle.chw_cli.specs.Answer.EmitAnswer.{form, too_large, loops, emitted}
+use Rattle.chw_cli.specs.Answer.{HasProgram, IsTypedText, IsWrongText, TextAnswer}
 use Rattle.chw_cli.specs.Answer.IsWrongText.{no_description, wrong_names, wrong_types}
 use Rattle.chw_cli.specs.Answer.TextAnswer.{wrong, typed}
 use Rattle.chw_cli.specs.Descriptions.{IsDescription, NoDescription}
 use Rattle.chw_cli.specs.Descriptions.NoDescription.{lex, syntax, depth}
-use Rattle.chw_cli.specs.Exact.{AreHeld, BreaksNone, HasGoodNet, Misses}
+use Rattle.chw_cli.specs.Exact.{AreHeld, BreaksNone, Misses}
 use Rattle.chw_cli.specs.Exact.AreHeld.{more}
 use Rattle.chw_cli.specs.Exact.BreaksNone.{typed as typed_text}
 use Rattle.chw_cli.specs.Exact.Misses.{here, later}
 use Rattle.chw_cli.specs.Lines.{status_of}
 use Rattle.chw_cli.specs.Reads.{GoesOn, Read, Wanted}
 use Rattle.chw_cli.specs.declared.refusal.Refusal.{Refusal}
-use Rattle.chw_cli.specs.declared.refusal.Refusal.TheVariants as refusal
 use Rattle.chw_cli.specs.declared.status.Status.{Status}
 use Rattle.chw_cli.specs.declared.status.Status.TheVariants as status
 use Rattle.chw_cli.proofs.Asking.{AreWhole, Held}
@@ -29,16 +26,9 @@ use Rattle.chw_terms.specs.Tidy.{IsTidy}
 use Rattle.chw_terms.specs.declared.program.Program.{Program}
 use Rattle.chw_typing.specs.Programs.{IsTyped}
 use Rattle.chw_words.specs.declared.command.Command.{Command}
-use Rattle.flat_form.specs.Grammar.{IsFlatText}
-use Rattle.flat_form.specs.declared.flat.FlatText.{FlatText}
-use Rattle.flat_form.specs.FlatNet.{flat_of}
-use Rattle.netlist.specs.Orders.{IsLoop}
 use Rattle.data_kinds.specs.Laws.{OneProgram}
 
--- a text is at most one flat description, and a description has no fault
-abbrev pub OneFlatText : Type 0
-OneFlatText = (text : List ℕ) (f g : FlatText) → IsFlatText text f → IsFlatText text g → f ≡ g
-
+-- a description has no fault
 abbrev pub HasNoFault : Type 0
 HasNoFault = (text : List ℕ) (tree : Tree) (r : Refusal) → IsDescription text tree → NoDescription text r → ⊥
 
@@ -56,16 +46,6 @@ HasNoTypeFault = (p : Program) (fault : TypeFault) → IsTidy p → IsTyped p �
 pub one_program_of : OneProgram → (tree : Tree) (p q : Program) → HasProgram tree p → HasProgram tree q → p ≡ q
 one_program_of one tree p q w v =
     one p q (w.is.domains ∙ sym v.is.domains) (w.is.resets ∙ sym v.is.resets) (v.is.datas ∙ sym w.is.datas) (w.is.defs ∙ sym v.is.defs) (w.is.top ∙ sym v.is.top) w.tidy v.tidy
-
--- a description that breaks no restriction isn't refused
-pub flat_is_emitted : OneFlatText → (text : List ℕ) (r : Refusal) → HasGoodNet text → EmitAnswer text (Err r) → ⊥
-flat_is_emitted one text r (f, is, few, no_loop) a = only refl a
-  where
-    only : {answer : Result (List ℕ) Refusal} → answer ≡ Err r → EmitAnswer text answer → ⊥
-    only e (form h) = h f is
-    only e (too_large g is' big) = let many = subst (λ d. length (flat_of d).widths ≤ FLAT_WIRES) (one text f g is is') few in absurd (omega arith)
-    only e (loops g cycle is' few' l) = no_loop cycle (subst (λ d. IsLoop (flat_of d) cycle) (one text g f is' is) l)
-    only e (emitted g is' can) = absurd (cc)
 
 -- a text that is typed isn't wrong
 typed_is_right : HasNoFault → OneDescription → HasNoNameFault → OneProgram → HasNoTypeFault → (text : List ℕ) (tree : Tree) (r : Refusal)
@@ -121,15 +101,6 @@ wrong_status : (text : List ℕ) (r : Refusal) → IsWrongText text r → status
 wrong_status text r (no_description _ n) = fault_status text r n
 wrong_status text _ (wrong_names t fault d n) = refl
 wrong_status text _ (wrong_types t p fault d w n) = refl
-
-pub emit_status : (text : List ℕ) (r : Refusal) → EmitAnswer text (Err r) → status_of r ≡ status.Refused
-emit_status text r a = only refl a
-  where
-    only : {answer : Result (List ℕ) Refusal} → answer ≡ Err r → EmitAnswer text answer → status_of r ≡ status.Refused
-    only e (form h) = let is : refusal.Form ≡ r = cc in sym (ap status_of is)
-    only e (too_large f is big) = let is' : refusal.TooLarge ≡ r = cc in sym (ap status_of is')
-    only e (loops f cycle is few l) = let is' : refusal.Loop cycle ≡ r = cc in sym (ap status_of is')
-    only e (emitted f is can) = absurd (cc)
 
 -- the status of a refusal of a text has this, where that of a wrong text has and those of its tree's answer have
 pub text_status : (P : Status → Type 0) → P status.Refused → (TreeAnswer : List ℕ → Tree → Result (List ℕ) Refusal → Type 0)

@@ -220,7 +220,7 @@ check_answers file text r (inl e) = inl e
 check_answers file text r (inr w) = inr (wrong text r w)
 
 -- so is what `emit` refuses of a description that is typed
-pub emit_refuses : (file text : List ℕ) (budget : ℕ) (tree : Tree) (r : Refusal) → IsTypedText text tree → RefusesEmit text r
+pub emit_refuses : (file text : List ℕ) (budget : ℕ) (tree : Tree) (r : Refusal) → IsTypedText text tree → RefusesEmit tree budget r
     → (r ≡ refusal.Memory) ⊎ CommandAnswer (Emit file budget) (whole text ∷ []) (Err r)
 emit_refuses file text budget tree r w (inl e) = inl e
 emit_refuses file text budget tree r w (inr a) = inr (typed text tree (Err r) w a)

@@ -1,19 +1,15 @@
 -- What the program answers to words, by what was read: bytes for `out`, or a refusal.
 use Rattle.std.specs.Prelude.{◌≡◌, ℕ, ◌<◌, ◌≤◌, List, [], ◌∷◌, length, map, Result, Ok, Err, ◌⊎◌}
-use Rattle.chw_base.specs.declared.limits.TheConstants.{FLAT_WIRES}
-use Rattle.chw_base.specs.declared.index.WireId.{WireId}
 use Rattle.chw_base.specs.declared.outcome.Or.{Or}
 use Rattle.chw_base.specs.declared.outcome.Or.TheVariants.{Fault}
 use Rattle.chw_base.specs.declared.shelf.Fetched.{Fetched}
 use Rattle.chw_base.specs.declared.shelf.Fetched.TheVariants.{TooLong, Absent}
 use Rattle.chw_base.specs.declared.shelf.ShelfFault.{ShelfFault}
-use Rattle.chw_clock.specs.Histories.{FitsPorts}
-use Rattle.chw_clock.specs.declared.event.Event.{Event}
 use Rattle.chw_cli.specs.Descriptions.{IsDescription, NoDescription}
 use Rattle.chw_cli.specs.Reads.{Read, Wanted, wants, whole}
 use Rattle.chw_cli.specs.Reads.Read.{fetched}
 use Rattle.chw_cli.specs.declared.refusal.Refusal.{Refusal}
-use Rattle.chw_cli.specs.declared.refusal.Refusal.TheVariants.{Words, Read as Unread, Names, Types, DeepBody, FullTable, Spent, State, Form, TooLarge, Loop, Stimulus, Verilog}
+use Rattle.chw_cli.specs.declared.refusal.Refusal.TheVariants.{Words, Read as Unread, Names, Types, DeepBody, FullTable, Spent, State, TooLarge, Loop, Stimulus, Verilog}
 use Rattle.chw_check.specs.Faults.{IsTypeFault}
 use Rattle.chw_check.specs.declared.fault.TypeFault.{TypeFault}
 use Rattle.chw_grammar.specs.declared.program.Tree.{Tree}
@@ -30,18 +26,19 @@ use Rattle.chw_typing.specs.Programs.{IsTyped}
 use Rattle.chw_words.specs.Commands.{IsCommand, AreNoCommand}
 use Rattle.chw_words.specs.declared.command.Command.{Command}
 use Rattle.chw_words.specs.declared.command.Command.TheVariants.{Emit, Check, Normalise, Run}
-use Rattle.flat_form.specs.FlatNet.{net_of}
-use Rattle.flat_form.specs.Grammar.{IsFlatText}
-use Rattle.flat_form.specs.declared.flat.FlatText.{FlatText}
-use Rattle.flat_form.specs.FlatNet.{flat_of}
-use Rattle.flat_law.specs.FlatOf.{SameBits}
 use Rattle.judge.specs.Lines.{state_line}
 use Rattle.judge.specs.States.{IsFinished, RefusesState}
 use Rattle.judge.specs.declared.states.StateFault.{StateFault}
-use Rattle.netlist.specs.Orders.{IsLoop}
 use Rattle.netlist.specs.declared.net.Flat.{Flat}
 use Rattle.norm_lines.specs.Lines.{normal_lines}
 use Rattle.rewriting.specs.Runs.{Step}
+use Rattle.compiled.specs.Compiling.{CompilesTo, IsCompileFault}
+use Rattle.compiled.specs.declared.fault.CompileFault.{CompileFault}
+use Rattle.compiled.specs.declared.fault.CompileFault.TheVariants as compile
+use Rattle.net_means.specs.Outputs.{NetMeans}
+use Rattle.net_rules.specs.WellFormed.{WellFormed}
+use Rattle.netlist.specs.Sound.{Sound}
+use Rattle.netlist.specs.declared.net.Net.{Net}
 use Rattle.chw_norm.specs.Rules.{built}
 use Rattle.run_answer.specs.Circuits.{CanRun, IsCircuitFault, IsRunBy}
 use Rattle.run_answer.specs.declared.fault.CircuitFault.{CircuitFault}
@@ -50,31 +47,6 @@ use Rattle.stimulus.specs.Stimulus.{IsStimFault}
 use Rattle.stimulus.specs.declared.fault.StimFault.{StimFault}
 use Rattle.verilog_text.specs.Text.{net_text}
 use Rattle.chw_resolve.specs.Programs.{IsProgramOf}
-
--- at every history of its ports the net of the description has, on its output, the bits that the description means
-abbrev pub HasTheBits : FlatText → Type 0
-HasTheBits f = (h : List Event) → FitsPorts (net_of f).ports h → SameBits f h
-
--- no wires of the flat net drive each other in a circle that passes no register and no RAM
-abbrev pub HasNoLoop : FlatText → Type 0
-HasNoLoop f = (cycle : List WireId) → IsLoop (flat_of f) cycle → ⊥
-
--- the flat net has no more wires than the limit
-abbrev pub HasFewWires : FlatText → Type 0
-HasFewWires f = length (flat_of f).widths ≤ FLAT_WIRES
-
--- the net of the description has no more wires than the limit, no loop, and the bits that the description means
-pub record CanBeEmitted (f : FlatText) : Type 0 where
-  pub few_wires : HasFewWires f
-  pub no_loop : HasNoLoop f
-  pub bits : HasTheBits f
-
--- the answer of `emit` to a description
-pub data EmitAnswer (text : List ℕ) : Result (List ℕ) Refusal → Type 0 where
-  form : ((f : FlatText) → IsFlatText text f → ⊥) → EmitAnswer text (Err Form)
-  too_large : (f : FlatText) → IsFlatText text f → FLAT_WIRES < length (flat_of f).widths → EmitAnswer text (Err TooLarge)
-  loops : (f : FlatText) (cycle : List WireId) → IsFlatText text f → HasFewWires f → IsLoop (flat_of f) cycle → EmitAnswer text (Err (Loop cycle))
-  emitted : (f : FlatText) → IsFlatText text f → CanBeEmitted f → EmitAnswer text (Ok (net_text (net_of f)))
 
 -- the names of the description are as they should be, and this is its program: the one that is tidy
 pub record HasProgram (tree : Tree) (p : Program) : Type 0 where
@@ -113,6 +85,35 @@ refusal_of_run run.Depth = DeepBody
 refusal_of_run run.Full = FullTable
 refusal_of_run (run.Spent steps) = Spent steps
 
+-- the refusal of a program that can't be compiled
+abbrev pub refusal_of_compile : Program → CompileFault → Refusal
+refusal_of_compile p (compile.Run fault) = refusal_of_run fault
+refusal_of_compile p (compile.State fault) = State (state_line p fault)
+refusal_of_compile p compile.TooLarge = TooLarge
+refusal_of_compile p (compile.Loop cycle) = Loop cycle
+
+-- the net is one that the program is compiled to by so many steps at most: it is well formed, its
+-- flat net is sound, and at each history of the program the outputs of that have the bits of what
+-- they mean
+pub record IsNetFor (p : Program) (budget : ℕ) (net : Net) : Type 0 where
+  pub flat : Flat
+  pub compiles : CompilesTo p budget net flat
+  pub well_formed : WellFormed net
+  pub sound : Sound flat
+  pub means : NetMeans p flat
+
+-- the answer of `emit` to a program: the text of such a net, or why it can't be compiled
+pub data CompileAnswer (p : Program) (budget : ℕ) : Result (List ℕ) Refusal → Type 0 where
+  not_compiled : (fault : CompileFault) → IsCompileFault p budget fault
+      → CompileAnswer p budget (Err (refusal_of_compile p fault))
+  compiled : (net : Net) → IsNetFor p budget net → CompileAnswer p budget (Ok (net_text net))
+
+-- the answer of `emit` to a description: that to its program
+pub record EmitAnswer (tree : Tree) (budget : ℕ) (answer : Result (List ℕ) Refusal) : Type 0 where
+  pub program : Program
+  pub has : HasProgram tree program
+  pub answers : CompileAnswer program budget answer
+
 -- the answer of `normalise` to a description: the lines of the run of its program, by so many steps
 -- at most, to a state in which none is left, and which is normal and acyclic; or why the run is
 -- refused, or the state to which it leads
@@ -147,7 +148,8 @@ pub data RunAnswer : List Read → Result (List ℕ) Refusal → Type 0 where
 
 -- the answer of a command to what it read, where that was whole
 abbrev pub CommandAnswer : Command → List Read → Result (List ℕ) Refusal → Type 0
-CommandAnswer (Emit file budget) = TextAnswer (λ text tree answer. EmitAnswer text answer)
+CommandAnswer (Emit file budget) =
+    TextAnswer (λ text tree answer. EmitAnswer tree budget answer)
 CommandAnswer (Check file) = TextAnswer (λ text tree answer. answer ≡ Ok (Text tree))
 CommandAnswer (Normalise file budget) =
     TextAnswer (λ text tree answer. NormaliseAnswer tree budget answer)

@@ -2,7 +2,7 @@
 use Rattle.std.specs.Prelude.{◌≡◌, ◌≤◌, ℕ, List, [], ◌∷◌, length, Option, Some, None, ◌⊎◌, IsSomeAnd}
 use Rattle.chw_base.specs.Files.{Files, file_of}
 use Rattle.chw_clock.specs.declared.event.Event.{Event}
-use Rattle.chw_cli.specs.Answer.{HasFewWires, HasNoLoop, HasProgram, IsTypedText}
+use Rattle.chw_cli.specs.Answer.{HasProgram, IsTypedText}
 use Rattle.chw_cli.specs.Descriptions.{IsDescription}
 use Rattle.chw_cli.specs.Reads.{GoesOn, Wanted, wants}
 use Rattle.chw_cli.specs.declared.status.Status.{Status}
@@ -14,10 +14,10 @@ use Rattle.chw_terms.specs.declared.scene.Made.{Made}
 use Rattle.chw_words.specs.Commands.{IsCommand, AreNoCommand}
 use Rattle.chw_words.specs.declared.command.Command.{Command}
 use Rattle.chw_words.specs.declared.command.Command.TheVariants.{Emit, Check, Normalise, Run}
-use Rattle.flat_form.specs.Grammar.{IsFlatText}
-use Rattle.flat_form.specs.declared.flat.FlatText.{FlatText}
 use Rattle.judge.specs.States.{IsFinished}
 use Rattle.netlist.specs.declared.net.Flat.{Flat}
+use Rattle.netlist.specs.declared.net.Net.{Net}
+use Rattle.compiled.specs.Compiling.{CompilesTo}
 use Rattle.rewriting.specs.Runs.{Step}
 use Rattle.rewriting.specs.Steps.{HasNoStep}
 use Rattle.chw_norm.specs.Rules.{built}
@@ -33,9 +33,15 @@ pub data BreaksNone (Suits : List ℕ → Type 0) : List (List ℕ) → Type 0 w
   typed : (text : List ℕ) (tree : Tree) → IsTypedText text tree → Suits text
       → BreaksNone Suits (text ∷ [])
 
--- the net of the text has no more wires than the limit, and no loop
-abbrev pub HasGoodNet : List ℕ → Type 0
-HasGoodNet text = (f : FlatText) × IsFlatText text f × HasFewWires f × HasNoLoop f
+-- the program of the text is compiled to some net by so many steps at most
+pub record IsCompilable (budget : ℕ) (text : List ℕ) : Type 0 where
+  pub tree : Tree
+  pub description : IsDescription text tree
+  pub program : Program
+  pub has : HasProgram tree program
+  pub net : Net
+  pub flat : Flat
+  pub compiles : CompilesTo program budget net flat
 
 -- the program of the text has a run of so many steps at most to a state in which no step is left,
 -- and which is normal and acyclic; no step leads to a body over the limit of depth, or to more made
@@ -59,7 +65,7 @@ pub data RunsWith : List (List ℕ) → Type 0 where
 
 -- the texts of the files of a command break no restriction
 abbrev pub BreakNothing : Command → List (List ℕ) → Type 0
-BreakNothing (Emit file budget) = BreaksNone HasGoodNet
+BreakNothing (Emit file budget) = BreaksNone (IsCompilable budget)
 BreakNothing (Check file) = BreaksNone (λ text. Unit {0})
 BreakNothing (Normalise file budget) = BreaksNone (HasNormalRun budget)
 BreakNothing (Run verilog stimulus) = RunsWith

@@ -4,7 +4,7 @@ use Rattle.std.specs.List.{flat_map}
 use Rattle.chw_base.specs.declared.limits.TheConstants.{DESCRIPTION_BYTES, FLAT_WIRES, MADE_DEFINITIONS, MADE_DEPTH, NESTING}
 use Rattle.chw_base.specs.declared.index.WireId.{WireId}
 use Rattle.chw_cli.specs.declared.refusal.Refusal.{Refusal}
-use Rattle.chw_cli.specs.declared.refusal.Refusal.TheVariants.{Words, Read, LongText, Lex, Syntax, Depth, Names, Types, DeepBody, FullTable, Spent, State, Form, Verilog, Stimulus, TooLarge, Loop, Write, Memory}
+use Rattle.chw_cli.specs.declared.refusal.Refusal.TheVariants.{Words, Read, LongText, Lex, Syntax, Depth, Names, Types, DeepBody, FullTable, Spent, State, Verilog, Stimulus, TooLarge, Loop, Write, Memory}
 use Rattle.chw_cli.specs.declared.status.Status.{Status}
 use Rattle.chw_check.specs.declared.fault.TypeFault.{TypeFault}
 use Rattle.chw_check.specs.declared.fault.TypeFault.TheVariants.{Kind, Typing, Missing, NoDefault, NotPorts}
@@ -41,7 +41,6 @@ status_of DeepBody = status.Refused
 status_of FullTable = status.Refused
 status_of (Spent steps) = status.Spent
 status_of (State line) = status.Refused
-status_of Form = status.Refused
 status_of (Verilog fault) = status.Verilog
 status_of (Stimulus fault) = status.Stimulus
 status_of TooLarge = status.Refused
@@ -115,7 +114,6 @@ line_of DeepBody = codes "chw: E12 depth " ++ decimal MADE_DEPTH ++ codes "\n"
 line_of FullTable = codes "chw: E17 size made " ++ decimal MADE_DEFINITIONS ++ codes "\n"
 line_of (Spent steps) = codes "chw: E18 spent " ++ decimal steps ++ codes "\n"
 line_of (State line) = line
-line_of Form = codes "chw: E20 form at 0\n"
 line_of (Verilog fault) = rule_words fault.code ++ decimal fault.at ++ codes "\n"
 line_of (Stimulus fault) = stim_words fault.code ++ decimal fault.line ++ codes "\n"
 line_of TooLarge = codes "chw: E17 size wires " ++ decimal FLAT_WIRES ++ codes "\n"

@@ -1,10 +1,8 @@
 -- How the refusals of other crates become refusals of the program, and why a description is refused.
-use Rattle.std.specs.Prelude.{◌≡◌, ◌<◌, ℕ, List, length, Err, ◌⊎◌}
-use Rattle.chw_base.specs.declared.index.WireId.{WireId}
-use Rattle.chw_base.specs.declared.limits.TheConstants.{FLAT_WIRES}
+use Rattle.std.specs.Prelude.{◌≡◌, ℕ, List, Err, ◌⊎◌}
 use Rattle.chw_base.specs.declared.outcome.Or.{Or}
 use Rattle.chw_base.specs.declared.outcome.Or.TheVariants.{Memory, Fault}
-use Rattle.chw_cli.specs.Answer.{EmitAnswer, HasFewWires, IsWrongText, NormaliseAnswer, refusal_of, refusal_of_run}
+use Rattle.chw_cli.specs.Answer.{CompileAnswer, EmitAnswer, IsWrongText, NormaliseAnswer, refusal_of, refusal_of_compile, refusal_of_run}
 use Rattle.chw_cli.specs.Descriptions.{NoDescription}
 use Rattle.chw_cli.specs.declared.refusal.Refusal.{Refusal}
 use Rattle.chw_cli.specs.declared.refusal.Refusal.TheVariants as refusal
@@ -16,17 +14,13 @@ use Rattle.chw_grammar.specs.declared.program.Tree.{Tree}
 use Rattle.chw_norm.specs.declared.running.RunFault.{RunFault}
 use Rattle.chw_resolve.specs.declared.fault.NameFault.{NameFault}
 use Rattle.chw_words.specs.declared.command.WordsFault.{WordsFault}
-use Rattle.flat_form.specs.declared.flat.FlatText.{FlatText}
-use Rattle.flat_form.specs.declared.flat.NotFlat.{NotFlat}
-use Rattle.flat_form.specs.FlatNet.{flat_of}
+use Rattle.compiled.specs.declared.fault.CompileFault.{CompileFault}
 use Rattle.chw_terms.specs.declared.program.Program.{Program}
 use Rattle.chw_terms.specs.declared.scene.Made.{Made}
 use Rattle.judge.specs.Lines.{state_line}
 use Rattle.judge.specs.States.{RefusesState}
 use Rattle.judge.specs.declared.states.StateFault.{StateFault}
-use Rattle.netlist.specs.Orders.{IsLoop}
 use Rattle.netlist.specs.declared.net.Flat.{Flat}
-use Rattle.netlist.specs.declared.net.Loop.{Loop}
 use Rattle.run_answer.specs.Circuits.{IsCircuitFault}
 use Rattle.run_answer.specs.declared.fault.CircuitFault.{CircuitFault}
 use Rattle.stimulus.specs.Stimulus.{IsStimFault}
@@ -57,14 +51,6 @@ abbrev pub of_run_fault : Or RunFault → Refusal
 of_run_fault Memory = refusal.Memory
 of_run_fault (Fault f) = refusal_of_run f
 
-abbrev pub of_not_flat : Or NotFlat → Refusal
-of_not_flat Memory = refusal.Memory
-of_not_flat (Fault f) = refusal.Form
-
-abbrev pub of_loop : Or Loop → Refusal
-of_loop Memory = refusal.Memory
-of_loop (Fault l) = refusal.Loop l.cycle
-
 abbrev pub of_circuit_fault : Or CircuitFault → Refusal
 of_circuit_fault Memory = refusal.Memory
 of_circuit_fault (Fault f) = refusal_of f
@@ -73,15 +59,17 @@ abbrev pub of_stim_fault : Or StimFault → Refusal
 of_stim_fault Memory = refusal.Memory
 of_stim_fault (Fault f) = refusal.Stimulus f
 
--- why the net of a description isn't emitted: want of memory, too many wires, or a loop
-pub data RefusesNet (f : FlatText) : Refusal → Type 0 where
-  memory : RefusesNet f refusal.Memory
-  too_large : FLAT_WIRES < length (flat_of f).widths → RefusesNet f refusal.TooLarge
-  loop : (cycle : List WireId) → HasFewWires f → IsLoop (flat_of f) cycle → RefusesNet f (refusal.Loop cycle)
+-- the refusal of a program that can't be compiled: its own, or want of memory
+abbrev pub IsCompileRefusal : Program → CompileFault → Refusal → Type 0
+IsCompileRefusal p fault r = (r ≡ refusal.Memory) ⊎ (r ≡ refusal_of_compile p fault)
+
+-- why a program isn't compiled: want of memory, or the refusal is the answer
+abbrev pub RefusesCompile : Program → ℕ → Refusal → Type 0
+RefusesCompile p budget r = (r ≡ refusal.Memory) ⊎ CompileAnswer p budget (Err r)
 
 -- why a description isn't emitted: want of memory, or the refusal is the answer
-abbrev pub RefusesEmit : List ℕ → Refusal → Type 0
-RefusesEmit text r = (r ≡ refusal.Memory) ⊎ EmitAnswer text (Err r)
+abbrev pub RefusesEmit : Tree → ℕ → Refusal → Type 0
+RefusesEmit tree budget r = (r ≡ refusal.Memory) ⊎ EmitAnswer tree budget (Err r)
 
 -- the refusal of a state that is at fault: its line, or want of memory
 abbrev pub IsRefusalOf : Program → StateFault → Refusal → Type 0

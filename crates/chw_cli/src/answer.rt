@@ -45,7 +45,7 @@ fn emit<F: Shelf>(
     ensures refuses { IfErr result (Refuses (Asks F.fetch_gives F.told F.faults words.now shelf.old shelf.new) words.now) }
 {
     let description = read_description(alloc, file, shelf)?;
-    emitted(alloc, description.text.as_slice())
+    emitted(alloc, &description, budget)
 }
 
 /// The answer of `check` to the description in a file.

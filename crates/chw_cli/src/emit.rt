@@ -1,47 +1,57 @@
 //! The command `emit`: the Verilog text of a description.
-ghost use Rattle.std.specs.Prelude.{◌≡◌, ◌≤◌, length, Ok, IfOk, IfErr, OnOk};
-ghost use Rattle.chw_base.specs.declared.limits.TheConstants.{DESCRIPTION_BYTES};
-ghost use Rattle.chw_cli.specs.Answer.{EmitAnswer, CanBeEmitted};
-ghost use Rattle.chw_cli.specs.Refusals.{RefusesEmit, RefusesNet};
-ghost use Rattle.flat_form.specs.FlatNet.{flat_of};
-ghost use Rattle.flat_form.specs.Holds.{Holds};
+ghost use Rattle.std.specs.Prelude.{◌≡◌, Ok, IfOk, IfErr};
+ghost use Rattle.chw_cli.specs.Answer.{CompileAnswer, EmitAnswer, HasProgram};
+ghost use Rattle.chw_cli.specs.Refusals.{IsCompileRefusal, RefusesCompile, RefusesEmit};
+ghost use Rattle.chw_terms.specs.Tidy.{IsTidy};
+ghost use Rattle.chw_typing.specs.Programs.{IsTyped};
 
+use crate::describe::Description;
+use crate::normalise::refusal_of_state;
 use crate::refusal::Refusal;
-use chw_base::limits::FLAT_WIRES;
-use flat_form::FlatText;
-use flat_law::laws::{net_has_the_bits, net_is_sound};
-use netlist::Flat;
-use netlist::laws::an_order_excludes_loops;
-use netlist::ordering::order;
+use chw_base::Or;
+use chw_norm::RunFault;
+use chw_terms::Program;
+use compiled::{CompileFault, compile};
 use std::alloc::Global;
+use verilog_print::print;
 
-/// The Verilog text of the description, or why there is none.
-pub(crate) fn emitted(alloc: Global, text: &[u8]) -> Result<Vec<u8>, Refusal>
-    requires { length text.now ≤ DESCRIPTION_BYTES }
-    ensures emitted { IfOk result (λ bytes. EmitAnswer text.now (Ok bytes.items)) }
-    ensures refused { IfErr result (RefusesEmit text.now) }
+/// The Verilog text of a description, by so many steps of rewriting at most, or why there is none.
+pub(crate) fn emitted(
+    alloc: Global,
+    description: &Description,
+    budget: u32,
+) -> Result<Vec<u8>, Refusal>
+    requires { HasProgram description.now.tree description.now.checked }
+    ensures emitted { IfOk result (λ bytes. EmitAnswer description.now.tree budget (Ok bytes.items)) }
+    ensures refused { IfErr result (RefusesEmit description.now.tree budget) }
 {
-    let description = flat_form::read(alloc, text)?;
-    let flat = flat_form::flat_net(alloc, &description)?;
-    check(alloc, &description, &flat)?;
-    let net = flat_form::net(alloc, &description, flat)?;
-    let bytes = verilog_print::print(alloc, &net)?;
-    Ok(bytes)
+    text_of(alloc, description.checked.program(), budget)
 }
 
-/// Whether the net of the description can be emitted: it has no more wires than the limit, and no loop.
-fn check(alloc: Global, description: &FlatText, flat: &Flat) -> Result<(), Refusal>
-    requires holds { Holds description.now }
-    requires flat { flat.now ≡ flat_of description.now }
-    ensures ok { OnOk result (CanBeEmitted description.now) }
-    ensures refused { IfErr result (RefusesNet description.now) }
+// The Verilog text of the net that a program is compiled to.
+fn text_of(alloc: Global, program: &Program, budget: u32) -> Result<Vec<u8>, Refusal>
+    requires tidy { IsTidy program.now }
+    requires typed { IsTyped program.now }
+    ensures emitted { IfOk result (λ bytes. CompileAnswer program.now budget (Ok bytes.items)) }
+    ensures refused { IfErr result (RefusesCompile program.now budget) }
 {
-    if flat.widths.len() > FLAT_WIRES as usize {
-        return Err(Refusal::TooLarge);
+    match compile(alloc, program, budget) {
+        Ok(made) => Ok(print(alloc, &made.net)?),
+        Err(Or::Fault(fault)) => Err(refusal_of_compile(alloc, program, fault)),
+        Err(Or::Memory) => Err(Refusal::Memory),
     }
-    net_is_sound();
-    order(alloc, flat)?;
-    net_has_the_bits();
-    an_order_excludes_loops();
-    Ok(())
+}
+
+// The refusal of a program that can't be compiled.
+fn refusal_of_compile(alloc: Global, program: &Program, fault: CompileFault) -> Refusal
+    ensures { IsCompileRefusal program.now fault result }
+{
+    match fault {
+        CompileFault::Run(RunFault::Depth) => Refusal::DeepBody,
+        CompileFault::Run(RunFault::Full) => Refusal::FullTable,
+        CompileFault::Run(RunFault::Spent { steps }) => Refusal::Spent(steps),
+        CompileFault::State(fault) => refusal_of_state(alloc, program, &fault),
+        CompileFault::TooLarge => Refusal::TooLarge,
+        CompileFault::Loop(cycle) => Refusal::Loop(cycle),
+    }
 }

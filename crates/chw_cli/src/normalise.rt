@@ -80,8 +80,8 @@ fn judged(alloc: Global, scene: &Scene) -> Result<(), Or<StateFault>>
     }
 }
 
-// A refused state as a refusal with its line.
-fn refusal_of_state(alloc: Global, program: &Program, fault: &StateFault) -> Refusal
+/// A refused state as a refusal with its line.
+pub(crate) fn refusal_of_state(alloc: Global, program: &Program, fault: &StateFault) -> Refusal
     ensures { IsRefusalOf program.now fault.now result }
 {
     match state_line(alloc, program, fault) {

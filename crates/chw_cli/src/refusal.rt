@@ -1,6 +1,6 @@
 //! Why the program gave no answer.
 ghost use Rattle.std.specs.Prelude.{◌≡◌};
-ghost use Rattle.chw_cli.specs.Refusals.{of_circuit_fault, of_lex_fault, of_loop, of_name_fault, of_not_flat, of_parse_fault, of_run_fault, of_stim_fault, of_type_fault, of_words_fault};
+ghost use Rattle.chw_cli.specs.Refusals.{of_circuit_fault, of_lex_fault, of_name_fault, of_parse_fault, of_run_fault, of_stim_fault, of_type_fault, of_words_fault};
 ghost use Rattle.chw_cli.specs.declared.refusal.Refusal.TheVariants.{Memory};
 
 use chw_base::{Name, NoMemory, Or, Seq, WireId};
@@ -10,8 +10,6 @@ use chw_norm::RunFault;
 use chw_parser::ParseFault;
 use chw_resolve::NameFault;
 use chw_words::WordsFault;
-use flat_form::NotFlat;
-use netlist::Loop;
 use run_answer::CircuitFault;
 use stimulus::StimFault;
 use verilog_rules::VFault;
@@ -43,8 +41,6 @@ pub enum Refusal {
     Spent(u32),
     /// No step is left, and the state isn't a normal one of which no made definition uses itself: the line that says why.
     State(Name),
-    /// The text isn't of the flat form.
-    Form,
     /// The Verilog text denotes no net: the first rule that it breaks, and where.
     Verilog(VFault),
     /// The text is no stimulus for the ports of the net: the first line that isn't taken, and why.
@@ -132,28 +128,6 @@ impl From<Or<RunFault>> for Refusal {
             Or::Fault(RunFault::Depth) => Refusal::DeepBody,
             Or::Fault(RunFault::Full) => Refusal::FullTable,
             Or::Fault(RunFault::Spent { steps }) => Refusal::Spent(steps),
-        }
-    }
-}
-
-impl From<Or<NotFlat>> for Refusal {
-    ghost from_gives = { λ e r. r ≡ of_not_flat e };
-
-    fn from(error: Or<NotFlat>) -> Refusal {
-        match error {
-            Or::Memory => Refusal::Memory,
-            Or::Fault(_) => Refusal::Form,
-        }
-    }
-}
-
-impl From<Or<Loop>> for Refusal {
-    ghost from_gives = { λ e r. r ≡ of_loop e };
-
-    fn from(error: Or<Loop>) -> Refusal {
-        match error {
-            Or::Memory => Refusal::Memory,
-            Or::Fault(Loop { cycle }) => Refusal::Loop(cycle),
         }
     }
 }

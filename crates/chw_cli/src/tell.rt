@@ -64,7 +64,6 @@ pub(crate) fn tell<E: Sink>(alloc: Global, refusal: &Refusal, err: &mut E) -> St
             err,
         ),
         Refusal::State(line) => put_bytes(alloc, line.as_slice(), Status::Refused, err),
-        Refusal::Form => put_line(alloc, "chw: E20 form at 0\n", Status::Refused, err),
         Refusal::TooLarge => put_line(alloc, "chw: E17 size wires 200000\n", Status::Refused, err),
         Refusal::Loop(cycle) => tell_loop(alloc, cycle, err),
         Refusal::Write => put_line(alloc, "chw: write\n", Status::Write, err),

@@ -18,8 +18,8 @@ use chw_norm::laws::{nothing_refuses_a_normal_run, one_last_state};
 use chw_parser::laws::one_tree;
 use chw_resolve::laws::well_named_has_no_fault;
 use chw_words::laws::words_are_one_command;
+use compiled::laws::nothing_refuses_a_compile;
 use data_kinds::kind_laws::one_program;
-use flat_form::one_description;
 use run_answer::laws::nothing_refuses_a_run;
 use std::alloc::Global;
 
@@ -42,7 +42,6 @@ pub fn top<F: Shelf, K: Sink, E: Sink>(
         result }
     ensures exact { IsExact (F.told shelf.old) words.now (Rose (F.faults shelf.old) (F.faults shelf.new)) (Rose (K.faults out.old) (K.faults out.new)) result }
 {
-    one_description();
     words_are_one_command();
     no_fault();
     one_splitting();
@@ -52,6 +51,7 @@ pub fn top<F: Shelf, K: Sink, E: Sink>(
     typed_has_no_fault();
     nothing_refuses_a_normal_run();
     one_last_state();
+    nothing_refuses_a_compile();
     nothing_refuses_a_run();
     match answer(alloc, words, shelf) {
         Ok(bytes) => match deliver(alloc, bytes.as_slice(), out) {

@@ -1,4 +1,4 @@
-use Rattle.std.proofs.Common.{[], Ok, refl, subst}
+use Rattle.std.proofs.Common.{[], Ok, refl}
 use Rattle.std.proofs.lemmas.Result.{IfErr-weaker, IfOk-weaker, err_from_is_err_and}
 use Rattle.chw_cli.specs.Answer.{EmitAnswer}
 use Rattle.chw_cli.specs.Answer.TextAnswer.{typed}
@@ -19,17 +19,17 @@ returns-in_err-description-clause-refuses g c =
 pub returns-clause-answers : goal.returns-clause-answers
 returns-clause-answers g c =
     let d = c.in_ok-description.description in
-    IfOk-weaker c.emitted.result (λ bytes. EmitAnswer c.as_slice.result.now (Ok bytes.items)) _
+    IfOk-weaker c.emitted.result (λ bytes. EmitAnswer d.tree c.args.budget (Ok bytes.items)) _
     (λ bytes a. text_answers g.F.Shelf.fetch_gives g.F.Shelf.told g.F.Shelf.faults c.args.words.now c.args.shelf.now c.read_description.new.shelf (Emit c.args.file.now c.args.budget)
     (description_in c.args.file.now) [] c.requires refl d.text.items bytes.items c.in_ok-description.ensures.read
-    (typed d.text.items d.tree (Ok bytes.items) c.in_ok-description.ensures.typed (subst (λ t. EmitAnswer t (Ok bytes.items)) c.as_slice.ensures.value a)))
+    (typed d.text.items d.tree (Ok bytes.items) c.in_ok-description.ensures.typed a))
     c.emitted.ensures.emitted
 
 pub returns-clause-refuses : goal.returns-clause-refuses
 returns-clause-refuses g c =
     let d = c.in_ok-description.description in
-    IfErr-weaker c.emitted.result (RefusesEmit c.as_slice.result.now) _
+    IfErr-weaker c.emitted.result (RefusesEmit d.tree c.args.budget) _
     (λ r e. text_refuses g.F.Shelf.fetch_gives g.F.Shelf.told g.F.Shelf.faults c.args.words.now c.args.shelf.now c.read_description.new.shelf (Emit c.args.file.now c.args.budget)
     (description_in c.args.file.now) [] c.requires refl d.text.items r c.in_ok-description.ensures.read
-    (emit_refuses c.args.file.now d.text.items c.args.budget d.tree r c.in_ok-description.ensures.typed (subst (λ t. RefusesEmit t r) c.as_slice.ensures.value e)))
+    (emit_refuses c.args.file.now d.text.items c.args.budget d.tree r c.in_ok-description.ensures.typed e))
     c.emitted.ensures.refused

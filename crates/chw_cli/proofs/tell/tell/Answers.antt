@@ -12,10 +12,6 @@ pub returns-in-LongText : goal.returns-in-LongText
 returns-in-LongText g c =
     told_by g.E.Sink.put_gives g.E.Sink.written g.E.Sink.faults c.args.refusal.now _ c.in-LongText.is _ ⊥ _ _ _ _ (sym long_text_line) refl (λ no. absurd no) c.put_line-in-LongText.ensures
 
-pub returns-in-Form : goal.returns-in-Form
-returns-in-Form g c =
-    told_by g.E.Sink.put_gives g.E.Sink.written g.E.Sink.faults c.args.refusal.now _ c.in-Form.is _ ⊥ _ _ _ _ refl refl (λ no. absurd no) c.put_line-in-Form.ensures
-
 pub returns-in-TooLarge : goal.returns-in-TooLarge
 returns-in-TooLarge g c =
     told_by g.E.Sink.put_gives g.E.Sink.written g.E.Sink.faults c.args.refusal.now _ c.in-TooLarge.is _ ⊥ _ _ _ _ (sym too_large_line) refl (λ no. absurd no) c.put_line-in-TooLarge.ensures

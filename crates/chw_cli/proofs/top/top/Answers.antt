@@ -33,8 +33,8 @@ returns-clause-outcome g c = refused c.in-Err.refusal c.tell-in-Err.result c.in-
 
 pub returns-in-Ok-deliver-clause-exact : goal.returns-in-Ok-deliver-clause-exact
 returns-in-Ok-deliver-clause-exact g c =
-    exact_by _ _ _ _ c.words_are_one_command.ensures (not_refused c.one_description.ensures (has_no_fault c.one_splitting.ensures c.no_fault.ensures c.one_tree.ensures)
-    (same_description c.one_splitting.ensures c.one_tree.ensures) c.well_named_has_no_fault.ensures c.one_program.ensures c.typed_has_no_fault.ensures c.nothing_refuses_a_normal_run.ensures c.one_last_state.ensures c.nothing_refuses_a_run.ensures.text
+    exact_by _ _ _ _ c.words_are_one_command.ensures (not_refused (has_no_fault c.one_splitting.ensures c.no_fault.ensures c.one_tree.ensures)
+    (same_description c.one_splitting.ensures c.one_tree.ensures) c.well_named_has_no_fault.ensures c.one_program.ensures c.typed_has_no_fault.ensures c.nothing_refuses_a_normal_run.ensures c.one_last_state.ensures c.nothing_refuses_a_compile.ensures c.nothing_refuses_a_run.ensures.text
     c.nothing_refuses_a_run.ensures.stimulus) (no_answer c.nothing_refuses_a_run.ensures.text) _
     (reason _ _ _ _ _ _ _ _ _ _
     (cause g.F.Shelf.fetch_gives g.F.Shelf.told g.F.Shelf.faults c.args.words.now c.args.shelf.now c.answer.new.shelf c.words_are_one_command.ensures)
@@ -42,8 +42,8 @@ returns-in-Ok-deliver-clause-exact g c =
 
 pub returns-in-Err-Fault-clause-exact : goal.returns-in-Err-Fault-clause-exact
 returns-in-Err-Fault-clause-exact g c =
-    exact_by _ _ _ _ c.words_are_one_command.ensures (not_refused c.one_description.ensures (has_no_fault c.one_splitting.ensures c.no_fault.ensures c.one_tree.ensures)
-    (same_description c.one_splitting.ensures c.one_tree.ensures) c.well_named_has_no_fault.ensures c.one_program.ensures c.typed_has_no_fault.ensures c.nothing_refuses_a_normal_run.ensures c.one_last_state.ensures c.nothing_refuses_a_run.ensures.text
+    exact_by _ _ _ _ c.words_are_one_command.ensures (not_refused (has_no_fault c.one_splitting.ensures c.no_fault.ensures c.one_tree.ensures)
+    (same_description c.one_splitting.ensures c.one_tree.ensures) c.well_named_has_no_fault.ensures c.one_program.ensures c.typed_has_no_fault.ensures c.nothing_refuses_a_normal_run.ensures c.one_last_state.ensures c.nothing_refuses_a_compile.ensures c.nothing_refuses_a_run.ensures.text
     c.nothing_refuses_a_run.ensures.stimulus) (no_answer c.nothing_refuses_a_run.ensures.text) _
     (reason _ _ _ _ _ _ _ _ _ _
     (cause g.F.Shelf.fetch_gives g.F.Shelf.told g.F.Shelf.faults c.args.words.now c.args.shelf.now c.answer.new.shelf c.words_are_one_command.ensures)
@@ -51,8 +51,8 @@ returns-in-Err-Fault-clause-exact g c =
 
 pub returns-in-Ok-clause-exact : goal.returns-in-Ok-clause-exact
 returns-in-Ok-clause-exact g c =
-    exact_by _ _ _ _ c.words_are_one_command.ensures (not_refused c.one_description.ensures (has_no_fault c.one_splitting.ensures c.no_fault.ensures c.one_tree.ensures)
-    (same_description c.one_splitting.ensures c.one_tree.ensures) c.well_named_has_no_fault.ensures c.one_program.ensures c.typed_has_no_fault.ensures c.nothing_refuses_a_normal_run.ensures c.one_last_state.ensures c.nothing_refuses_a_run.ensures.text
+    exact_by _ _ _ _ c.words_are_one_command.ensures (not_refused (has_no_fault c.one_splitting.ensures c.no_fault.ensures c.one_tree.ensures)
+    (same_description c.one_splitting.ensures c.one_tree.ensures) c.well_named_has_no_fault.ensures c.one_program.ensures c.typed_has_no_fault.ensures c.nothing_refuses_a_normal_run.ensures c.one_last_state.ensures c.nothing_refuses_a_compile.ensures c.nothing_refuses_a_run.ensures.text
     c.nothing_refuses_a_run.ensures.stimulus) (no_answer c.nothing_refuses_a_run.ensures.text) _
     (reason _ _ _ _ _ _ _ _ _ _
     (cause g.F.Shelf.fetch_gives g.F.Shelf.told g.F.Shelf.faults c.args.words.now c.args.shelf.now c.answer.new.shelf c.words_are_one_command.ensures)
@@ -60,8 +60,8 @@ returns-in-Ok-clause-exact g c =
 
 pub returns-clause-exact : goal.returns-clause-exact
 returns-clause-exact g c =
-    exact_by _ _ _ _ c.words_are_one_command.ensures (not_refused c.one_description.ensures (has_no_fault c.one_splitting.ensures c.no_fault.ensures c.one_tree.ensures)
-    (same_description c.one_splitting.ensures c.one_tree.ensures) c.well_named_has_no_fault.ensures c.one_program.ensures c.typed_has_no_fault.ensures c.nothing_refuses_a_normal_run.ensures c.one_last_state.ensures c.nothing_refuses_a_run.ensures.text
+    exact_by _ _ _ _ c.words_are_one_command.ensures (not_refused (has_no_fault c.one_splitting.ensures c.no_fault.ensures c.one_tree.ensures)
+    (same_description c.one_splitting.ensures c.one_tree.ensures) c.well_named_has_no_fault.ensures c.one_program.ensures c.typed_has_no_fault.ensures c.nothing_refuses_a_normal_run.ensures c.one_last_state.ensures c.nothing_refuses_a_compile.ensures c.nothing_refuses_a_run.ensures.text
     c.nothing_refuses_a_run.ensures.stimulus) (no_answer c.nothing_refuses_a_run.ensures.text) _
     (reason _ _ _ _ _ _ _ _ _ _
     (cause g.F.Shelf.fetch_gives g.F.Shelf.told g.F.Shelf.faults c.args.words.now c.args.shelf.now c.answer.new.shelf c.words_are_one_command.ensures)

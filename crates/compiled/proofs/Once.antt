@@ -1,0 +1,86 @@
+-- A program is compiled to one net, and then nothing refuses it.
+use Rattle.std.proofs.Common.{◌≡◌, ℕ, ◌≤◌, ◌<◌, List, length, refl, ap, subst, arith}
+use Rattle.chw_base.specs.declared.limits.TheConstants.{FLAT_WIRES}
+use Rattle.chw_terms.specs.declared.program.Program.{Program}
+use Rattle.chw_terms.specs.declared.scene.Made.{Made}
+use Rattle.chw_norm.specs.Laws.{NothingRefusesANormalRun, OneLastState}
+use Rattle.chw_norm.specs.Rules.{built}
+use Rattle.judge.specs.States.{IsFinished, RefusesState, place_of}
+use Rattle.judge.specs.declared.states.StateFault.{StateFault}
+use Rattle.judge.specs.declared.states.StateFault.TheVariants.{Blocked, Stuck, Uses}
+use Rattle.net_built.specs.Built.{Built}
+use Rattle.net_built.specs.Laws.{OneNetBuilt}
+use Rattle.net_flat.specs.Flattened.{IsFlatOf, widths_in}
+use Rattle.netlist.specs.Orders.{IsLoop}
+use Rattle.netlist.specs.declared.net.Flat.{Flat}
+use Rattle.netlist.specs.declared.net.Net.{Net}
+use Rattle.compiled.specs.Compiling.{EndsIn, HasCircuit, HasManyWires, HasNet, IsNetFault}
+use Rattle.compiled.specs.Compiling.IsCompileFault.{not_normalised, not_finished, no_circuit}
+use Rattle.compiled.specs.Compiling.IsNetFault.{too_large, loops}
+use Rattle.compiled.specs.Laws.{NothingRefusesACompile, OneCompiled}
+use Rattle.compiled.specs.declared.fault.CompileFault.{CompileFault}
+use Rattle.compiled.proofs.Ends.{leads}
+
+-- a net has one flat net
+abbrev pub OneFlat : Type 0
+OneFlat = (net : Net) (a b : Flat) → IsFlatOf net a → IsFlatOf net b → a ≡ b
+
+-- runs of one program end in one state
+same_state : OneLastState → (p : Program) (budget other : ℕ) (a b : List Made)
+    → EndsIn p budget a → EndsIn p other b → a ≡ b
+same_state one p budget other a b x y =
+    let left = leads refl x.ends in
+    let right = leads refl y.ends in
+    one built p x.steps y.steps a b left.0 left.1 right.0 right.1
+
+-- of which one net is built
+same_net : OneLastState → OneNetBuilt → (p : Program) (budget other : ℕ) (a b : Net)
+    → HasNet p budget a → HasNet p other b → a ≡ b
+same_net one once p budget other a b x y =
+    once p x.state a b x.finished.normal x.is
+    (subst (λ s. Built p s b) (same_state one p other budget y.state x.state y.run x.run) y.is)
+
+pub one_compiled : OneLastState → OneNetBuilt → OneFlat → OneCompiled
+one_compiled one once flat_once p budget other a b f g x y =
+    let same = same_net one once p budget other a b x.net_is y.net_is in
+    (same, flat_once b f g (subst (λ n. IsFlatOf n f) same x.circuit.is) y.circuit.is)
+
+-- a state that is normal and acyclic isn't refused
+finished_is_taken : (p : Program) (made : List Made) (fault : StateFault) → IsFinished p made
+    → RefusesState p made fault → ⊥
+finished_is_taken p made (Blocked at) h r = h.free (place_of at) r.blocked
+finished_is_taken p made (Stuck m) h r = r.1.other (λ it is. h.normal.bodies m.number it is)
+finished_is_taken p made (Uses cycle) h r = r.2.some h.acyclic
+
+-- a flat net with few wires is that of no net with many
+few_or_many : (net : Net) (flat : Flat) → IsFlatOf net flat → length flat.widths ≤ FLAT_WIRES
+    → HasManyWires net → ⊥
+few_or_many net flat is few (top, last, many) =
+    let its_last = is.top.last in
+    let same : top ≡ is.place = omega (arith, last, its_last) in
+    let over : FLAT_WIRES < length (widths_in net is.place) =
+    subst (λ i. FLAT_WIRES < length (widths_in net i)) same many in
+    let wires = ap length is.widths in
+    absurd (omega (arith, over, wires, few))
+
+-- a net with a circuit isn't refused
+no_net_fault : OneFlat → (net : Net) (flat : Flat) (fault : CompileFault) → HasCircuit net flat
+    → IsNetFault net fault → ⊥
+no_net_fault one net flat _ c (too_large many) = few_or_many net flat c.is c.few many
+no_net_fault one net flat _ c (loops other cycle is few l) =
+    c.no_loop cycle (subst (λ f. IsLoop f cycle) (one net other flat is c.is) l)
+
+pub nothing_refuses : NothingRefusesANormalRun → OneLastState → OneNetBuilt → OneFlat
+    → NothingRefusesACompile
+nothing_refuses law one once flat_once p budget net flat _ x (not_normalised steps fault within ends) =
+    let there = leads refl x.net_is.run.ends in
+    law built p budget x.net_is.run.steps steps x.net_is.state fault there.0 there.1
+    x.net_is.run.within ends
+nothing_refuses law one once flat_once p budget net flat _ x (not_finished state fault run wrong) =
+    finished_is_taken p x.net_is.state fault x.net_is.finished
+    (subst (λ s. RefusesState p s fault)
+    (same_state one p budget budget state x.net_is.state run x.net_is.run) wrong)
+nothing_refuses law one once flat_once p budget net flat _ x (no_circuit other fault has wrong) =
+    no_net_fault flat_once net flat fault x.circuit
+    (subst (λ n. IsNetFault n fault)
+    (same_net one once p budget budget other net has x.net_is) wrong)

@@ -1,0 +1,14 @@
+use Rattle.std.proofs.Common.{sym, subst}
+use Rattle.judge.specs.States.{RefusesState}
+use Rattle.compiled.specs.Compiling.{EndsIn}
+use Rattle.compiled.specs.Compiling.IsCompileFault.{not_finished}
+use Rattle.compiled.proofs.Ends.{of_fault}
+use Rattle.compiled.proofs.compiling.net_of.Goals as goal
+
+pub returns-in-Err-Fault-clause-fault : goal.returns-in-Err-Fault-clause-fault
+returns-in-Err-Fault-clause-fault c =
+    let p = c.args.program.now in
+    let state = c.list.result.now in
+    not_finished state c.in-Err-Fault.fault (subst (EndsIn p c.args.budget) (sym c.list.ensures) c.in_ok-state.ensures.state)
+    (of_fault (RefusesState p state) c.in-Err-Fault.field-0 c.in-Err-Fault.fault c.in-Err-Fault.field-0-is
+    c.in-Err-Fault.ensures.fault)

@@ -1,9 +1,0 @@
-pub mod Checks
-pub mod Decimals
-pub mod Many
-pub mod Nets
-pub mod Numbers
-pub mod Patterns
-pub mod Places
-pub mod Unique
-pub mod Whole

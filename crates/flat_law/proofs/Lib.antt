@@ -1,6 +1,0 @@
-pub mod Cells
-pub mod Lists
-pub mod Resets
-pub mod Signals
-pub mod SoundNet
-pub mod Translated
