@@ -1,5 +1,6 @@
 #!/usr/bin/env bash
-# Times `chw emit` on flat descriptions of 64 KiB to just under 1 MiB, beside yosys reading the printed text where yosys is installed.
+# Times `chw emit` on descriptions of one letrec, of 64 KiB to just under 1 MiB, beside yosys reading the printed text where yosys is installed.
+# A description that is refused has its line in place of times.
 # Usage: bench/flat.sh [sum|copy|order|tower]
 #   sum: each binding adds the two before it (about 130 bytes a binding)    copy: each binding is the one after it (about 30 bytes a binding)
 #   order: in place of texts, nets of 25,000 to 200,000 wires, each of which waits for the next, by the program net_speed, beside tsort
@@ -10,7 +11,7 @@ form=${1:-sum}
 work=$(mktemp -d)
 trap 'rm -rf "$work"' EXIT
 
-# A flat description of about this many bytes. The copies stand in reverse order, and end in a register, so that an order has to be looked for.
+# A description of about this many bytes. The copies stand in reverse order, and end in a register, so that an order has to be looked for.
 make() {
   python3 - "$1" "$form" <<'PY'
 import sys
@@ -99,8 +100,8 @@ printf '%10s %9s %12s %12s %12s %8s\n' bytes bindings 'chw us' 'ns a byte' 'yosy
 for size in 65536 131072 262144 524288 1048000; do
   make "$size" >"$work/a.chw"
   bytes=$(stat -c %s "$work/a.chw")
-  "$program" emit "$work/a.chw" >"$work/a.v"
-  chw=$(least "$program" emit "$work/a.chw")
+  "$program" emit "$work/a.chw" --budget 10000000 >"$work/a.v" 2>"$work/line" || { printf '%10d %s\n' "$bytes" "$(cat "$work/line")"; continue; }
+  chw=$(least "$program" emit "$work/a.chw" --budget 10000000)
   yosys=- ratio=-
   if command -v yosys >/dev/null; then
     yosys=$(least yosys -q -p "read_verilog -sv $work/a.v")
