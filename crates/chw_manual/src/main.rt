@@ -8,7 +8,7 @@ use chw_cli::top::top;
 use std::io;
 
 /// The commands, with their files.
-const ROWS: [[&str; 2]; 50] = [
+const ROWS: [[&str; 2]; 56] = [
     ["check", "bad/lex.chw"],
     ["check", "good/lex.chw"],
     ["check", "bad/syntax.chw"],
@@ -41,8 +41,6 @@ const ROWS: [[&str; 2]; 50] = [
     ["normalise", "good/representation.chw"],
     ["normalise", "bad/wide.chw"],
     ["normalise", "good/wide.chw"],
-    ["emit", "bad/form.chw"],
-    ["emit", "good/form.chw"],
     ["emit", "bad/loop.chw"],
     ["emit", "good/loop.chw"],
     ["check", "worked/counter.chw"],
@@ -53,6 +51,14 @@ const ROWS: [[&str; 2]; 50] = [
     ["check", "worked/feedback.chw"],
     ["check", "worked/domains.chw"],
     ["check", "worked/signed.chw"],
+    ["emit", "worked/counter.chw"],
+    ["emit", "worked/twice.chw"],
+    ["emit", "worked/mac.chw"],
+    ["emit", "worked/memory.chw"],
+    ["emit", "worked/filter.chw"],
+    ["emit", "worked/feedback.chw"],
+    ["emit", "worked/domains.chw"],
+    ["emit", "worked/signed.chw"],
     ["normalise", "steps/constant.chw"],
     ["normalise", "steps/call.chw"],
     ["normalise", "steps/choice.chw"],
