@@ -1,5 +1,5 @@
 -- What each command answers, and with which status it refuses.
-use Rattle.std.proofs.Common.{◌≡◌, ℕ, List, Result, Ok, Err, sym, subst}
+use Rattle.std.proofs.Common.{◌≡◌, ℕ, List, Result, Ok, Err}
 use Rattle.chw_base.specs.Files.{Files}
 use Rattle.chw_cli.specs.Answer.{CommandAnswer, EmitAnswer, NormaliseAnswer}
 use Rattle.chw_cli.specs.Exact.{AreHeld, BreakNothing, IsCompilable, HasNormalRun, Misses}

@@ -1,5 +1,5 @@
 -- The refusals of `emit`, by what was found.
-use Rattle.std.proofs.Common.{◌≡◌, ℕ, List, Result, Ok, Err, inl, inr, refl, sym, subst}
+use Rattle.std.proofs.Common.{◌≡◌, ℕ, List, Result, Err, inl, inr, refl, sym, subst}
 use Rattle.chw_cli.specs.Answer.{CompileAnswer, EmitAnswer, HasProgram, IsTypedText, refusal_of_compile}
 use Rattle.chw_cli.specs.Answer.CompileAnswer.{compiled, not_compiled}
 use Rattle.chw_cli.specs.Exact.{IsCompilable}

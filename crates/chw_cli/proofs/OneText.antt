@@ -1,5 +1,5 @@
 -- What a command answers to the text of one description.
-use Rattle.std.proofs.Common.{◌≡◌, ℕ, ◌≤◌, List, [], ◌∷◌, length, Result, Err, refl, ap, sym, subst, ◌∙◌, arith}
+use Rattle.std.proofs.Common.{◌≡◌, ℕ, List, [], ◌∷◌, Result, Err, refl, sym, subst, ◌∙◌}
 use Rattle.chw_base.specs.Files.{Files}
 use Rattle.chw_cli.specs.Answer.{HasProgram, IsTypedText, IsWrongText, TextAnswer}
 use Rattle.chw_cli.specs.Answer.IsWrongText.{no_description, wrong_names, wrong_types}
