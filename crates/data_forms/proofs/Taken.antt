@@ -13,10 +13,10 @@ use Rattle.chw_layout.specs.Encodes.{count_of, EncodesElements, no_element_bits,
 use Rattle.chw_layout.specs.Measured.{closed_value, fits, HasWidth}
 use Rattle.data_bits.proofs.Decoded.{length_first, scalar_decoded, vector_length}
 use Rattle.data_bits.proofs.Encoded.{elements_fit}
-use Rattle.sim_answer.specs.Types.{TakesAll}
+use Rattle.data_forms.specs.Forms.{TakesAll}
 
-pub scalars_take : (node : TyNode) → ((x : _) (y : _) → node ≡ VecNode x y → ⊥) → ((x : _) (y : _) → node ≡ DataOf x y → ⊥) → TakesAll (tree_of node)
-scalars_take node vec_no data_no datas bits has = (word bits, scalar_decoded datas node bits (fits (length bits)) refl vec_no data_no has)
+pub scalars_take : (datas : List Data) (node : TyNode) → ((x : _) (y : _) → node ≡ VecNode x y → ⊥) → ((x : _) (y : _) → node ≡ DataOf x y → ⊥) → TakesAll datas (tree_of node)
+scalars_take datas node vec_no data_no bits has = (word bits, scalar_decoded datas node bits (fits (length bits)) refl vec_no data_no has)
 
 -- so many values of the type have these bits, one after the other
 record Row (datas : List Data) (t : TypeTree) (n : ℕ) (bits : List Bool) : Type 0 where
@@ -24,7 +24,7 @@ record Row (datas : List Data) (t : TypeTree) (n : ℕ) (bits : List Bool) : Typ
   pub many : count_of values ≡ n
   pub are : EncodesElements datas t values bits
 
-row : (datas : List Data) (t : TypeTree) (w : ℕ) → TakesAll t → HasWidth datas t w → (n : ℕ) (bits : List Bool) → length bits ≡ n * w → Row datas t n bits
+row : (datas : List Data) (t : TypeTree) (w : ℕ) → TakesAll datas t → HasWidth datas t w → (n : ℕ) (bits : List Bool) → length bits ≡ n * w → Row datas t n bits
 row datas t w takes has zero bits e =
     let none : length bits ≡ 0 = omega (arith, e) in
     record { values = no_data; many = refl; are = subst (EncodesElements datas t no_data) (sym (nil_from_length bits none)) no_element_bits }
@@ -33,7 +33,7 @@ row datas t w takes has (suc n) bits e =
     let room : w ≤ length bits = omega (arith, e, all) in
     let first = length_first w bits room in
     let left : length (drop w bits) ≡ n * w = omega (arith, e, all, length-drop w bits) in
-    let v = takes datas (take w bits) (subst (HasWidth datas t) (sym first) has) in
+    let v = takes (take w bits) (subst (HasWidth datas t) (sym first) has) in
     let others = row datas t w takes has n (drop w bits) left in
     let many = others.many in
     record {
@@ -42,8 +42,8 @@ row datas t w takes has (suc n) bits e =
       are = subst (EncodesElements datas t (datum_and v.0 others.values)) (take-append-drop w bits) (element_bits v.1 others.are);
     }
 
-pub vectors_take : (n t : TypeTree) → TakesAll t → TakesAll (vector n t)
-vectors_take n t takes datas bits has =
+pub vectors_take : (datas : List Data) (n t : TypeTree) → TakesAll datas t → TakesAll datas (vector n t)
+vectors_take datas n t takes bits has =
     let of = elements_fit datas n t (length bits, has) in
     let all = vector_length datas n t (closed_value n) of.0 (length bits) refl has of.1 in
     let r = row datas t of.0 takes of.1 (closed_value n) bits all in
