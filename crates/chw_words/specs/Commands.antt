@@ -3,7 +3,8 @@ use Rattle.std.specs.Prelude.{◌≡◌, ◌≤◌, ℕ, Bool, false, ◌==◌, 
 use Rattle.std.specs.Str.{IsUtf8}
 use Rattle.std.specs.Str.Parse.{IsNumeral, digits_value}
 use Rattle.chw_words.specs.declared.command.Command.{Command}
-use Rattle.chw_words.specs.declared.command.Command.TheVariants.{Emit, Simulate, Check, Normalise, Run, Make}
+use Rattle.chw_words.specs.declared.command.Command.TheVariants.{Emit, Simulate, Check}
+use Rattle.chw_words.specs.declared.command.Command.TheVariants.{Normalise, Run, Make}
 use Rattle.chw_words.specs.declared.budget.TheConstants.{BUDGET_DIGITS, DEFAULT_BUDGET, MOST_BUDGET}
 use Rattle.chw_words.specs.declared.taps.TheConstants.{MOST_TAPS, TAP_DIGITS}
 
@@ -36,8 +37,10 @@ pub record IsTaps (word : List ℕ) (taps : ℕ) : Type 0 where
 -- the words that say what the budget is, if any
 pub data SayBudget : List (List ℕ) → ℕ → Type 0 where
   unsaid : SayBudget [] DEFAULT_BUDGET
-  apart : (word : List ℕ) (budget : ℕ) → IsBudget word budget → SayBudget (codes "--budget" ∷ word ∷ []) budget
-  joined : (word : List ℕ) (budget : ℕ) → IsBudget word budget → SayBudget ((codes "--budget=" ++ word) ∷ []) budget
+  apart : (word : List ℕ) (budget : ℕ) → IsBudget word budget
+      → SayBudget (codes "--budget" ∷ word ∷ []) budget
+  joined : (word : List ℕ) (budget : ℕ) → IsBudget word budget
+      → SayBudget ((codes "--budget=" ++ word) ∷ []) budget
 
 -- the words are these arguments, and those of the budget stand together anywhere among them
 pub record AreWithBudget (words arguments : List (List ℕ)) (budget : ℕ) : Type 0 where
@@ -51,7 +54,8 @@ pub record AreWithBudget (words arguments : List (List ℕ)) (budget : ℕ) : Ty
 -- the words are the command
 pub data IsCommand : List (List ℕ) → Command → Type 0 where
   -- `emit FILE`, with a budget
-  emit : (words : List (List ℕ)) (file : List ℕ) (budget : ℕ) → IsFile file → AreWithBudget words (file ∷ []) budget
+  emit : (words : List (List ℕ)) (file : List ℕ) (budget : ℕ) → IsFile file
+      → AreWithBudget words (file ∷ []) budget
       → IsCommand (codes "emit" ∷ words) (Emit file budget)
   -- `simulate FILE STIM`, with a budget
   simulate : (words : List (List ℕ)) (file stimulus : List ℕ) (budget : ℕ) → IsFile file

@@ -7,7 +7,8 @@ use Rattle.clap.specs.declared.parser.matches.ArgMatches.{ArgMatches}
 use Rattle.clap.specs.declared.builder.action.ArgAction.TheVariants.{Set}
 use Rattle.chw_words.specs.Commands.{IsBudget, IsTaps}
 use Rattle.chw_words.specs.declared.command.Command.{Command}
-use Rattle.chw_words.specs.declared.command.Command.TheVariants.{Emit, Simulate, Check, Normalise, Run, Make}
+use Rattle.chw_words.specs.declared.command.Command.TheVariants.{Emit, Simulate, Check}
+use Rattle.chw_words.specs.declared.command.Command.TheVariants.{Normalise, Run, Make}
 use Rattle.chw_words.specs.declared.budget.TheConstants.{DEFAULT_BUDGET}
 
 -- a word that stands for this, at its place among the words
@@ -46,7 +47,12 @@ compiling_app =
     with_subcommand
     (with_subcommand
     (on_top
-    (λ s. record s { no_binary_name = true; disable_help_flag = true; disable_help_subcommand = true; subcommand_required = true })
+    (λ s. record s {
+      no_binary_name = true;
+      disable_help_flag = true;
+      disable_help_subcommand = true;
+      subcommand_required = true;
+    })
     (new_app (codes "chw")))
     (budgeted_app (codes "emit")).top)
     simulate_app.top
@@ -86,7 +92,8 @@ pub data IsMatched : Option (Text × List Row) → Command → Type 0 where
       → IsMatched (Some (codes "simulate", rows)) (Simulate file stimulus budget)
   normalise : (rows : List Row) (file : Text) (budget : ℕ) → AreBudgeted rows file budget
       → IsMatched (Some (codes "normalise", rows)) (Normalise file budget)
-  check : (rows : List Row) (file : Text) → first_of (codes "file") rows ≡ Some file → IsMatched (Some (codes "check", rows)) (Check file)
+  check : (rows : List Row) (file : Text) → first_of (codes "file") rows ≡ Some file
+      → IsMatched (Some (codes "check", rows)) (Check file)
   run : (rows : List Row) (verilog stimulus : Text) → first_of (codes "verilog") rows ≡ Some verilog
       → first_of (codes "stimulus") rows ≡ Some stimulus
       → IsMatched (Some (codes "run", rows)) (Run verilog stimulus)
