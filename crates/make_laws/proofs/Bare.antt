@@ -18,7 +18,7 @@ use Rattle.chw_names.specs.Words.{bytes_of, names_of, with_names}
 use Rattle.chw_resolve.specs.Programs.{defs_in, domains_in, resets_from, top_in}
 use Rattle.chw_resolve.specs.Types.{at_arguments, chain_of, data_types_in, kind_in, named_type, type_in, types_in}
 use Rattle.chw_terms.specs.declared.program.Def.{Def as Definition}
-use Rattle.chw_types.specs.TypeTree.{TypeTree, TypeTrees, for_all, fun, nat_product, nat_sum, type_and}
+use Rattle.chw_types.specs.TypeTree.{TypeTree, for_all, fun, nat_product, nat_sum, type_and}
 
 -- words and names
 

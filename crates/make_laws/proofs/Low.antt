@@ -1,12 +1,12 @@
 -- The tree of a filter is low, however many taps it has.
-use Rattle.std.specs.Prelude.{ℕ, ◌-◌, ◌≤◌, max, List, [], ◌∷◌, ◌++◌, map, refl}
+use Rattle.std.specs.Prelude.{ℕ, ◌-◌, ◌≤◌, List, [], ◌∷◌, ◌++◌, map}
 use Rattle.std.specs.List.{range_with_len}
-use Rattle.std.proofs.Common.{ap, arith, ◌≡◌}
+use Rattle.std.proofs.Common.{arith}
 use Rattle.chw_base.specs.declared.limits.TheConstants.{NESTING}
 use Rattle.chw_grammar.specs.declared.term_tree.Binding.{Binding}
-use Rattle.chw_grammar.specs.Height.{bindings_height, term_height, terms_height, tree_height, type_height}
+use Rattle.chw_grammar.specs.Height.{bindings_height, terms_height, tree_height}
 use Rattle.chw_grammar.specs.TermView.{bindings_of, terms_of}
-use Rattle.make_text.specs.MakeTree.{delay, filter, first_tap, later_product, main_term, make_tree, product, products, sum, taken_over}
+use Rattle.make_text.specs.MakeTree.{delay, filter, later_product, make_tree, product, sum, taken_over}
 
 products_low : (ks : List ℕ) → terms_height (terms_of (map later_product ks)) ≤ 1
 products_low [] = omega arith

@@ -1,6 +1,5 @@
 -- The ports of a filter.
 use Rattle.std.specs.Prelude.{ℕ, List, [], ◌∷◌, codes}
-use Rattle.chw_base.specs.declared.index.DomId.{DomId}
 use Rattle.chw_clock.specs.declared.event.Port.{Port}
 use Rattle.chw_clock.specs.declared.event.Ports.{Ports}
 
