@@ -1,18 +1,18 @@
 #!/usr/bin/env bash
 # Times `chw emit`, `chw simulate` and `chw make`: the whole process, from the first byte read to the last written.
-# Usage: bench/circuits.sh [emit|taps|simulate|make|build]
+# Usage: bench/circuits.sh [emit|taps|simulate|make]
 #   emit: `emit` of each description in examples, with the most memory that the process held
 #   taps: `emit` of filters of 8 to 64 taps, beside yosys reading the printed text
 #   simulate: `simulate` of the filter of 64 taps for 256 events, beside vvp on the printed text
 #   make: `make` of 8 to 64 taps
-#   build: the instructions in the calls that build a net, of vectors of 1,000 and more elements, by valgrind
 # The least of five times.
 set -eu
 top=$(cd "$(dirname "$0")/.." && pwd)
 form=${1:-emit}
 work=$(mktemp -d)
 trap 'rm -rf "$work"' EXIT
-"$top/tools/build-program" chw
+# Builds the program where it isn't built. With no words it ends with status 2.
+"$top/chw" >/dev/null 2>"$work/log" || [ $? = 2 ] || { cat "$work/log" >&2; exit 1; }
 program=$top/crates/chw/out/chw
 
 # The description of a filter with so many taps, which gives its output in its own domain.
@@ -105,7 +105,7 @@ case $form in
     done
     ;;
   *)
-    sed -n '3,9s/^# \{0,1\}//p' "$0" >&2
+    sed -n '3,8s/^# \{0,1\}//p' "$0" >&2
     exit 1
     ;;
 esac
