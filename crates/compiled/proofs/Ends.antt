@@ -1,5 +1,7 @@
 -- The state in which a run ends.
-use Rattle.std.proofs.Common.{◌≡◌, ℕ, ◌≤◌, List, length, Result, Ok, Err, refl, ap, subst, arith}
+use Rattle.std.proofs.Common.{◌≡◌, ℕ, ◌≤◌, List, [], length, Result, Ok, Err, refl, sym, ap, subst, ◌∙◌, arith}
+use Rattle.std.specs.Prelude.{IfOk}
+use Rattle.std.proofs.lemmas.List.{length-map}
 use Rattle.chw_base.specs.declared.limits.TheConstants.{MADE_DEFINITIONS}
 use Rattle.chw_base.specs.declared.outcome.Or.{Or}
 use Rattle.chw_base.specs.declared.outcome.Or.TheVariants.{Memory, Fault}
@@ -9,6 +11,7 @@ use Rattle.chw_terms.specs.declared.rule.Rule.{Rule}
 use Rattle.chw_terms.specs.declared.scene.Made.{Made}
 use Rattle.rewriting.specs.Runs.{Run, RunsTo, Step, no_more, step_and as run_and}
 use Rattle.rewriting.specs.Steps.{HasNoStep}
+use Rattle.norm_lines.specs.Places.{where_of}
 use Rattle.norm_lines.specs.declared.place.StepAt.{StepAt}
 use Rattle.chw_norm.specs.Laws.{LastStatesAreTyped}
 use Rattle.chw_norm.specs.Rules.{built}
@@ -25,7 +28,7 @@ use Rattle.netlist.specs.Orders.{IsOrder}
 use Rattle.netlist.specs.Sound.{Sound}
 use Rattle.netlist.specs.declared.net.Flat.{Flat}
 use Rattle.netlist.specs.declared.net.Net.{Net}
-use Rattle.compiled.specs.Compiling.{EndsIn, HasNet, IsCompileFault}
+use Rattle.compiled.specs.Compiling.{EndsIn, HasNet, HasSteps, IsCompileFault}
 use Rattle.compiled.specs.Compiling.IsCompileFault.{not_normalised}
 use Rattle.compiled.specs.declared.fault.CompileFault.TheVariants as compile
 
@@ -79,10 +82,32 @@ pub is_ended : {p : Program} {budget : ℕ} {state : List Made} → EndsIn p bud
     → HasNoStep built p state
 is_ended e = (leads refl e.ends).1
 
--- what a run answers ends in its last state
-pub ends_there : {p : Program} {budget : ℕ} {old new : List StepAt} {state : List Made}
-    → Runs built p budget old new (Ok state) → EndsIn p budget state
-ends_there r = record { steps = r.steps; within = r.within; ends = r.ends }
+-- a trace that was empty has a place for each step
+traced : {p : Program} {budget : ℕ} {new : List StepAt} {answer : Result (List Made) (Or RunFault)}
+    → (r : Runs built p budget [] new answer) → length new ≡ length r.steps
+traced r =
+    ap length r.trace.traced ∙ sym (length-map r.trace.added where_of) ∙ ap length r.trace.places
+    ∙ length-map r.steps (λ (s : Step). s.place)
+
+-- which are no more than the budget
+pub trace_within : {p : Program} {budget : ℕ} {old new : List StepAt}
+    {answer : Result (List Made) (Or RunFault)} → old ≡ [] → Runs built p budget old new answer
+    → length new ≤ budget
+trace_within {p} {budget} {new = new} {answer = answer} none run =
+    let r = subst (λ old. Runs built p budget old new answer) none run in
+    let many = traced r in
+    let within = r.within in
+    omega (arith, many, within)
+
+-- what a run answers ends in its last state, after as many steps as it traced
+pub ends_there : {p : Program} {budget : ℕ} {old new : List StepAt} {state : List Made} → old ≡ []
+    → Runs built p budget old new (Ok state) → HasSteps p budget (length new) state
+ends_there {p} {budget} {new = new} {state = state} none run =
+    let r = subst (λ old. Runs built p budget old new (Ok state)) none run in
+    record {
+      run = record { steps = r.steps; within = r.within; ends = r.ends };
+      as_many = sym (traced r);
+    }
 
 -- a run that is refused is why the program can't be compiled
 pub run_fails : (p : Program) (budget : ℕ) (old new : List StepAt) (e : Or RunFault) (fault : RunFault)
@@ -109,3 +134,9 @@ pub fault_weaker : {T E : Type 0} (r : Result T (Or E)) (P Q : E → Type 0) →
 fault_weaker (Ok x) P Q f h = tt
 fault_weaker (Err Memory) P Q f h = tt
 fault_weaker (Err (Fault e)) P Q f h = f e h
+
+-- three things that hold of what is answered make another
+pub on_ok_three : {T E : Type 0} {P Q R S : T → Type 0} (r : Result T E)
+    → ((x : T) → P x → Q x → R x → S x) → IfOk r P → IfOk r Q → IfOk r R → IfOk r S
+on_ok_three (Ok x) f p q r = f x p q r
+on_ok_three (Err e) f p q r = tt

@@ -1,10 +1,12 @@
 -- A program is compiled to one net, and then nothing refuses it.
-use Rattle.std.proofs.Common.{◌≡◌, ℕ, ◌≤◌, ◌<◌, List, length, refl, ap, subst, arith}
+use Rattle.std.proofs.Common.{◌≡◌, ℕ, zero, suc, ◌≤◌, ◌<◌, List, [], ◌∷◌, length, refl, ap, subst, arith}
 use Rattle.chw_base.specs.declared.limits.TheConstants.{FLAT_WIRES}
 use Rattle.chw_terms.specs.declared.program.Program.{Program}
 use Rattle.chw_terms.specs.declared.scene.Made.{Made}
 use Rattle.chw_norm.specs.Laws.{NothingRefusesANormalRun, OneLastState}
 use Rattle.chw_norm.specs.Rules.{built}
+use Rattle.chw_norm.specs.Running.{IsLeft, ShallowSteps, no_step, step_and, spent}
+use Rattle.chw_norm.specs.declared.running.RunFault.TheVariants.{Spent}
 use Rattle.judge.specs.States.{IsFinished, RefusesState, place_of}
 use Rattle.judge.specs.declared.states.StateFault.{StateFault}
 use Rattle.judge.specs.declared.states.StateFault.TheVariants.{Blocked, Stuck, Uses}
@@ -14,10 +16,11 @@ use Rattle.net_flat.specs.Flattened.{IsFlatOf, widths_in}
 use Rattle.netlist.specs.Orders.{IsLoop}
 use Rattle.netlist.specs.declared.net.Flat.{Flat}
 use Rattle.netlist.specs.declared.net.Net.{Net}
+use Rattle.rewriting.specs.Runs.{Step}
 use Rattle.compiled.specs.Compiling.{EndsIn, HasCircuit, HasManyWires, HasNet, IsNetFault}
 use Rattle.compiled.specs.Compiling.IsCompileFault.{not_normalised, not_finished, no_circuit}
 use Rattle.compiled.specs.Compiling.IsNetFault.{too_large, loops}
-use Rattle.compiled.specs.Laws.{NothingRefusesACompile, OneCompiled}
+use Rattle.compiled.specs.Laws.{NothingRefusesACompile, OneCompiled, OneCount}
 use Rattle.compiled.specs.declared.fault.CompileFault.{CompileFault}
 use Rattle.compiled.proofs.Ends.{leads}
 
@@ -32,6 +35,64 @@ same_state one p budget other a b x y =
     let left = leads refl x.ends in
     let right = leads refl y.ends in
     one built p x.steps y.steps a b left.0 left.1 right.0 right.1
+
+-- two numbers of which neither is less than the other
+as_few_as : {a b : ℕ} → (b < a → ⊥) → (a < b → ⊥) → a ≡ b
+as_few_as {a} {b} not_more not_less = grind (arith, not_more, not_less)
+
+-- so many of the steps lead to a state in which one is left
+record StopsAfter (p : Program) (from : List Made) (count : ℕ) : Type 0 where
+  pub steps : List Step
+  pub made : List Made
+  pub leads : ShallowSteps built p from steps made
+  pub as_many : length steps ≡ count
+  pub left : IsLeft built p made
+
+stops_after : {p : Program} {from made : List Made} {steps : List Step} (count : ℕ)
+    → ShallowSteps built p from steps made → count < length steps → StopsAfter p from count
+stops_after count no_step below = absurd (omega (arith, below))
+stops_after {from = from} zero (step_and {s = s} first within rest) below = record {
+  steps = [];
+  made = from;
+  leads = no_step;
+  as_many = refl;
+  left = record { place = s.place; new = s.new; step = first.is_first.step };
+}
+stops_after (suc count) (step_and {s = s} first within rest) below =
+    let r = stops_after count rest (omega (arith, below)) in
+    let many = r.as_many in
+    record {
+      steps = s ∷ r.steps;
+      made = r.made;
+      leads = step_and first within r.leads;
+      as_many = omega (arith, many);
+      left = r.left;
+    }
+
+-- no run that ends has fewer steps than another
+not_fewer : NothingRefusesANormalRun → (p : Program) (budget other : ℕ) (a b : List Made)
+    → (x : EndsIn p budget a) (y : EndsIn p other b) → length y.steps < length x.steps → ⊥
+not_fewer law p budget other a b x y below =
+    let left = (leads refl x.ends).0 in
+    let right = leads refl y.ends in
+    let count = length y.steps in
+    let s = stops_after count left.runs below in
+    law built p count y.steps s.steps b (Spent count) right.0 right.1 (omega arith)
+    (spent (record { opening = left.opening; opens = left.opens; runs = s.leads }) s.left s.as_many)
+
+pub one_count : NothingRefusesANormalRun → OneLastState → OneCount
+one_count law one p budget other steps steps' definitions definitions' x y =
+    let run = x.has_steps.run in
+    let run' = y.has_steps.run in
+    let same_steps : length run.steps ≡ length run'.steps =
+    as_few_as (not_fewer law p budget other x.state y.state run run')
+    (not_fewer law p other budget y.state x.state run' run) in
+    let same_state = ap length (same_state one p budget other x.state y.state run run') in
+    let many = x.has_steps.as_many in
+    let many' = y.has_steps.as_many in
+    let counted = x.as_many in
+    let counted' = y.as_many in
+    (omega (arith, same_steps, many, many'), omega (arith, same_state, counted, counted'))
 
 -- of which one net is built
 same_net : OneLastState → OneNetBuilt → (p : Program) (budget other : ℕ) (a b : Net)

@@ -29,6 +29,17 @@ pub record EndsIn (p : Program) (budget : ℕ) (state : List Made) : Type 0 wher
   pub within : length steps ≤ budget
   pub ends : Ends built p budget steps (Ok state)
 
+-- a run of so many steps, within the budget, ends in this state
+pub record HasSteps (p : Program) (budget steps : ℕ) (state : List Made) : Type 0 where
+  pub run : EndsIn p budget state
+  pub as_many : length run.steps ≡ steps
+
+-- a run of so many steps, within the budget, ends in a state of so many made definitions
+pub record HasCounts (p : Program) (budget steps definitions : ℕ) : Type 0 where
+  pub state : List Made
+  pub has_steps : HasSteps p budget steps state
+  pub as_many : length state ≡ definitions
+
 -- it ends in a state that is normal and acyclic, of which this net is built
 pub record HasNet (p : Program) (budget : ℕ) (net : Net) : Type 0 where
   pub state : List Made
@@ -80,8 +91,9 @@ pub record IsCircuitOf (net : Net) (made : Compiled) : Type 0 where
   pub order : IsOrder made.flat made.order.cells
 
 -- what the program is compiled to: a well formed net, and a flat net of it whose outputs have at
--- each history the bits of what the program means
+-- each history the bits of what the program means; and the counts of the run that leads there
 pub record IsCompiled (p : Program) (budget : ℕ) (made : Compiled) : Type 0 where
+  pub counts : HasCounts p budget made.steps made.definitions
   pub compiles : CompilesTo p budget made.net made.flat
   pub well_formed : WellFormed made.net
   pub means : NetMeans p made.flat

@@ -7,7 +7,7 @@ use Rattle.rewriting.specs.Runs.{Run}
 use Rattle.chw_norm.specs.Rules.{built}
 use Rattle.netlist.specs.declared.net.Flat.{Flat}
 use Rattle.netlist.specs.declared.net.Net.{Net}
-use Rattle.compiled.specs.Compiling.{CompilesTo, EndsIn, IsCompileFault}
+use Rattle.compiled.specs.Compiling.{CompilesTo, EndsIn, HasCounts, IsCompileFault}
 use Rattle.compiled.specs.declared.fault.CompileFault.{CompileFault}
 
 -- the state in which a run ends is one to which so many first steps lead, and it holds no more made
@@ -16,6 +16,14 @@ abbrev pub EndsAreRuns : Type 0
 EndsAreRuns =
     (p : Program) (budget : ℕ) (state : List Made) → (e : EndsIn p budget state)
     → Run built p (length e.steps) e.steps state × (length state ≤ MADE_DEFINITIONS)
+
+-- all runs of a program that end have as many steps, and end in as many made definitions, whatever
+-- the budgets are
+abbrev pub OneCount : Type 0
+OneCount =
+    (p : Program) (budget other steps steps' definitions definitions' : ℕ)
+    → HasCounts p budget steps definitions → HasCounts p other steps' definitions'
+    → (steps ≡ steps') × (definitions ≡ definitions')
 
 -- a program is compiled to one net and one flat net at most, whatever the budgets are
 abbrev pub OneCompiled : Type 0

@@ -8,7 +8,7 @@ ghost use Rattle.net_built.specs.Built.{Built};
 ghost use Rattle.netlist.specs.Sound.{Sound};
 ghost use Rattle.net_flat.specs.Flattened.{IsFlatOf};
 ghost use Rattle.net_rules.specs.WellFormed.{WellFormed};
-ghost use Rattle.compiled.specs.Compiling.{EndsIn, HasFewWires, HasNet, IsCircuitOf, IsCompileFault, IsCompiled, IsNetFault};
+ghost use Rattle.compiled.specs.Compiling.{EndsIn, HasCounts, HasFewWires, HasNet, IsCircuitOf, IsCompileFault, IsCompiled, IsNetFault};
 
 use crate::fault::CompileFault;
 use crate::states::last_state;
@@ -28,12 +28,24 @@ use normal_form::Normal;
 use std::alloc::Global;
 use typing_laws::named_laws::data_types_in_order;
 
-/// A net, its flat net, and an order of the flat net's cells.
+/// A net, its flat net, and an order of the flat net's cells, with the counts of the run by which the net is found.
 #[derive(Debug, Drop)]
 pub struct Compiled {
     pub net: Net,
     pub flat: Flat,
     pub order: Order,
+    /// How many steps the run has.
+    pub steps: u32,
+    /// How many made definitions there are in the state in which it ends.
+    pub definitions: u32,
+}
+
+// A net, with the counts of the run by which it is found.
+#[derive(Drop)]
+struct Counted {
+    net: Net,
+    steps: u32,
+    definitions: u32,
 }
 
 // The net that is built of a normal state in which a run ends.
@@ -89,16 +101,23 @@ fn net_of_state(alloc: Global, program: &Program, made: &[Made]) -> Result<Net, 
 }
 
 // The net of a program.
-fn net_of(alloc: Global, program: &Program, budget: u32) -> Result<Net, Or<CompileFault>>
+fn net_of(alloc: Global, program: &Program, budget: u32) -> Result<Counted, Or<CompileFault>>
     requires tidy { IsTidy program.now }
     requires typed { IsTyped program.now }
-    ensures net { IfOk result (HasNet program.now budget) }
-    ensures well_formed { IfOk result (λ net. WellFormed net) }
+    ensures net { IfOk result (λ it. HasNet program.now budget it.net) }
+    ensures well_formed { IfOk result (λ it. WellFormed it.net) }
+    ensures counts { IfOk result (λ it. HasCounts program.now budget it.steps it.definitions) }
     ensures fault { IfFault result (IsCompileFault program.now budget) }
 {
-    let state = last_state(alloc, program, budget)?;
-    match net_of_state(alloc, program, state.list()) {
-        Ok(net) => Ok(net),
+    let last = last_state(alloc, program, budget)?;
+    let steps = last.steps;
+    let definitions = last.made.len();
+    match net_of_state(alloc, program, last.made.list()) {
+        Ok(net) => Ok(Counted {
+            net,
+            steps,
+            definitions,
+        }),
         Err(Or::Fault(fault)) => Err(Or::Fault(CompileFault::State(fault))),
         Err(Or::Memory) => Err(Or::Memory),
     }
@@ -120,15 +139,28 @@ fn flat_of(alloc: Global, net: &Net) -> Result<Flat, Or<CompileFault>>
 }
 
 // The circuit of a net.
-fn circuit_of(alloc: Global, net: Net) -> Result<Compiled, Or<CompileFault>>
-    requires { WellFormed net }
-    ensures circuit { IfOk result (IsCircuitOf net) }
-    ensures fault { IfFault result (IsNetFault net) }
+fn circuit_of(alloc: Global, it: Counted) -> Result<Compiled, Or<CompileFault>>
+    requires { WellFormed it.net }
+    ensures circuit { IfOk result (IsCircuitOf it.net) }
+    ensures steps { IfOk result (λ made. made.steps ≡ it.steps) }
+    ensures definitions { IfOk result (λ made. made.definitions ≡ it.definitions) }
+    ensures fault { IfFault result (IsNetFault it.net) }
 {
     an_order_excludes_loops();
+    let Counted {
+        net,
+        steps,
+        definitions,
+    } = it;
     let flat = flat_of(alloc, &net)?;
     match order(alloc, &flat) {
-        Ok(order) => Ok(Compiled { net, flat, order }),
+        Ok(order) => Ok(Compiled {
+            net,
+            flat,
+            order,
+            steps,
+            definitions,
+        }),
         Err(Or::Fault(Loop { cycle })) => Err(Or::Fault(CompileFault::Loop(cycle))),
         Err(Or::Memory) => Err(Or::Memory),
     }
@@ -145,6 +177,6 @@ pub fn compile(alloc: Global, program: &Program, budget: u32) -> Result<Compiled
 {
     last_states_are_typed();
     built_nets_mean();
-    let net = net_of(alloc, program, budget)?;
-    circuit_of(alloc, net)
+    let counted = net_of(alloc, program, budget)?;
+    circuit_of(alloc, counted)
 }

@@ -1,5 +1,5 @@
 //! The laws of what is compiled, each as the contract of a call that does nothing.
-ghost use Rattle.compiled.specs.Laws.{EndsAreRuns, NothingRefusesACompile, OneCompiled};
+ghost use Rattle.compiled.specs.Laws.{EndsAreRuns, NothingRefusesACompile, OneCompiled, OneCount};
 
 use chw_norm::laws::{nothing_refuses_a_normal_run, one_last_state};
 use net_built::laws::one_net_built;
@@ -9,6 +9,14 @@ use net_flat::laws::one_flat_net;
 pub fn ends_are_runs()
     ensures { EndsAreRuns }
 {}
+
+/// The runs of a program that end have as many steps, and end in as many made definitions.
+pub fn one_count()
+    ensures { OneCount }
+{
+    nothing_refuses_a_normal_run();
+    one_last_state();
+}
 
 /// A program has one net and one flat net at most to which it is compiled.
 pub fn one_compiled()

@@ -1,8 +1,19 @@
-use Rattle.compiled.proofs.Ends.{ends_there, run_fails}
+use Rattle.std.proofs.Common.{◌≡◌, ◌≤◌, length, sym, subst, arith, vec_len}
+use Rattle.compiled.specs.Compiling.{HasSteps}
+use Rattle.compiled.proofs.Ends.{ends_there, run_fails, trace_within}
 use Rattle.compiled.proofs.states.last_state.Goals as goal
 
+pub overflow_cast-result : goal.overflow_cast-result
+overflow_cast-result c =
+    let counted : vec_len c.run.new.trace ≡ length c.run.new.trace.items = omega (arith, c.run.new.trace.ok.0) in
+    let few = trace_within c.new-trace.ensures.items c.in-Ok.ensures in
+    omega (arith, counted, few, c.len.ensures)
+
 pub returns-in-Ok-clause-state : goal.returns-in-Ok-clause-state
-returns-in-Ok-clause-state c = ends_there c.in-Ok.ensures
+returns-in-Ok-clause-state c =
+    let counted : vec_len c.run.new.trace ≡ length c.run.new.trace.items = omega (arith, c.run.new.trace.ok.0) in
+    let many : length c.run.new.trace.items ≡ c.len.result = omega (arith, counted, c.len.ensures) in
+    subst (λ n. HasSteps c.args.program.now c.args.budget n c.in-Ok.made) many (ends_there c.new-trace.ensures.items c.in-Ok.ensures)
 
 pub returns-in-Err-Fault-clause-fault : goal.returns-in-Err-Fault-clause-fault
 returns-in-Err-Fault-clause-fault c =

@@ -1,0 +1,4 @@
+pub mod Shapes
+pub mod Tables
+pub mod Taken
+pub mod Walks
