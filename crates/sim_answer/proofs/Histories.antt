@@ -20,7 +20,8 @@ use Rattle.stimulus.specs.Stimulus.{Stim}
 use Rattle.stimulus.specs.Texts.{lines_of}
 use Rattle.stimulus.proofs.Fits.{events_fit}
 use Rattle.sim_answer.specs.Laws.{HistoriesFit}
-use Rattle.sim_answer.specs.Simulation.{AllPairs, HasInputs, HasValues, IsEncoding, TypesOf, no_type, type_of, no_type_of}
+use Rattle.data_forms.specs.Forms.{IsEncoding}
+use Rattle.sim_answer.specs.Simulation.{AllPairs, HasInputs, HasValues, TypesOf, no_type, type_of, no_type_of}
 use Rattle.sim_answer.proofs.Pairs.{all_before, all_push}
 
 -- from this input on an event's inputs encode values of these types

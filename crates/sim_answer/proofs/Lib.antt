@@ -6,5 +6,4 @@ pub mod Pairs
 pub mod Parameters
 pub mod Refusals
 pub mod Strangers
-pub mod Taken
 pub mod Tops

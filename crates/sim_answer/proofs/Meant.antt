@@ -21,6 +21,7 @@ use Rattle.netlist.specs.NetValue.{NetValue, ReadValues}
 use Rattle.netlist.specs.NetValue.ReadValues.{read_none, read_and}
 use Rattle.netlist.specs.Sound.{Sound}
 use Rattle.netlist.specs.declared.net.Flat.{Flat}
+use Rattle.sim_answer.specs.Laws.{OutputsAreMeant}
 use Rattle.sim_answer.specs.Simulation.{AreMeant, HasInputs, HasValues, IsMeant, IsSimulation, IsStimulus, MeantAt, meant_at_none, meant_at_more}
 use Rattle.sim_answer.proofs.Histories.{history_fits, stimulus_fits}
 
@@ -76,6 +77,11 @@ module _ (one : OneValue) (zeros : ZeroExists) (p : Program) (flat : Flat) (soun
       (outputs_meant (event ∷ past) outputs (history_fits zeros p ports types event past tidy.inhabited has (ef.0, pf) (ev.0, pv)) read)
       (run_meant tidy ports types has (event ∷ past) events others (ef.0, pf) ef.1 (ev.0, pv) ev.1 rest)
 
+  of_stimulus : IsTidy p → (text : List ℕ) (events : List Event) (outputs : List (List (List Bool))) → IsStimulus p text flat.ports events
+      → OutputsAt flat [] events outputs → MeantAt p (length flat.ports.outputs) [] events outputs
+  of_stimulus tidy text events outputs s shown =
+      run_meant tidy flat.ports s.types s.has [] events outputs tt (stimulus_fits text flat.ports events s.read) tt s.values shown
+
   -- the lines of a run on a stimulus of values are those of what the program means
   pub simulated : IsTidy p → (text : List ℕ) (events : List Event) (lines : List ℕ) → IsStimulus p text flat.ports events → IsRun flat events lines → IsSimulation p text lines
   simulated tidy text events lines s run = record {
@@ -83,6 +89,9 @@ module _ (one : OneValue) (zeros : ZeroExists) (p : Program) (flat : Flat) (soun
     events = events;
     stimulus = s;
     outputs = run.outputs;
-    meant = run_meant tidy flat.ports s.types s.has [] events run.outputs tt (stimulus_fits text flat.ports events s.read) tt s.values run.shown;
+    meant = of_stimulus tidy text events run.outputs s run.shown;
     lines_are = run.text_is;
   }
+
+pub outputs_are_meant : OneValue → ZeroExists → OutputsAreMeant
+outputs_are_meant one zeros p flat text events outputs tidy sound means = of_stimulus one zeros p flat sound means tidy text events outputs

@@ -15,7 +15,7 @@ use Rattle.chw_layout.specs.Measured.{HasWidth}
 use Rattle.chw_meaning.specs.Means.{PortsOf, no_ports, port_and, no_port_and}
 use Rattle.chw_meaning.proofs.GivenOnce.{wide_and_empty}
 use Rattle.sim_answer.specs.Simulation.{AllPairs, HasInputs, TypesOf, no_type, type_of, no_type_of}
-use Rattle.sim_answer.specs.Types.{AllAreSized, IsSized}
+use Rattle.sim_answer.specs.Types.{AllAreSized, IsMeasured, IsSized}
 
 -- ---- of lists with a test on each pair
 
@@ -91,6 +91,12 @@ sized {datas} (port_and {leaf = leaf} w more) (type_of v types) (b ∷ inputs) f
 sized (port_and w more) (no_type_of v types) inputs fit = wide_and_empty v (_, w)
 sized (no_port_and w more) (type_of v types) inputs fit = wide_and_empty w (_, v)
 sized (no_port_and w more) (no_type_of v types) inputs fit = sized more types inputs fit
+
+-- the types have widths
+pub types_measured : {datas : List Data} {leaves : List Leaf} {types : List TypeTree} → TypesOf datas leaves types → AllByRecursion (IsMeasured datas) types
+types_measured no_type = tt
+types_measured (type_of w more) = ((_, w), types_measured more)
+types_measured (no_type_of w more) = types_measured more
 
 -- events that fit the ports have inputs of the types' widths
 pub events_sized : (p : Program) (ports : Ports) (types : List TypeTree) (events : List Event) → HasInputs p ports types → AllByRecursion (FitsEvent ports) events → AllAreSized p.datas types events

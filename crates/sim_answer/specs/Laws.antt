@@ -1,11 +1,15 @@
 -- What is promised of simulations.
-use Rattle.std.specs.Prelude.{◌≡◌, ℕ, ◌<◌, List, ◌++◌, length, reverse}
+use Rattle.std.specs.Prelude.{◌≡◌, ℕ, ◌<◌, Bool, List, [], ◌++◌, length, reverse}
 use Rattle.chw_clock.specs.declared.event.Event.{Event}
 use Rattle.chw_clock.specs.declared.event.Ports.{Ports}
 use Rattle.chw_terms.specs.Tidy.{IsTidy}
 use Rattle.chw_terms.specs.declared.program.Program.{Program}
 use Rattle.chw_meaning.specs.Means.{Fit}
-use Rattle.sim_answer.specs.Simulation.{IsSimFault, IsSimulation, IsStimulus}
+use Rattle.net_means.specs.Outputs.{NetMeans}
+use Rattle.net_run.specs.Runs.{OutputsAt}
+use Rattle.netlist.specs.Sound.{Sound}
+use Rattle.netlist.specs.declared.net.Flat.{Flat}
+use Rattle.sim_answer.specs.Simulation.{IsSimFault, IsSimulation, IsStimulus, MeantAt}
 use Rattle.sim_answer.specs.declared.fault.SimFault.{SimFault}
 
 -- a program and a text have at most one simulation
@@ -31,3 +35,12 @@ HistoriesFit =
     (p : Program) (text : List ℕ) (ports : Ports) (events earlier later : List Event)
     → IsTidy p → IsStimulus p text ports events → events ≡ earlier ++ later → 0 < length earlier
     → Fit p (reverse earlier)
+
+-- the outputs of a sound flat net that has the bits of what the program means, at the events of a
+-- stimulus of values, are the bits of what the program means at the histories up to them
+abbrev pub OutputsAreMeant : Type 0
+OutputsAreMeant =
+    (p : Program) (flat : Flat) (text : List ℕ) (events : List Event)
+    (outputs : List (List (List Bool)))
+    → IsTidy p → Sound flat → NetMeans p flat → IsStimulus p text flat.ports events
+    → OutputsAt flat [] events outputs → MeantAt p (length flat.ports.outputs) [] events outputs

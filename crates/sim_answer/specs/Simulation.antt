@@ -11,6 +11,7 @@ use Rattle.chw_terms.specs.declared.program.Program.{Program}
 use Rattle.chw_layout.specs.Datum.{Datum}
 use Rattle.chw_layout.specs.Encodes.{Encodes}
 use Rattle.chw_layout.specs.Measured.{HasWidth}
+use Rattle.data_forms.specs.Forms.{IsEncoding}
 use Rattle.chw_meaning.specs.Means.{HasPorts, Means}
 use Rattle.chw_meaning.specs.Values.{History}
 use Rattle.stimulus.specs.Output.{Lines}
@@ -34,10 +35,6 @@ pub data TypesOf (datas : List Data) : List Leaf → List TypeTree → Type 0 wh
 pub record HasInputs (p : Program) (ports : Ports) (types : List TypeTree) : Type 0 where
   pub are_ports : HasPorts p ports
   pub are_types : TypesOf p.datas are_ports.ins types
-
--- the bits are the encoding of a value of the type
-abbrev pub IsEncoding : List Data → TypeTree → List Bool → Type 0
-IsEncoding datas t bits = (d : Datum) × Encodes datas t d bits
 
 -- this holds of each type with the bits at its place, and there are as many of both
 abbrev pub AllPairs : (TypeTree → List Bool → Type 0) → List TypeTree → List (List Bool) → Type 0

@@ -10,7 +10,7 @@ use Rattle.chw_types.specs.declared.ports.Leaf.{Leaf}
 use Rattle.chw_terms.specs.declared.program.Program.{Program}
 use Rattle.chw_layout.specs.Measured.{HasWidth}
 use Rattle.chw_meaning.specs.Means.{HasPorts, LeadsFrom}
-use Rattle.sim_answer.specs.Simulation.{AllPairs, HasInputs, HasValues, IsEncoding, TypesOf}
+use Rattle.sim_answer.specs.Simulation.{AllPairs, HasInputs, HasValues, TypesOf}
 
 -- the type has a width
 abbrev pub IsMeasured : List Data → TypeTree → Type 0
@@ -57,12 +57,6 @@ IsPorted p = (ports : Ports) × HasPorts p ports
 -- the values at the inputs of the program are of these types
 abbrev pub AreInputs : Program → List TypeTree → Type 0
 AreInputs p types = (ports : Ports) → HasPorts p ports → HasInputs p ports types
-
--- all bits encode values of the type, if they are as many as its width
-abbrev pub TakesAll : TypeTree → Type 0
-TakesAll t =
-    (datas : List Data) (bits : List Bool) → HasWidth datas t (length bits)
-    → IsEncoding datas t bits
 
 -- as many bits as the values of the type have
 abbrev pub IsSized : List Data → TypeTree → List Bool → Type 0

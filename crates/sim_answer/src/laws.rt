@@ -1,9 +1,10 @@
 //! The laws of simulations, each as the contract of a call that does nothing.
-ghost use Rattle.sim_answer.specs.Laws.{HistoriesFit, NothingRefusesAStimulus, OneFault, OneSimulation};
+ghost use Rattle.sim_answer.specs.Laws.{HistoriesFit, NothingRefusesAStimulus, OneFault, OneSimulation, OutputsAreMeant};
 
 use chw_layout::laws::encodings;
 use chw_meaning::laws::at_most_one_meaning;
 use layout_laws::laws::zero_exists;
+use netlist::laws::a_wire_has_one_value;
 use stimulus::laws::{no_fault, one_fault, one_stimulus};
 
 /// A program and a text have at most one simulation.
@@ -30,4 +31,13 @@ pub fn histories_fit()
     ensures { HistoriesFit }
 {
     zero_exists();
+}
+
+/// The outputs of a net that has the bits of what a program means, at the events of a stimulus of values, are the bits of what the
+/// program means at the histories up to them.
+pub fn outputs_are_meant()
+    ensures { OutputsAreMeant }
+{
+    zero_exists();
+    a_wire_has_one_value();
 }

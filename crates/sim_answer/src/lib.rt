@@ -9,4 +9,4 @@ mod simulating;
 mod values;
 
 pub use fault::SimFault;
-pub use simulating::lines_of;
+pub use simulating::{events_of, lines_of};

@@ -52,7 +52,7 @@ fn check_values(
 }
 
 /// The events of a stimulus for a program's ports, with the fault that the text has else.
-fn events_of(
+fn read_events(
     alloc: Global,
     program: &Program,
     ports: &Ports,
@@ -67,6 +67,26 @@ fn events_of(
         Err(Or::Fault(fault)) => Err(Or::Fault(SimFault::Stimulus(fault))),
         Err(Or::Memory) => Err(Or::Memory),
     }
+}
+
+/// The events of a stimulus of values for a program, which has these ports.
+///
+/// A text that is no stimulus for the ports is refused by its first line that isn't taken; any other by its first line with bits that
+/// encode no value of their input's type.
+pub fn events_of(
+    alloc: Global,
+    program: &Program,
+    ports: &Ports,
+    text: &[u8],
+) -> Result<Seq<Event>, Or<SimFault>>
+    requires tidy { IsTidy program.now }
+    requires ports { HasPorts program.now ports.now }
+    ensures events { IfOk result (λ events. IsStimulus program.now text.now ports.now events) }
+    ensures fault { IfFault result (IsSimFault program.now text.now) }
+{
+    let events = read_events(alloc, program, ports, text)?;
+    check_values(alloc, program, ports, text, events.as_slice())?;
+    Ok(events)
 }
 
 /// The lines of what a program means at the events of a stimulus, as its flat net has them.
@@ -90,6 +110,5 @@ pub fn lines_of(
     zero_exists();
     a_wire_has_one_value();
     let events = events_of(alloc, program, &flat.ports, text)?;
-    check_values(alloc, program, &flat.ports, text, events.as_slice())?;
     Ok(run(alloc, flat, order, events.as_slice())?)
 }

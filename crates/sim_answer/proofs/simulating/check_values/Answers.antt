@@ -1,11 +1,21 @@
 use Rattle.std.proofs.Common.{sym, subst}
 use Rattle.std.specs.List.{AllByRecursion}
 use Rattle.sim_answer.specs.Simulation.{HasValues, not_values}
-use Rattle.sim_answer.specs.Types.{AllAreSized, IsFirstStranger}
+use Rattle.chw_layout.specs.Encodes.{HaveConstructors}
+use Rattle.sim_answer.specs.Types.{AllAreSized, IsFirstStranger, IsMeasured}
 use Rattle.sim_answer.proofs.Histories.{stimulus_fits}
-use Rattle.sim_answer.proofs.Pairs.{events_sized, got_within}
+use Rattle.sim_answer.proofs.Pairs.{events_sized, got_within, types_measured}
 use Rattle.sim_answer.proofs.Strangers.{first_line_without}
 use Rattle.sim_answer.proofs.simulating.check_values.Goals as goal
+
+pub first_stranger-found-requires-clause-inhabited : goal.first_stranger-found-requires-clause-inhabited
+first_stranger-found-requires-clause-inhabited c = subst HaveConstructors (sym c.as_slice.ensures) c.requires.tidy.inhabited
+
+pub first_stranger-found-requires-clause-measured : goal.first_stranger-found-requires-clause-measured
+first_stranger-found-requires-clause-measured c =
+    subst (λ ds. AllByRecursion (IsMeasured ds) c.deref.result.now) (sym c.as_slice.ensures)
+    (subst (AllByRecursion (IsMeasured c.args.program.now.datas)) (sym c.deref.ensures.value)
+    (types_measured (c.in_ok-types.ensures c.args.ports.now c.requires.ports).are_types))
 
 pub first_stranger-found-requires-clause-widths : goal.first_stranger-found-requires-clause-widths
 first_stranger-found-requires-clause-widths c =

@@ -2,7 +2,6 @@ use Rattle.std.proofs.Common.{sym, subst}
 use Rattle.std.specs.List.{AllByRecursion}
 use Rattle.chw_clock.specs.Histories.{FitsEvent}
 use Rattle.net_run.specs.Runs.{IsRun}
-use Rattle.sim_answer.specs.Simulation.{IsStimulus}
 use Rattle.sim_answer.proofs.Histories.{stimulus_fits}
 use Rattle.sim_answer.proofs.Meant.{simulated}
 use Rattle.sim_answer.proofs.simulating.lines_of.Goals as goal
@@ -10,8 +9,8 @@ use Rattle.sim_answer.proofs.simulating.lines_of.Goals as goal
 pub run-requires-clause-fit : goal.run-requires-clause-fit
 run-requires-clause-fit c =
     let ports = c.args.flat.now.ports in
-    subst (AllByRecursion (FitsEvent ports)) (sym c.as_slice-2.ensures)
-    (stimulus_fits c.args.text.now ports c.in_ok-events.events c.in_ok-events.ensures.events)
+    subst (AllByRecursion (FitsEvent ports)) (sym c.as_slice.ensures)
+    (stimulus_fits c.args.text.now ports c.in_ok-events.events c.in_ok-events.ensures.events.read)
 
 pub returns-clause-lines : goal.returns-clause-lines
 returns-clause-lines c =
@@ -19,6 +18,5 @@ returns-clause-lines c =
     let flat = c.args.flat.now in
     let events = c.in_ok-events.events in
     simulated c.a_wire_has_one_value.ensures c.zero_exists.ensures.of_width p flat c.requires.sound c.requires.means c.requires.tidy c.args.text.now events
-    c.in_ok-run.field-0.items
-    (subst (IsStimulus p c.args.text.now flat.ports) c.as_slice.ensures c.in_ok-check_values.ensures.stimulus)
-    (subst (λ es. IsRun flat es c.in_ok-run.field-0.items) c.as_slice-2.ensures c.in_ok-run.ensures)
+    c.in_ok-run.field-0.items c.in_ok-events.ensures.events
+    (subst (λ es. IsRun flat es c.in_ok-run.field-0.items) c.as_slice.ensures c.in_ok-run.ensures)
