@@ -1,5 +1,6 @@
 pub mod Asking
 pub mod Commands
+pub mod Compiling
 pub mod Descriptions
 pub mod Emitting
 pub mod Exactly
@@ -9,4 +10,6 @@ pub mod OneText
 pub mod Progress
 pub mod Reasons
 pub mod Runs
+pub mod Simulating
 pub mod Telling
+pub mod TwoTexts

@@ -6,11 +6,11 @@ use Rattle.chw_base.specs.declared.outcome.Or.TheVariants.{Fault}
 use Rattle.chw_base.specs.declared.shelf.Fetched.{Fetched}
 use Rattle.chw_base.specs.declared.shelf.Fetched.TheVariants.{TooLong, Absent}
 use Rattle.chw_base.specs.declared.shelf.ShelfFault.{ShelfFault}
-use Rattle.chw_cli.specs.Descriptions.{IsDescription, NoDescription}
+use Rattle.chw_cli.specs.Descriptions.{Compiles, HasProgram, IsDescription, IsTypedText, NoDescription}
 use Rattle.chw_cli.specs.Reads.{Read, Wanted, wants, whole}
 use Rattle.chw_cli.specs.Reads.Read.{fetched}
 use Rattle.chw_cli.specs.declared.refusal.Refusal.{Refusal}
-use Rattle.chw_cli.specs.declared.refusal.Refusal.TheVariants.{Words, Read as Unread, Names, Types, DeepBody, FullTable, Spent, State, TooLarge, Loop, Stimulus, Verilog}
+use Rattle.chw_cli.specs.declared.refusal.Refusal.TheVariants.{Words, Read as Unread, Names, Types, DeepBody, FullTable, Spent, State, TooLarge, Loop, Stimulus, Value, Verilog}
 use Rattle.chw_check.specs.Faults.{IsTypeFault}
 use Rattle.chw_check.specs.declared.fault.TypeFault.{TypeFault}
 use Rattle.chw_grammar.specs.declared.program.Tree.{Tree}
@@ -18,15 +18,13 @@ use Rattle.chw_grammar.specs.Text.{Text}
 use Rattle.chw_norm.specs.Running.{Ends}
 use Rattle.chw_norm.specs.declared.running.RunFault.{RunFault}
 use Rattle.chw_norm.specs.declared.running.RunFault.TheVariants as run
-use Rattle.chw_resolve.specs.Faults.{IsNameFault, IsWellNamed}
+use Rattle.chw_resolve.specs.Faults.{IsNameFault}
 use Rattle.chw_resolve.specs.declared.fault.NameFault.{NameFault}
-use Rattle.chw_terms.specs.Tidy.{IsTidy}
 use Rattle.chw_terms.specs.declared.program.Program.{Program}
 use Rattle.chw_terms.specs.declared.scene.Made.{Made}
-use Rattle.chw_typing.specs.Programs.{IsTyped}
 use Rattle.chw_words.specs.Commands.{IsCommand, AreNoCommand}
 use Rattle.chw_words.specs.declared.command.Command.{Command}
-use Rattle.chw_words.specs.declared.command.Command.TheVariants.{Emit, Check, Normalise, Run}
+use Rattle.chw_words.specs.declared.command.Command.TheVariants.{Emit, Simulate, Check, Normalise, Run, Make}
 use Rattle.judge.specs.Lines.{state_line}
 use Rattle.judge.specs.States.{IsFinished, RefusesState}
 use Rattle.judge.specs.declared.states.StateFault.{StateFault}
@@ -45,24 +43,13 @@ use Rattle.chw_norm.specs.Rules.{built}
 use Rattle.run_answer.specs.Circuits.{CanRun, IsCircuitFault, IsRunBy}
 use Rattle.run_answer.specs.declared.fault.CircuitFault.{CircuitFault}
 use Rattle.run_answer.specs.declared.fault.CircuitFault.TheVariants as circuit
+use Rattle.sim_answer.specs.Simulation.{IsSimFault, IsSimulation}
+use Rattle.sim_answer.specs.declared.fault.SimFault.{SimFault}
+use Rattle.sim_answer.specs.declared.fault.SimFault.TheVariants as sim
 use Rattle.stimulus.specs.Stimulus.{IsStimFault}
 use Rattle.stimulus.specs.declared.fault.StimFault.{StimFault}
 use Rattle.verilog_text.specs.Text.{net_text}
 use Rattle.verilog_text.specs.VText.{VText}
-use Rattle.chw_resolve.specs.Programs.{IsProgramOf}
-
--- the names of the description are as they should be, and this is its program: the one that is tidy
-pub record HasProgram (tree : Tree) (p : Program) : Type 0 where
-  pub named : IsWellNamed tree
-  pub is : IsProgramOf tree p
-  pub tidy : IsTidy p
-
--- the text is a description that is typed, and this is its tree
-pub record IsTypedText (text : List ℕ) (tree : Tree) : Type 0 where
-  pub description : IsDescription text tree
-  pub program : Program
-  pub is : HasProgram tree program
-  pub typed : IsTyped program
 
 -- why a text is no description that is typed
 pub data IsWrongText (text : List ℕ) : Refusal → Type 0 where
@@ -131,6 +118,27 @@ pub record EmitAnswer (tree : Tree) (budget : ℕ) (answer : Result (List ℕ) R
   pub has : HasProgram tree program
   pub answers : CompileAnswer program budget answer
 
+-- the refusal of a stimulus for a program
+abbrev pub refusal_of_sim : SimFault → Refusal
+refusal_of_sim (sim.Stimulus fault) = Stimulus fault
+refusal_of_sim (sim.Value line) = Value line
+
+-- the answer of `simulate`: why the first text is no description that is typed; or why its program
+-- can't be compiled; or, where it can, why the second text is no stimulus of values for it; or,
+-- where it is one, the lines of what the program means
+pub data SimulateAnswer (budget : ℕ) : List Read → Result (List ℕ) Refusal → Type 0 where
+  wrong_text : (text : List ℕ) (r : Refusal) → IsWrongText text r
+      → SimulateAnswer budget (whole text ∷ []) (Err r)
+  not_compiled : (text : List ℕ) (tree : Tree) (p : Program) (fault : CompileFault)
+      → IsTypedText text tree → HasProgram tree p → IsCompileFault p budget fault
+      → SimulateAnswer budget (whole text ∷ []) (Err (refusal_of_compile p fault))
+  no_stimulus : (text stimulus : List ℕ) (p : Program) (fault : SimFault)
+      → Compiles text budget p → IsSimFault p stimulus fault
+      → SimulateAnswer budget (whole text ∷ whole stimulus ∷ []) (Err (refusal_of_sim fault))
+  simulated : (text stimulus lines : List ℕ) (p : Program) → Compiles text budget p
+      → IsSimulation p stimulus lines
+      → SimulateAnswer budget (whole text ∷ whole stimulus ∷ []) (Ok lines)
+
 -- the answer of `normalise` to a description: the lines of the run of its program, by so many steps
 -- at most, to a state in which none is left, and which is normal and acyclic; or why the run is
 -- refused, or the state to which it leads
@@ -163,14 +171,16 @@ pub data RunAnswer : List Read → Result (List ℕ) Refusal → Type 0 where
   ran : (text stimulus lines : List ℕ) (flat : Flat) → CanRun text flat
       → IsRunBy flat stimulus lines → RunAnswer (whole text ∷ whole stimulus ∷ []) (Ok lines)
 
--- the answer of a command to what it read, where that was whole
+-- the answer of a command to what it read, where that was whole; `make` has none yet
 abbrev pub CommandAnswer : Command → List Read → Result (List ℕ) Refusal → Type 0
 CommandAnswer (Emit file budget) =
     TextAnswer (λ text tree answer. EmitAnswer tree budget answer)
+CommandAnswer (Simulate file stimulus budget) = SimulateAnswer budget
 CommandAnswer (Check file) = TextAnswer (λ text tree answer. answer ≡ Ok (Text tree))
 CommandAnswer (Normalise file budget) =
     TextAnswer (λ text tree answer. NormaliseAnswer tree budget answer)
 CommandAnswer (Run verilog stimulus) = RunAnswer
+CommandAnswer (Make taps) = λ reads answer. ⊥
 
 -- the file isn't held, or couldn't be read
 abbrev pub IsUnread : Result Fetched (Or ShelfFault) → Type 0

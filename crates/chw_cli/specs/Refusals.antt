@@ -2,7 +2,7 @@
 use Rattle.std.specs.Prelude.{◌≡◌, ℕ, List, Err, ◌⊎◌}
 use Rattle.chw_base.specs.declared.outcome.Or.{Or}
 use Rattle.chw_base.specs.declared.outcome.Or.TheVariants.{Memory, Fault}
-use Rattle.chw_cli.specs.Answer.{CompileAnswer, EmitAnswer, IsWrongText, NormaliseAnswer, refusal_of, refusal_of_compile, refusal_of_run}
+use Rattle.chw_cli.specs.Answer.{CompileAnswer, EmitAnswer, IsWrongText, NormaliseAnswer, refusal_of, refusal_of_compile, refusal_of_run, refusal_of_sim}
 use Rattle.chw_cli.specs.Descriptions.{NoDescription}
 use Rattle.chw_cli.specs.declared.refusal.Refusal.{Refusal}
 use Rattle.chw_cli.specs.declared.refusal.Refusal.TheVariants as refusal
@@ -23,6 +23,8 @@ use Rattle.judge.specs.declared.states.StateFault.{StateFault}
 use Rattle.netlist.specs.declared.net.Flat.{Flat}
 use Rattle.run_answer.specs.Circuits.{IsCircuitFault}
 use Rattle.run_answer.specs.declared.fault.CircuitFault.{CircuitFault}
+use Rattle.sim_answer.specs.Simulation.{IsSimFault}
+use Rattle.sim_answer.specs.declared.fault.SimFault.{SimFault}
 use Rattle.stimulus.specs.Stimulus.{IsStimFault}
 use Rattle.stimulus.specs.declared.fault.StimFault.{StimFault}
 
@@ -58,6 +60,10 @@ of_circuit_fault (Fault f) = refusal_of f
 abbrev pub of_stim_fault : Or StimFault → Refusal
 of_stim_fault Memory = refusal.Memory
 of_stim_fault (Fault f) = refusal.Stimulus f
+
+abbrev pub of_sim_fault : Or SimFault → Refusal
+of_sim_fault Memory = refusal.Memory
+of_sim_fault (Fault f) = refusal_of_sim f
 
 -- the refusal of a program that can't be compiled: its own, or want of memory
 abbrev pub IsCompileRefusal : Program → CompileFault → Refusal → Type 0
@@ -104,3 +110,9 @@ pub data RefusesStimulus (flat : Flat) (text : List ℕ) : Refusal → Type 0 wh
   memory : RefusesStimulus flat text refusal.Memory
   no_stimulus : (fault : StimFault) → IsStimFault text flat.ports fault
       → RefusesStimulus flat text (refusal.Stimulus fault)
+
+-- why a stimulus isn't taken for a program: want of memory, or its fault
+pub data RefusesSimulation (p : Program) (text : List ℕ) : Refusal → Type 0 where
+  memory : RefusesSimulation p text refusal.Memory
+  no_stimulus : (fault : SimFault) → IsSimFault p text fault
+      → RefusesSimulation p text (refusal_of_sim fault)

@@ -3,8 +3,7 @@ ghost use Rattle.std.specs.Prelude.{◌≡◌, ◌≤◌, length, Ok, IfOk, IfEr
 ghost use Rattle.std.specs.Str.{IsUtf8};
 ghost use Rattle.chw_base.specs.declared.limits.TheConstants.{DESCRIPTION_BYTES};
 ghost use Rattle.chw_base.specs.declared.shelf.Fetched.TheVariants.{Whole};
-ghost use Rattle.chw_cli.specs.Answer.{HasProgram, IsTypedText};
-ghost use Rattle.chw_cli.specs.Descriptions.{IsDescription};
+ghost use Rattle.chw_cli.specs.Descriptions.{HasProgram, IsDescription, IsTypedText};
 ghost use Rattle.chw_cli.specs.Fetching.{RefusesFile};
 ghost use Rattle.chw_cli.specs.Reads.{Gets, description_in};
 ghost use Rattle.chw_cli.specs.Refusals.{RefusesReading, RefusesText};

@@ -2,6 +2,7 @@
 #![tactic(auto)]
 
 mod answer;
+mod compile;
 mod deliver;
 mod describe;
 mod emit;
@@ -10,6 +11,7 @@ mod lines;
 mod normalise;
 pub mod refusal;
 mod run;
+mod simulate;
 pub mod status;
 mod tell;
 pub mod top;
