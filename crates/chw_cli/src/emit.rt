@@ -12,8 +12,10 @@ use chw_base::Or;
 use chw_norm::RunFault;
 use chw_terms::Program;
 use compiled::{CompileFault, compile};
+use normal_forms::laws::normal_is_first_order;
 use std::alloc::Global;
-use verilog_print::print;
+use verilog_read::readable_text;
+use verilog_text::laws::one_net;
 
 /// The Verilog text of a description, by so many steps of rewriting at most, or why there is none.
 pub(crate) fn emitted(
@@ -35,8 +37,10 @@ fn text_of(alloc: Global, program: &Program, budget: u32) -> Result<Vec<u8>, Ref
     ensures emitted { IfOk result (λ bytes. CompileAnswer program.now budget (Ok bytes.items)) }
     ensures refused { IfErr result (RefusesCompile program.now budget) }
 {
+    normal_is_first_order();
+    one_net();
     match compile(alloc, program, budget) {
-        Ok(made) => Ok(print(alloc, &made.net)?),
+        Ok(made) => Ok(readable_text(alloc, &made.net)?),
         Err(Or::Fault(fault)) => Err(refusal_of_compile(alloc, program, fault)),
         Err(Or::Memory) => Err(Refusal::Memory),
     }

@@ -1,16 +1,17 @@
 -- The words that `clap` reads begin with a command, and what it makes of those after it.
-use Rattle.std.proofs.Common.{◌≡◌, ◌∙◌, sym, refl, ap, Bool, true, false, ◌||◌, List, [], ◌∷◌, ◌++◌, Option, Some, None, codes, inl, inr, ◌⊎◌, subst, is_some, ⊎_elim}
-use Rattle.std.specs.Prelude.{option_map, if◌then◌else◌}
+use Rattle.std.proofs.Common.{◌≡◌, ◌∙◌, sym, refl, ap, false, ◌||◌, List, [], ◌∷◌, Some, None, codes, inl, inr, ◌⊎◌, is_some, ⊎_elim}
+use Rattle.std.specs.Prelude.{find, map, option_map, if◌then◌else◌}
 use Rattle.std.specs.Str.{bytes_eq}
 use Rattle.std.proofs.lemmas.Slice.Eq.{bytes_eq-Decides}
-use Rattle.clap.specs.Walk.{Names, Text, Walk, finished, idle, nothing_held, rows_after, settled, subcommand_met, walk, walk_from, walked}
+use Rattle.clap.specs.Walk.{Names, Text, Walk, answers_to, finished, nothing_held, rows_after, settled, walk, walk_from, walked}
 use Rattle.clap.specs.Simple.{Shape, built, entered, names_of, subcommand_of}
-use Rattle.clap.specs.Faults.{check_fault, defaults_fault, entered_fault, fault_of, settle_fault, turn_fault, walk_fault}
+use Rattle.clap.specs.Faults.{check_fault as check_faults, defaults_fault, entered_fault, fault_of, settle_fault, turn_fault, walk_fault}
 use Rattle.clap.specs.Kinds.{Kinds, or_else}
 use Rattle.clap.proofs.FaultLemmas.{stopped_fault}
 use Rattle.chw_words.specs.Parsing.{chw_app}
 use Rattle.chw_words.proofs.Walks.{Fails, fails_first, fails_not, or_else_none, plain_turn, rest_fault, stopped_walk}
-use Rattle.chw_words.proofs.Shapes.{Form, IsBudgetWord, IsPlain, check_shape, emit_shape, run_shape, start}
+use Rattle.chw_words.proofs.Shapes.{Form, IsBudgetWord, IsPlain, at_option, check_shape, emit_shape, make_shape, run_shape, simulate_shape, start}
+use Rattle.chw_words.proofs.Forms.{is_or_not}
 
 abbrev top : Shape
 top = (built chw_app).top
@@ -29,7 +30,7 @@ faults walking end =
     (or_else (entered_fault (built chw_app) end.stopped)
     (or_else (settle_fault top.rules top.args_override_self end.held)
     (or_else (defaults_fault (settled top.rules end.held).rows top.rules)
-    (check_fault top (finished top.rules end.held) (is_some (entered (built chw_app) end.stopped))))))
+    (check_faults top (finished top.rules end.held) (is_some (entered (built chw_app) end.stopped))))))
 
 -- after `emit` the faults and the rows are those of the words after it
 emit_walk : (words : List Text) → walk top.rules names nothing_held (codes "emit" ∷ words) ≡ met (codes "emit") words
@@ -46,14 +47,29 @@ emit_fault words =
 pub emit_matched : (words : List Text) → subcommand_of chw_app (codes "emit" ∷ words) ≡ Some (codes "emit", rows_after emit_shape.rules [] words)
 emit_matched words = ap (λ (end : Walk). entered (built chw_app) end.stopped) (emit_walk words)
 
+-- and after `simulate`
+simulate_walk : (words : List Text) → walk top.rules names nothing_held (codes "simulate" ∷ words) ≡ met (codes "simulate") words
+unfolding walked
+simulate_walk words = stopped_walk top.rules names (walk_from nothing_held) (codes "simulate") [] words
+
+pub simulate_fault : (words : List Text) → fault_of chw_app (codes "simulate" ∷ words) ≡ rest_fault simulate_shape start words
+unfolding walk_fault defaults_fault walked
+simulate_fault words =
+    ap (λ end. faults (walk_fault top names (walk_from nothing_held) (codes "simulate" ∷ words)) end) (simulate_walk words)
+    ∙ ap (λ ks. faults ks (met (codes "simulate") words)) (stopped_fault top names (walk_from nothing_held) (codes "simulate", []) words)
+    ∙ or_else_none (rest_fault simulate_shape start words)
+
+pub simulate_matched : (words : List Text) → subcommand_of chw_app (codes "simulate" ∷ words) ≡ Some (codes "simulate", rows_after simulate_shape.rules [] words)
+simulate_matched words = ap (λ (end : Walk). entered (built chw_app) end.stopped) (simulate_walk words)
+
 -- and after `check`
 check_walk : (words : List Text) → walk top.rules names nothing_held (codes "check" ∷ words) ≡ met (codes "check") words
 unfolding walked
 check_walk words = stopped_walk top.rules names (walk_from nothing_held) (codes "check") [] words
 
-pub check_fault_is : (words : List Text) → fault_of chw_app (codes "check" ∷ words) ≡ rest_fault check_shape start words
+pub check_fault : (words : List Text) → fault_of chw_app (codes "check" ∷ words) ≡ rest_fault check_shape start words
 unfolding walk_fault defaults_fault walked
-check_fault_is words =
+check_fault words =
     ap (λ end. faults (walk_fault top names (walk_from nothing_held) (codes "check" ∷ words)) end) (check_walk words)
     ∙ ap (λ ks. faults ks (met (codes "check") words)) (stopped_fault top names (walk_from nothing_held) (codes "check", []) words)
     ∙ or_else_none (rest_fault check_shape start words)
@@ -91,6 +107,21 @@ run_fault words =
 pub run_matched : (words : List Text) → subcommand_of chw_app (codes "run" ∷ words) ≡ Some (codes "run", rows_after run_shape.rules [] words)
 run_matched words = ap (λ (end : Walk). entered (built chw_app) end.stopped) (run_walk words)
 
+-- and after `make`
+make_walk : (words : List Text) → walk top.rules names nothing_held (codes "make" ∷ words) ≡ met (codes "make") words
+unfolding walked
+make_walk words = stopped_walk top.rules names (walk_from nothing_held) (codes "make") [] words
+
+pub make_fault : (words : List Text) → fault_of chw_app (codes "make" ∷ words) ≡ rest_fault make_shape start words
+unfolding walk_fault defaults_fault walked
+make_fault words =
+    ap (λ end. faults (walk_fault top names (walk_from nothing_held) (codes "make" ∷ words)) end) (make_walk words)
+    ∙ ap (λ ks. faults ks (met (codes "make") words)) (stopped_fault top names (walk_from nothing_held) (codes "make", []) words)
+    ∙ or_else_none (rest_fault make_shape start words)
+
+pub make_matched : (words : List Text) → subcommand_of chw_app (codes "make" ∷ words) ≡ Some (codes "make", rows_after make_shape.rules [] words)
+make_matched words = ap (λ (end : Walk). entered (built chw_app) end.stopped) (make_walk words)
+
 -- ---- any other first word is refused
 
 -- the words fail where the first does
@@ -99,51 +130,43 @@ unfolding walk_fault
 first_fails word words f e =
     fails_not _ (fails_first _ _ (fails_first (turn_fault top names start word) (walk_fault top names (walked top.rules names start word) words) f)) e
 
-is_or_not : (b : Bool) → (b ≡ true) ⊎ (b ≡ false)
-is_or_not true = inl refl
-is_or_not false = inr refl
+-- the words with which the commands begin
+abbrev pub command_words : List Text
+command_words = codes "emit" ∷ codes "simulate" ∷ codes "check" ∷ codes "normalise" ∷ codes "run" ∷ codes "make" ∷ []
 
--- the first word is a command
-abbrev pub IsName : Text → Type 0
-IsName word = (word ≡ codes "emit") ⊎ (word ≡ codes "check") ⊎ (word ≡ codes "normalise") ⊎ (word ≡ codes "run")
+-- the word is one of these
+abbrev pub IsOneOf : List Text → Text → Type 0
+IsOneOf [] word = ⊥
+IsOneOf (x ∷ xs) word = (word ≡ x) ⊎ IsOneOf xs word
 
-abbrev named : Bool → Bool → Bool → Bool → Option Text
-named emit check normalise run =
-    option_map (λ (s : Text × List Text). s.0)
-    (if emit || false then Some (codes "emit", [])
-    else (if check || false then Some (codes "check", [])
-    else (if normalise || false then Some (codes "normalise", []) else (if run || false then Some (codes "run", []) else None))))
+-- a name without aliases
+abbrev bare : Text → Text × List Text
+bare name = (name, [])
 
-no_name : (word : Text) → bytes_eq (codes "emit") word ≡ false → bytes_eq (codes "check") word ≡ false → bytes_eq (codes "normalise") word ≡ false
-    → bytes_eq (codes "run") word ≡ false → subcommand_met names idle word ≡ None
-no_name word e f g h =
-    ap (λ b. named b (bytes_eq (codes "check") word) (bytes_eq (codes "normalise") word) (bytes_eq (codes "run") word)) e
-    ∙ ap (λ b. named false b (bytes_eq (codes "normalise") word) (bytes_eq (codes "run") word)) f
-    ∙ ap (λ b. named false false b (bytes_eq (codes "run") word)) g ∙ ap (λ b. named false false false b) h
+one_or_none : (xs : List Text) (word : Text) → IsOneOf xs word ⊎ (find (answers_to word) (map bare xs) ≡ None)
+one_or_none [] word = inr refl
+one_or_none (x ∷ xs) word =
+    ⊎_elim (λ is. inl (inl (sym ((bytes_eq-Decides x word).0 is))))
+    (λ is_not. ⊎_elim (λ later. inl (inr later))
+    (λ none. inr (ap (λ b. if b || false then Some (bare x) else find (answers_to word) (map bare xs)) is_not ∙ none)) (one_or_none xs word))
+    (is_or_not (bytes_eq x word))
 
-plain_first : (word : Text) (words : List Text) → IsPlain word → fault_of chw_app (word ∷ words) ≡ [] → IsName word
+plain_first : (word : Text) (words : List Text) → IsPlain word → fault_of chw_app (word ∷ words) ≡ [] → IsOneOf command_words word
 plain_first word words p e =
-    ⊎_elim (λ is. inl (sym ((bytes_eq-Decides (codes "emit") word).0 is)))
-    (λ no_emit. ⊎_elim (λ is. inr (inl (sym ((bytes_eq-Decides (codes "check") word).0 is))))
-    (λ no_check. ⊎_elim (λ is. inr (inr (inl (sym ((bytes_eq-Decides (codes "normalise") word).0 is)))))
-    (λ no_normalise. ⊎_elim (λ is. inr (inr (inr (sym ((bytes_eq-Decides (codes "run") word).0 is)))))
-    (λ no_run.
-    let t = plain_turn top names nothing_held 1 word p (no_name word no_emit no_check no_normalise no_run) in
+    ⊎_elim (λ is. is)
+    (λ none.
+    let t = plain_turn top names nothing_held 1 word p (ap (option_map (λ (s : Text × List Text). s.0)) none) in
     absurd (first_fails word words (rw t tt) e))
-    (is_or_not (bytes_eq (codes "run") word)))
-    (is_or_not (bytes_eq (codes "normalise") word)))
-    (is_or_not (bytes_eq (codes "check") word)))
-    (is_or_not (bytes_eq (codes "emit") word))
+    (one_or_none command_words word)
 
 option_first : (word : Text) (words : List Text) → IsBudgetWord word → fault_of chw_app (word ∷ words) ≡ [] → ⊥
-option_first word words (inl is) e = first_fails (codes "--budget") words tt (subst (λ w. fault_of chw_app (w ∷ words) ≡ []) is e)
-option_first word words (inr is) e = first_fails (codes "--budget=" ++ is.0) words tt (subst (λ w. fault_of chw_app (w ∷ words) ≡ []) (is.1) e)
+option_first word words is = first_fails word words (at_option (λ w. Fails (turn_fault top names start w)) word is tt (λ v. tt))
 
 pub none_fails : fault_of chw_app [] ≡ [] → ⊥
 unfolding walk_fault defaults_fault
 none_fails e = fails_not (fault_of chw_app []) tt e
 
 -- words of the form that are read begin with a command
-pub begins : (word : Text) (words : List Text) → Form (word ∷ words) → fault_of chw_app (word ∷ words) ≡ [] → IsName word × Form words
+pub begins : (word : Text) (words : List Text) → Form (word ∷ words) → fault_of chw_app (word ∷ words) ≡ [] → IsOneOf command_words word × Form words
 begins word words (inl h) e = (plain_first word words h.0 e, h.1)
 begins word words (inr h) e = absurd (option_first word words h.0 e)

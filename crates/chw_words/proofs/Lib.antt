@@ -1,10 +1,16 @@
+pub mod BudgetWords
 pub mod CheckWords
 pub mod Commands
 pub mod EmitWords
 pub mod Exactly
 pub mod Forms
+pub mod MakeWords
 pub mod Matched
+pub mod OneCommand
+pub mod OneWord
 pub mod Outcomes
+pub mod Passes
 pub mod RunWords
 pub mod Shapes
+pub mod SimulateWords
 pub mod Walks

@@ -1,9 +1,9 @@
 -- Which words after `run` are read, and as what.
-use Rattle.std.proofs.Common.{◌≡◌, ◌∙◌, sym, refl, ap, ℕ, List, [], ◌∷◌, ◌++◌, Some, codes, inl, inr, subst}
+use Rattle.std.proofs.Common.{◌≡◌, ◌∙◌, refl, ap, ℕ, List, [], ◌∷◌, Some, codes, inl, inr}
 use Rattle.clap.specs.Walk.{Held, Text, Walk, finished, first_of, idle, nothing_held, rows_after}
-use Rattle.clap.specs.Faults.{defaults_fault, walk_fault}
-use Rattle.chw_words.proofs.Walks.{Goes, at, fails_not, fold_goes, plain_turn, plain_walked, rest_fault, rest_goes, rest_stops}
-use Rattle.chw_words.proofs.Shapes.{Form, IsBudgetWord, IsPlain, held, row, run_shape, start}
+use Rattle.clap.specs.Faults.{defaults_fault, turn_fault, walk_fault}
+use Rattle.chw_words.proofs.Walks.{Fails, Goes, at, fails_not, fold_goes, goes_back, plain_goes, plain_turn, rest_fault, rest_goes, rest_stops}
+use Rattle.chw_words.proofs.Shapes.{Form, IsBudgetWord, IsPlain, at_option, held, row, run_shape, start}
 
 -- where it stands after the first file, and after both
 abbrev with_verilog : Text → Walk
@@ -13,13 +13,10 @@ abbrev with_both : Text → Text → Walk
 with_both f g = at (held (row (codes "verilog") f ∷ []) (Some (codes "stimulus", g ∷ []))) idle 3
 
 reads_verilog : (f : Text) → IsPlain f → Goes run_shape start f (with_verilog f)
-reads_verilog f e = record { quiet = plain_turn run_shape [] nothing_held 1 f e refl; to = plain_walked run_shape.rules nothing_held 1 f e }
+reads_verilog f p = plain_goes run_shape nothing_held 1 f (with_verilog f) p refl refl
 
 reads_stimulus : (f g : Text) → IsPlain g → Goes run_shape (with_verilog f) g (with_both f g)
-reads_stimulus f g e = record {
-  quiet = plain_turn run_shape [] (with_verilog f).held 2 g e refl;
-  to = plain_walked run_shape.rules (with_verilog f).held 2 g e;
-}
+reads_stimulus f g p = plain_goes run_shape (with_verilog f).held 2 g (with_both f g) p refl refl
 
 -- where the words are two files, they are read
 pub run_read : (f g : Text) → IsPlain f → IsPlain g → (rest_fault run_shape start (f ∷ g ∷ []) ≡ [])
@@ -37,11 +34,9 @@ run_read f g p q =
 
 -- an option is refused, wherever it stands
 no_option : (h : Held) (position : ℕ) (word : Text) (words : List Text) → IsBudgetWord word → rest_fault run_shape (at h idle position) (word ∷ words) ≡ [] → ⊥
-no_option h position word words (inl is) e =
-    rest_stops run_shape (at h idle position) (codes "--budget") words tt (subst (λ w. rest_fault run_shape (at h idle position) (w ∷ words) ≡ []) is e)
-no_option h position word words (inr is) e =
-    rest_stops run_shape (at h idle position) (codes "--budget=" ++ is.0) words tt
-    (subst (λ w. rest_fault run_shape (at h idle position) (w ∷ words) ≡ []) (is.1) e)
+no_option h position word words is =
+    rest_stops run_shape (at h idle position) word words
+    (at_option (λ w. Fails (turn_fault run_shape [] (at h idle position) w)) word is tt (λ v. tt))
 
 after_both : (f g : Text) (words : List Text) → Form words → rest_fault run_shape (with_both f g) words ≡ [] → words ≡ []
 after_both f g [] h e = refl
@@ -54,7 +49,7 @@ after_verilog : (f : Text) (words : List Text) → Form words → rest_fault run
 unfolding walk_fault defaults_fault
 after_verilog f [] h e = absurd (fails_not (rest_fault run_shape (with_verilog f) []) tt e)
 after_verilog f (g ∷ gs) (inl h) e =
-    let last = after_both f g gs h.1 (sym (rest_goes run_shape (with_verilog f) (with_both f g) g gs (reads_stimulus f g h.0)) ∙ e) in
+    let last = after_both f g gs h.1 (goes_back run_shape (with_verilog f) (with_both f g) g gs (reads_stimulus f g h.0) e) in
     (g, h.0, ap (λ ws. g ∷ ws) last)
 after_verilog f (w ∷ ws) (inr h) e = absurd (no_option (with_verilog f).held 2 w ws h.0 e)
 
@@ -64,6 +59,6 @@ pub run_words : (words : List Text) → Form words → rest_fault run_shape star
 unfolding walk_fault defaults_fault
 run_words [] h e = absurd (fails_not (rest_fault run_shape start []) tt e)
 run_words (f ∷ fs) (inl h) e =
-    let last = after_verilog f fs h.1 (sym (rest_goes run_shape start (with_verilog f) f fs (reads_verilog f h.0)) ∙ e) in
+    let last = after_verilog f fs h.1 (goes_back run_shape start (with_verilog f) f fs (reads_verilog f h.0) e) in
     (f, last.0, h.0, last.1, ap (λ ws. f ∷ ws) last.2)
 run_words (w ∷ ws) (inr h) e = absurd (no_option nothing_held 1 w ws h.0 e)

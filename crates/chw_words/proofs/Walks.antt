@@ -118,6 +118,35 @@ pub fold_goes : (s : Shape) (w w' : Walk) (word : Text) (words : List Text) → 
     → fold (walked s.rules []) w (word ∷ words) ≡ fold (walked s.rules []) w' words
 fold_goes s w w' word words g = ap (λ v. fold (walked s.rules []) v words) g.to
 
+-- the same, of what is left
+pub goes_back : (s : Shape) (w w' : Walk) (word : Text) (words : List Text) → Goes s w word w' → rest_fault s w (word ∷ words) ≡ [] → rest_fault s w' words ≡ []
+goes_back s w w' word words g e = sym (rest_goes s w w' word words g) ∙ e
+
+-- the words take the walk from one place to another, without a fault on the way
+pub record Leads (s : Shape) (w : Walk) (words : List Text) (end : Walk) : Type 0 where
+  pub faults : rest_fault s w words ≡ rest_fault s end []
+  pub to : fold (walked s.rules []) w words ≡ end
+
+pub there : {s : Shape} {end : Walk} → Leads s end [] end
+there = record { faults = refl; to = refl }
+
+pub first : {s : Shape} {w w' end : Walk} {word : Text} {words : List Text} → Goes s w word w' → Leads s w' words end → Leads s w (word ∷ words) end
+first {s} {w} {w'} {end} {word} {words} g l = record {
+  faults = rest_goes s w w' word words g ∙ l.faults;
+  to = fold_goes s w w' word words g ∙ l.to;
+}
+
+-- a word that doesn't begin with `-` goes to the next positional
+pub plain_goes : (s : Shape) (h : Held) (p : ℕ) (word : Text) (w : Walk) → is_option word ≡ false → step_fault s p h value ≡ []
+    → to_positional s.rules (arg_by_index s.rules p) word (at h idle p) h ≡ w → Goes s (at h idle p) word w
+plain_goes s h p word w e quiet to =
+    record { quiet = plain_turn s [] h p word e refl ∙ quiet; to = plain_walked s.rules h p word e ∙ to }
+
+-- where an option waits, it goes there
+pub value_goes : (s : Shape) (h : Held) (id : Text) (p : ℕ) (word : Text) (w : Walk) → is_option word ≡ false
+    → at (option_word (arg_by_id s.rules id) id word h).0 (option_word (arg_by_id s.rules id) id word h).1 p ≡ w → Goes s (at h (option id) p) word w
+value_goes s h id p word w e to = record { quiet = value_turn s h id p word e; to = value_walked s.rules h id p word e ∙ to }
+
 -- there is a fault
 abbrev pub Fails : Kinds → Type 0
 Fails [] = ⊥

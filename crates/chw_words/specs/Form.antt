@@ -10,8 +10,11 @@ AreTexts words = All IsUtf8 words
 
 -- the word is `--budget`, or `--budget=` with what follows
 abbrev pub is_budget_option : List ℕ → Bool
-is_budget_option word = bytes_eq word (codes "--budget") || starts_with nat_eq word (codes "--budget=")
+is_budget_option word =
+    bytes_eq word (codes "--budget") || starts_with nat_eq word (codes "--budget=")
 
 -- at most one word begins with `-`, and only a budget's
 abbrev pub has_form : List (List ℕ) → Bool
-has_form words = nat_le (count_by is_option words) 1 && list_all (λ word. not (is_option word) || is_budget_option word) words
+has_form words =
+    nat_le (count_by is_option words) 1
+    && list_all (λ word. not (is_option word) || is_budget_option word) words

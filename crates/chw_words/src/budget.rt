@@ -2,6 +2,8 @@
 ghost use Rattle.std.specs.Prelude.{ℕ, MatchOption};
 ghost use Rattle.chw_words.specs.Commands.{IsBudget};
 
+use crate::number::read_number;
+
 /// The most digits of a budget.
 pub const BUDGET_DIGITS: usize = 8;
 /// The greatest budget.
@@ -13,12 +15,5 @@ pub const DEFAULT_BUDGET: u32 = 100_000;
 pub fn read_budget(word: &str) -> Option<u32>
     ensures { MatchOption result ((n : ℕ) → IsBudget word.now n → ⊥) (IsBudget word.now) }
 {
-    let signed = word.as_bytes().first() == Some(&b'+');
-    if signed || word.len() > BUDGET_DIGITS {
-        return None;
-    }
-    match word.parse::<u32>() {
-        Ok(budget) if budget <= MOST_BUDGET => Some(budget),
-        _ => None,
-    }
+    read_number(word, BUDGET_DIGITS, MOST_BUDGET)
 }

@@ -7,13 +7,34 @@ use thiserror::Error;
 #[derive(Debug, Drop)]
 pub enum Command {
     /// To write the Verilog text of the description in a file, with at most so many rewrites.
-    Emit { file: Name, budget: u32 },
+    Emit {
+        file: Name,
+        budget: u32,
+    },
+    /// To simulate the description in a file by a stimulus, with at most so many rewrites, and to write its outputs at each event.
+    Simulate {
+        file: Name,
+        stimulus: Name,
+        budget: u32,
+    },
     /// To write the canonical text of the description in a file.
-    Check { file: Name },
+    Check {
+        file: Name,
+    },
     /// To write the steps by which the description in a file is rewritten, at most so many, and the definitions that they make.
-    Normalise { file: Name, budget: u32 },
+    Normalise {
+        file: Name,
+        budget: u32,
+    },
     /// To step the net of a Verilog text by a stimulus, and to write its outputs at each event.
-    Run { verilog: Name, stimulus: Name },
+    Run {
+        verilog: Name,
+        stimulus: Name,
+    },
+    /// To compile and to simulate a filter with so many taps, and to write how large it is and the sum of its outputs.
+    Make {
+        taps: u32,
+    },
 }
 
 /// The words are no command.

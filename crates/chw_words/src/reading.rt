@@ -7,19 +7,20 @@ ghost use Rattle.clap.specs.Words.{app_of, kind_of, rule_of, subcommand_rows_of}
 ghost use Rattle.clap.specs.declared.builder.command.Command.TheViews.{out-Command as fields_of};
 ghost use Rattle.clap.specs.declared.error.kind.ErrorKind.TheVariants.{OutOfMemory};
 ghost use Rattle.chw_words.specs.Commands.{AreNoCommand, IsCommand};
-ghost use Rattle.chw_words.specs.Parsing.{AreBudgeted, BudgetIs, IsMatched, IsNoneMatched, budget_rule, budgeted_app, check_app, chw_app, descriptions_app, file_rule, matched_under, run_app};
+ghost use Rattle.chw_words.specs.Parsing.{AreBudgeted, BudgetIs, IsMatched, IsNoneMatched, budget_rule, budgeted_app, check_app, chw_app, compiling_app, descriptions_app, make_app, matched_under, run_app, simulate_app, word_rule};
 
 use crate::budget::{DEFAULT_BUDGET, read_budget};
 use crate::command::{Command, WordsFault};
 use crate::form::{has_form, texts};
+use crate::taps::read_taps;
 use chw_base::{Name, NoMemory, Or};
 use clap::error::ErrorKind;
 use clap::{Arg, ArgAction, ArgMatches, Error};
 use std::alloc::{AllocError, Global};
 
-// A file's name, at its place among the words.
-fn file_arg<'a>(alloc: Global, name: &'a str) -> Arg<'a>
-    ensures rule { rule_of result ≡ file_rule name.now }
+// A word that stands for this, at its place among the words.
+fn word_arg<'a>(alloc: Global, name: &'a str) -> Arg<'a>
+    ensures rule { rule_of result ≡ word_rule name.now }
     ensures local { result.global ≡ false }
 {
     Arg::new(alloc, name).required(true).action(ArgAction::Set)
@@ -41,7 +42,18 @@ fn budgeted_parser<'a>(alloc: Global, name: &'a str) -> Result<clap::Command<'a>
     ensures local { IfOk result (λ c. (fields_of c).has_globals ≡ false) }
 {
     clap::Command::new(alloc, name)
-        .arg(file_arg(alloc, "file"))?
+        .arg(word_arg(alloc, "file"))?
+        .arg(budget_arg(alloc))
+}
+
+// `simulate FILE STIM`, with a budget.
+fn simulate_parser<'a>(alloc: Global) -> Result<clap::Command<'a>, AllocError>
+    ensures app { IfOk result (λ c. app_of c ≡ simulate_app) }
+    ensures local { IfOk result (λ c. (fields_of c).has_globals ≡ false) }
+{
+    clap::Command::new(alloc, "simulate")
+        .arg(word_arg(alloc, "file"))?
+        .arg(word_arg(alloc, "stimulus"))?
         .arg(budget_arg(alloc))
 }
 
@@ -50,7 +62,7 @@ fn check_parser<'a>(alloc: Global) -> Result<clap::Command<'a>, AllocError>
     ensures app { IfOk result (λ c. app_of c ≡ check_app) }
     ensures local { IfOk result (λ c. (fields_of c).has_globals ≡ false) }
 {
-    clap::Command::new(alloc, "check").arg(file_arg(alloc, "file"))
+    clap::Command::new(alloc, "check").arg(word_arg(alloc, "file"))
 }
 
 // `run VERILOG STIM`.
@@ -59,13 +71,21 @@ fn run_parser<'a>(alloc: Global) -> Result<clap::Command<'a>, AllocError>
     ensures local { IfOk result (λ c. (fields_of c).has_globals ≡ false) }
 {
     clap::Command::new(alloc, "run")
-        .arg(file_arg(alloc, "verilog"))?
-        .arg(file_arg(alloc, "stimulus"))
+        .arg(word_arg(alloc, "verilog"))?
+        .arg(word_arg(alloc, "stimulus"))
 }
 
-// The commands on descriptions as clap reads them, each with its arguments.
-fn descriptions_parser<'a>(alloc: Global) -> Result<clap::Command<'a>, AllocError>
-    ensures { IfOk result (λ c. app_of c ≡ descriptions_app) }
+// `make N`.
+fn make_parser<'a>(alloc: Global) -> Result<clap::Command<'a>, AllocError>
+    ensures app { IfOk result (λ c. app_of c ≡ make_app) }
+    ensures local { IfOk result (λ c. (fields_of c).has_globals ≡ false) }
+{
+    clap::Command::new(alloc, "make").arg(word_arg(alloc, "taps"))
+}
+
+// The commands on what descriptions are compiled to as clap reads them, each with its arguments.
+fn compiling_parser<'a>(alloc: Global) -> Result<clap::Command<'a>, AllocError>
+    ensures { IfOk result (λ c. app_of c ≡ compiling_app) }
 {
     let chw = clap::Command::new(alloc, "chw")
         .no_binary_name(true)
@@ -73,7 +93,16 @@ fn descriptions_parser<'a>(alloc: Global) -> Result<clap::Command<'a>, AllocErro
         .disable_help_subcommand(true)
         .subcommand_required(true);
     chw.subcommand(budgeted_parser(alloc, "emit")?)?
-        .subcommand(check_parser(alloc)?)
+        .subcommand(simulate_parser(alloc)?)
+}
+
+// These, and the other commands on descriptions.
+fn descriptions_parser<'a>(alloc: Global) -> Result<clap::Command<'a>, AllocError>
+    ensures { IfOk result (λ c. app_of c ≡ descriptions_app) }
+{
+    compiling_parser(alloc)?
+        .subcommand(check_parser(alloc)?)?
+        .subcommand(budgeted_parser(alloc, "normalise")?)
 }
 
 // All commands as clap reads them.
@@ -81,8 +110,8 @@ fn parser<'a>(alloc: Global) -> Result<clap::Command<'a>, AllocError>
     ensures { IfOk result (λ c. app_of c ≡ chw_app) }
 {
     descriptions_parser(alloc)?
-        .subcommand(budgeted_parser(alloc, "normalise")?)?
-        .subcommand(run_parser(alloc)?)
+        .subcommand(run_parser(alloc)?)?
+        .subcommand(make_parser(alloc)?)
 }
 
 // A name of its own.
@@ -135,6 +164,22 @@ fn emit(alloc: Global, matches: &ArgMatches) -> Result<Command, Or<WordsFault>>
     Ok(Command::Emit { file, budget })
 }
 
+// What was matched under `simulate`.
+fn simulate(alloc: Global, matches: &ArgMatches) -> Result<Command, Or<WordsFault>>
+    ensures command { IfOk result (IsMatched (matched_under (codes "simulate") matches.now)) }
+    ensures fault { IfFault result (λ _. IsNoneMatched (matched_under (codes "simulate") matches.now)) }
+{
+    let Some(events) = matches.get_str("stimulus") else {
+        return Err(Or::Fault(WordsFault));
+    };
+    let (file, budget) = budgeted(alloc, matches)?;
+    Ok(Command::Simulate {
+        file,
+        stimulus: name(alloc, events)?,
+        budget,
+    })
+}
+
 // What was matched under `normalise`.
 fn normalise(alloc: Global, matches: &ArgMatches) -> Result<Command, Or<WordsFault>>
     ensures command { IfOk result (IsMatched (matched_under (codes "normalise") matches.now)) }
@@ -174,6 +219,20 @@ fn run(alloc: Global, matches: &ArgMatches) -> Result<Command, Or<WordsFault>>
     })
 }
 
+// What was matched under `make`.
+fn make(matches: &ArgMatches) -> Result<Command, Or<WordsFault>>
+    ensures command { IfOk result (IsMatched (matched_under (codes "make") matches.now)) }
+    ensures fault { IfFault result (λ _. IsNoneMatched (matched_under (codes "make") matches.now)) }
+{
+    let Some(word) = matches.get_str("taps") else {
+        return Err(Or::Fault(WordsFault));
+    };
+    let Some(taps) = read_taps(word) else {
+        return Err(Or::Fault(WordsFault));
+    };
+    Ok(Command::Make { taps })
+}
+
 // The command that was matched.
 fn reading(alloc: Global, matches: &ArgMatches) -> Result<Command, Or<WordsFault>>
     ensures command { IfOk result (IsMatched (subcommand_rows_of matches.now)) }
@@ -184,9 +243,11 @@ fn reading(alloc: Global, matches: &ArgMatches) -> Result<Command, Or<WordsFault
     };
     match command {
         "emit" => emit(alloc, matches),
+        "simulate" => simulate(alloc, matches),
         "check" => check(alloc, matches),
         "normalise" => normalise(alloc, matches),
         "run" => run(alloc, matches),
+        "make" => make(matches),
         _ => Err(Or::Fault(WordsFault)),
     }
 }

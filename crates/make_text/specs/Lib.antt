@@ -1,1 +1,2 @@
 pub mod MakeText
+pub mod MakeTree

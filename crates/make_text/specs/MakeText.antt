@@ -1,68 +1,56 @@
--- The text of a filter of so many taps: the input in domain A and its delays, the sum of their
--- products with 1, 2, 3 and so on, and a register in domain B that takes over this sum.
-use Rattle.std.specs.Prelude.{ℕ, zero, suc, ◌+◌, ◌-◌, List, [], ◌++◌, codes, decimal}
+-- The text of the description, and the pieces of which it is written.
+use Rattle.std.specs.Prelude.{ℕ, List, [], ◌∷◌, ◌++◌, codes, false}
+use Rattle.chw_grammar.specs.declared.term_tree.Binding.{Binding}
+use Rattle.chw_grammar.specs.declared.terminal.Terminal.TheVariants.{Comma}
+use Rattle.chw_grammar.specs.Lexemes.{Lexeme}
+use Rattle.chw_grammar.specs.TermView.{bindings_of}
+use Rattle.chw_grammar.specs.Text.{Text, bindings_lexemes, sign, term_lexemes}
+use Rattle.make_text.specs.MakeTree.{delay, first_tap, later_product, make_tree, product, sum}
 
--- pieces one after the other, for the numbers below this one
-abbrev pub each : (ℕ → List ℕ) → ℕ → List ℕ
-each piece zero = []
-each piece (suc k) = each piece k ++ piece k
+-- the canonical text of the description of a filter with so many taps
+abbrev pub make_text : ℕ → List ℕ
+make_text taps = Text (make_tree taps)
 
--- the function that adds signals
-abbrev pub plus : List ℕ
-plus =
-    codes "def plus : Signal A (Unsigned 16) -> Signal A (Unsigned 16)"
-    ++ codes " -> Signal A (Unsigned 16) =\n"
-    ++ codes "  \\(a : Signal A (Unsigned 16)) . \\(b : Signal A (Unsigned 16)) .\n"
-    ++ codes "  ap @A @(Unsigned 16) @(Unsigned 16)\n"
-    ++ codes "  (fmap @A @(Unsigned 16) @(Unsigned 16 -> Unsigned 16) (addU @16) a) b;\n"
+-- tokens with a space behind each
+abbrev pub spaced : List Lexeme → List ℕ
+spaced [] = []
+spaced (l ∷ ls) = l.bytes ++ 32 ∷ spaced ls
 
--- the domains, both functions, and tap 0, which is the input
+-- a binding among others
+abbrev pub binding_text : Binding → List ℕ
+binding_text b = spaced (bindings_lexemes (bindings_of (b ∷ [])))
+
+abbrev pub first_text : List ℕ
+first_text = binding_text first_tap
+
+abbrev pub delay_text : ℕ → List ℕ
+delay_text k = binding_text (delay k)
+
+abbrev pub product_text : ℕ → List ℕ
+product_text k = binding_text (product k)
+
+-- a product in a list, behind others
+abbrev pub element_text : ℕ → List ℕ
+element_text k = spaced (sign Comma ∷ term_lexemes false (later_product k))
+
+abbrev pub sum_text : ℕ → List ℕ
+sum_text taps = binding_text (sum taps)
+
+-- all before the first tap
 abbrev pub front : List ℕ
 front =
-    codes "domain A;\ndomain B;\n"
-    ++ plus
-    ++ codes "def main : Signal A (Unsigned 16) -> Signal B (Unsigned 16) =\n"
-    ++ codes "  \\(x : Signal A (Unsigned 16)) . letrec {\n"
-    ++ codes "  t0 : Signal A (Unsigned 16) = x;\n"
-
--- the tap after this one delays it
-abbrev pub delay : ℕ → List ℕ
-delay k =
-    codes "  t" ++ decimal (k + 1)
-    ++ codes " : Signal A (Unsigned 16) = register @A @(Unsigned 16) 0u16 t" ++ decimal k
-    ++ codes ";\n"
-
--- the product of this tap and its number, counted from 1
-abbrev pub product : ℕ → List ℕ
-product k =
-    codes "  s" ++ decimal k
-    ++ codes " : Signal A (Unsigned 16) = fmap @A @(Unsigned 16) @(Unsigned 16)"
-    ++ codes " (\\(v : Unsigned 16) . mulU @16 v " ++ decimal (k + 1) ++ codes "u16) t" ++ decimal k
-    ++ codes ";\n"
-
--- what separates an item of this number from the one before it
-abbrev pub comma : ℕ → List ℕ
-comma zero = []
-comma (suc k) = codes ", "
-
--- the name of a product in a list
-abbrev pub element : ℕ → List ℕ
-element k = comma k ++ codes "s" ++ decimal k
-
--- the sum of so many products
-abbrev pub sum : ℕ → List ℕ
-sum taps =
-    codes "  y : Signal A (Unsigned 16) = vfoldlC @" ++ decimal taps
-    ++ codes " @(Signal A (Unsigned 16)) @(Signal A (Unsigned 16)) plus"
-    ++ codes " (pure @A @(Unsigned 16) 0u16)"
-    ++ codes " (vec @(Signal A (Unsigned 16)) [" ++ each element taps ++ codes "]);\n"
+    codes "domain A ;\ndomain B ;\n"
+    ++ codes "def plus : Signal A ( Unsigned 16 ) -> Signal A ( Unsigned 16 ) "
+    ++ codes "-> Signal A ( Unsigned 16 ) = "
+    ++ codes "\\ ( a : Signal A ( Unsigned 16 ) ) . \\ ( b : Signal A ( Unsigned 16 ) ) . "
+    ++ codes "ap @ A @ ( Unsigned 16 ) @ ( Unsigned 16 ) "
+    ++ codes "( fmap @ A @ ( Unsigned 16 ) @ ( Unsigned 16 -> Unsigned 16 ) ( addU @ 16 ) a ) b ;\n"
+    ++ codes "def main : Signal A ( Unsigned 16 ) -> Signal B ( Unsigned 16 ) = "
+    ++ codes "\\ ( x : Signal A ( Unsigned 16 ) ) . letrec { "
 
 -- the register in domain B, and the top
 abbrev pub back : List ℕ
 back =
-    codes "  z : Signal B (Unsigned 16) = register @B @(Unsigned 16) 0u16"
-    ++ codes " (unsafeSynchronizer @A @B @(Unsigned 16) y);\n"
-    ++ codes "  } in z;\ntop main (x) (o);\n"
-
-abbrev pub make_text : ℕ → List ℕ
-make_text taps = front ++ each delay (taps - 1) ++ each product taps ++ sum taps ++ back
+    codes "z : Signal B ( Unsigned 16 ) = register @ B @ ( Unsigned 16 ) 0u16 "
+    ++ codes "( unsafeSynchronizer @ A @ B @ ( Unsigned 16 ) y ) ; } in z ;\n"
+    ++ codes "top main ( x ) ( o ) ;\n"

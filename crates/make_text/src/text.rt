@@ -1,61 +1,89 @@
 //! The text, binding by binding.
-ghost use Rattle.std.specs.Prelude.{◌≡◌, ◌++◌, IfOk, OnOk};
-ghost use Rattle.make_text.specs.MakeText.{back, comma, delay, each, element, front, make_text, plus, product, sum};
+ghost use Rattle.std.specs.Prelude.{◌≡◌, ◌++◌, flat_map, IfOk, OnOk};
+ghost use Rattle.std.specs.List.{range_with_len};
+ghost use Rattle.make_text.specs.MakeText.{back, delay_text, element_text, first_text, front, make_text, product_text, sum_text};
 
 use crate::pieces::{put, put_number};
 use chw_base::NoMemory;
 use std::alloc::Global;
 
+// Appends all before the first tap.
+fn put_front(out: &mut Vec<u8>) -> Result<(), NoMemory>
+    ensures { OnOk result (out.new.items ≡ out.old.items ++ front) }
+{
+    put(out, b"domain A ;\ndomain B ;\n")?;
+    put(
+        out,
+        b"def plus : Signal A ( Unsigned 16 ) -> Signal A ( Unsigned 16 ) -> Signal A ( Unsigned 16 ) = ",
+    )?;
+    put(
+        out,
+        b"\\ ( a : Signal A ( Unsigned 16 ) ) . \\ ( b : Signal A ( Unsigned 16 ) ) . ",
+    )?;
+    put(out, b"ap @ A @ ( Unsigned 16 ) @ ( Unsigned 16 ) ")?;
+    put(
+        out,
+        b"( fmap @ A @ ( Unsigned 16 ) @ ( Unsigned 16 -> Unsigned 16 ) ( addU @ 16 ) a ) b ;\n",
+    )?;
+    put(
+        out,
+        b"def main : Signal A ( Unsigned 16 ) -> Signal B ( Unsigned 16 ) = ",
+    )?;
+    put(out, b"\\ ( x : Signal A ( Unsigned 16 ) ) . letrec { ")?;
+    Ok(())
+}
+
+// Appends the binding of the first tap.
+fn put_first(out: &mut Vec<u8>) -> Result<(), NoMemory>
+    ensures { OnOk result (out.new.items ≡ out.old.items ++ first_text) }
+{
+    put(out, b"t")?;
+    put_number(out, 0, b" : Signal A ( Unsigned 16 ) = x ; ")?;
+    Ok(())
+}
+
 // Appends the binding of a tap that delays the one of this number.
 fn put_delay(out: &mut Vec<u8>, k: u32) -> Result<(), NoMemory>
-    ensures { OnOk result (out.new.items ≡ out.old.items ++ delay k) }
+    ensures { OnOk result (out.new.items ≡ out.old.items ++ delay_text k) }
 {
-    put(out, b"  t")?;
+    put(out, b"t")?;
     put_number(
         out,
         u64::from(k) + 1,
-        b" : Signal A (Unsigned 16) = register @A @(Unsigned 16) 0u16 t",
+        b" : Signal A ( Unsigned 16 ) = register @ A @ ( Unsigned 16 ) 0u16 t",
     )?;
-    put_number(out, u64::from(k), b";\n")?;
+    put_number(out, u64::from(k), b" ; ")?;
     Ok(())
 }
 
 // Appends the binding of the product of a tap.
 fn put_product(out: &mut Vec<u8>, k: u32) -> Result<(), NoMemory>
-    ensures { OnOk result (out.new.items ≡ out.old.items ++ product k) }
+    ensures { OnOk result (out.new.items ≡ out.old.items ++ product_text k) }
 {
-    put(out, b"  s")?;
+    put(out, b"s")?;
     put_number(
         out,
         u64::from(k),
-        b" : Signal A (Unsigned 16) = fmap @A @(Unsigned 16) @(Unsigned 16)",
+        b" : Signal A ( Unsigned 16 ) = fmap @ A @ ( Unsigned 16 ) @ ( Unsigned 16 ) ",
     )?;
-    put(out, b" (\\(v : Unsigned 16) . mulU @16 v ")?;
-    put_number(out, u64::from(k) + 1, b"u16) t")?;
-    put_number(out, u64::from(k), b";\n")?;
+    put(out, b"( \\ ( v : Unsigned 16 ) . mulU @ 16 v ")?;
+    put_number(out, u64::from(k) + 1, b"u16 ) t")?;
+    put_number(out, u64::from(k), b" ; ")?;
     Ok(())
 }
 
-// Appends what separates an item of this number from the one before it.
-fn put_comma(out: &mut Vec<u8>, k: u32) -> Result<(), NoMemory>
-    ensures { OnOk result (out.new.items ≡ out.old.items ++ comma k) }
-{
-    if k == 0 { Ok(()) } else { put(out, b", ") }
-}
-
-// Appends the name of a product in a list.
+// Appends the name of the product after this one, behind others in a list.
 fn put_element(out: &mut Vec<u8>, k: u32) -> Result<(), NoMemory>
-    ensures { OnOk result (out.new.items ≡ out.old.items ++ element k) }
+    ensures { OnOk result (out.new.items ≡ out.old.items ++ element_text k) }
 {
-    put_comma(out, k)?;
-    put(out, b"s")?;
-    put_number(out, u64::from(k), b"")?;
+    put(out, b", s")?;
+    put_number(out, u64::from(k) + 1, b" ")?;
     Ok(())
 }
 
 // Appends the bindings of so many taps that delay others.
 fn put_delays(out: &mut Vec<u8>, count: u32) -> Result<(), NoMemory>
-    ensures { OnOk result (out.new.items ≡ out.old.items ++ each delay count) }
+    ensures { OnOk result (out.new.items ≡ out.old.items ++ flat_map delay_text (range_with_len 0 count)) }
 {
     for k in 0..count {
         put_delay(out, k)?;
@@ -65,7 +93,7 @@ fn put_delays(out: &mut Vec<u8>, count: u32) -> Result<(), NoMemory>
 
 // Appends the bindings of so many products.
 fn put_products(out: &mut Vec<u8>, count: u32) -> Result<(), NoMemory>
-    ensures { OnOk result (out.new.items ≡ out.old.items ++ each product count) }
+    ensures { OnOk result (out.new.items ≡ out.old.items ++ flat_map product_text (range_with_len 0 count)) }
 {
     for k in 0..count {
         put_product(out, k)?;
@@ -73,9 +101,9 @@ fn put_products(out: &mut Vec<u8>, count: u32) -> Result<(), NoMemory>
     Ok(())
 }
 
-// Appends the names of so many products.
+// Appends the names of so many products behind the first.
 fn put_elements(out: &mut Vec<u8>, count: u32) -> Result<(), NoMemory>
-    ensures { OnOk result (out.new.items ≡ out.old.items ++ each element count) }
+    ensures { OnOk result (out.new.items ≡ out.old.items ++ flat_map element_text (range_with_len 0 count)) }
 {
     for k in 0..count {
         put_element(out, k)?;
@@ -85,54 +113,21 @@ fn put_elements(out: &mut Vec<u8>, count: u32) -> Result<(), NoMemory>
 
 // Appends the binding of the sum of so many products.
 fn put_sum(out: &mut Vec<u8>, taps: u32) -> Result<(), NoMemory>
-    ensures { OnOk result (out.new.items ≡ out.old.items ++ sum taps) }
+    ensures { OnOk result (out.new.items ≡ out.old.items ++ sum_text taps) }
 {
-    put(out, b"  y : Signal A (Unsigned 16) = vfoldlC @")?;
+    put(out, b"y : Signal A ( Unsigned 16 ) = vfoldlC @ ")?;
     put_number(
         out,
         u64::from(taps),
-        b" @(Signal A (Unsigned 16)) @(Signal A (Unsigned 16)) plus",
+        b" @ ( Signal A ( Unsigned 16 ) ) @ ( Signal A ( Unsigned 16 ) ) plus ",
     )?;
-    put(out, b" (pure @A @(Unsigned 16) 0u16)")?;
-    put(out, b" (vec @(Signal A (Unsigned 16)) [")?;
-    put_elements(out, taps)?;
-    put(out, b"]);\n")?;
-    Ok(())
-}
-
-// Appends the function that adds signals.
-fn put_plus(out: &mut Vec<u8>) -> Result<(), NoMemory>
-    ensures { OnOk result (out.new.items ≡ out.old.items ++ plus) }
-{
     put(
         out,
-        b"def plus : Signal A (Unsigned 16) -> Signal A (Unsigned 16)",
+        b"( pure @ A @ ( Unsigned 16 ) 0u16 ) vec @ ( Signal A ( Unsigned 16 ) ) [ s",
     )?;
-    put(out, b" -> Signal A (Unsigned 16) =\n")?;
-    put(
-        out,
-        b"  \\(a : Signal A (Unsigned 16)) . \\(b : Signal A (Unsigned 16)) .\n",
-    )?;
-    put(out, b"  ap @A @(Unsigned 16) @(Unsigned 16)\n")?;
-    put(
-        out,
-        b"  (fmap @A @(Unsigned 16) @(Unsigned 16 -> Unsigned 16) (addU @16) a) b;\n",
-    )?;
-    Ok(())
-}
-
-// Appends all before the taps that delay others.
-fn put_front(out: &mut Vec<u8>) -> Result<(), NoMemory>
-    ensures { OnOk result (out.new.items ≡ out.old.items ++ front) }
-{
-    put(out, b"domain A;\ndomain B;\n")?;
-    put_plus(out)?;
-    put(
-        out,
-        b"def main : Signal A (Unsigned 16) -> Signal B (Unsigned 16) =\n",
-    )?;
-    put(out, b"  \\(x : Signal A (Unsigned 16)) . letrec {\n")?;
-    put(out, b"  t0 : Signal A (Unsigned 16) = x;\n")?;
+    put_number(out, 0, b" ")?;
+    put_elements(out, taps.saturating_sub(1))?;
+    put(out, b"] ; ")?;
     Ok(())
 }
 
@@ -142,15 +137,18 @@ fn put_back(out: &mut Vec<u8>) -> Result<(), NoMemory>
 {
     put(
         out,
-        b"  z : Signal B (Unsigned 16) = register @B @(Unsigned 16) 0u16",
+        b"z : Signal B ( Unsigned 16 ) = register @ B @ ( Unsigned 16 ) 0u16 ",
     )?;
-    put(out, b" (unsafeSynchronizer @A @B @(Unsigned 16) y);\n")?;
-    put(out, b"  } in z;\ntop main (x) (o);\n")?;
+    put(
+        out,
+        b"( unsafeSynchronizer @ A @ B @ ( Unsigned 16 ) y ) ; } in z ;\n",
+    )?;
+    put(out, b"top main ( x ) ( o ) ;\n")?;
     Ok(())
 }
 
-/// The description of a filter with so many taps: an input of 16 bits in domain `A` and its delays by registers, the sum of their
-/// products with 1, 2, 3 and so on, and a register in domain `B` that takes over this sum.
+/// The description of a filter with so many taps, as its canonical text: an input of 16 bits in domain `A` and its delays by registers,
+/// the sum of their products with 1, 2, 3 and so on, and a register in domain `B` that takes over this sum.
 ///
 /// `NoMemory` comes where the text can't grow so far. The time is linear in the length of the text.
 pub fn make_text(alloc: Global, taps: u32) -> Result<Vec<u8>, NoMemory>
@@ -158,6 +156,7 @@ pub fn make_text(alloc: Global, taps: u32) -> Result<Vec<u8>, NoMemory>
 {
     let mut text = Vec::new(alloc);
     put_front(&mut text)?;
+    put_first(&mut text)?;
     put_delays(&mut text, taps.saturating_sub(1))?;
     put_products(&mut text, taps)?;
     put_sum(&mut text, taps)?;

@@ -15,7 +15,7 @@
 //! `width TEXT` gives the width of the type of the last definition, and `value NUMBER TEXT` what the number means as a value of that type:
 //! the number of its constructor, its field if it has one, and the number of its bits.
 //!
-//! `words "WORD" .. "WORD"` gives the command that words are, with its files and its budget, `budget WORD` the budget that a word is.
+//! `words "WORD" .. "WORD"` gives the command that words are, with its files and its numbers, `budget WORD` the budget that a word is.
 #![tactic(auto)]
 
 mod layouts;

@@ -2,8 +2,7 @@ use Rattle.std.proofs.Common.{◌≡◌, ◌∙◌, ◌+◌, ◌++◌, [], ◌�
 use Rattle.std.specs.List.{All}
 use Rattle.std.specs.Str.{IsUtf8}
 use Rattle.std.proofs.lemmas.List.{map-append, take_all, take_more}
-use Rattle.std.proofs.lemmas.List.Elements.{All-append}
-use Rattle.chw_words.proofs.Exactly.{none_left, one_more}
+use Rattle.std.proofs.lemmas.List.Elements.{All-append, All-cons, All-nil}
 use Rattle.chw_words.proofs.form.texts.Goals as goal
 
 pub returns-in-Err : goal.returns-in-Err
@@ -22,7 +21,7 @@ loop-word-preserved c =
     take_more words i word c.loop-word-test.true ∙ ap (λ w. take i words ++ w ∷ []) (sym c.word-item.is) in
     let same : c.as_slice.result.now ≡ word = c.as_slice.ensures in
     let text : IsUtf8 word = subst (λ w. IsUtf8 w) same c.in-Ok.ensures.cases.1 in
-    let all : All IsUtf8 (take i words ++ word ∷ []) = All-append IsUtf8 (take i words) (word ∷ []) c.loop-word.invariant.0 (one_more word [] text none_left) in
+    let all : All IsUtf8 (take i words ++ word ∷ []) = All-append IsUtf8 (take i words) (word ∷ []) c.loop-word.invariant.0 (All-cons IsUtf8 word [] text (All-nil IsUtf8)) in
     let now : c.in-Ok.text.now ≡ word = c.in-Ok.ensures.cases.0 ∙ same in (
       subst (λ ws. All IsUtf8 ws) (sym more) all,
       ap (map (λ s. s.now)) c.in_ok-push-in-Ok.ensures.items ∙ map-append (λ s. s.now) c.loop-word.texts.items (c.in-Ok.text ∷ [])

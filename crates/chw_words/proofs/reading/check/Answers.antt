@@ -1,9 +1,9 @@
-use Rattle.std.proofs.Common.{◌≡◌, ◌∙◌, sym, refl, ap, Some, None, codes, option_map}
+use Rattle.std.proofs.Common.{◌≡◌, ◌∙◌, sym, ap, Some, None, codes, option_map}
 use Rattle.clap.specs.Matches.{found_of}
 use Rattle.clap.specs.Walk.{first_of, rows_of}
 use Rattle.clap.proofs.WalkLemmas.{first_value-rows}
-use Rattle.chw_words.specs.Parsing.{check, matched_under}
-use Rattle.chw_words.proofs.Exactly.{check_only}
+use Rattle.chw_words.specs.Parsing.{check}
+use Rattle.chw_words.proofs.OneCommand.{check_only}
 use Rattle.chw_words.proofs.reading.check.Goals as goal
 
 pub returns-in_default-clause-fault : goal.returns-in_default-clause-fault
@@ -12,7 +12,7 @@ returns-in_default-clause-fault c =
     let none : first_of (codes "file") (rows_of found) ≡ None =
     sym (first_value-rows found (codes "file")) ∙ sym c.get_str.ensures ∙ ap (option_map (λ s. s.now)) c.in_default.is in
     λ command is.
-    let only = check_only (matched_under (codes "check") c.args.matches.now) (rows_of found) command refl is in
+    let only = check_only (rows_of found) command is in
     let bad : None ≡ Some (only.0) = sym none ∙ only.1 in
     cc
 

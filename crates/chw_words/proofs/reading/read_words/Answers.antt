@@ -7,7 +7,8 @@ use Rattle.clap.specs.Faults.{fault_of, is_simple_and_free}
 use Rattle.clap.specs.Simple.{is_simple, subcommand_rows_of}
 use Rattle.chw_words.specs.Form.{AreTexts, has_form}
 use Rattle.chw_words.specs.Parsing.{IsMatched, chw_app}
-use Rattle.chw_words.proofs.Exactly.{are_texts, is_command, passes}
+use Rattle.chw_words.proofs.Exactly.{is_command}
+use Rattle.chw_words.proofs.Passes.{are_texts, passes}
 use Rattle.chw_words.proofs.Outcomes.{IfFault-weaker, OfFault-weaker}
 use Rattle.chw_words.proofs.Forms.{form_from, form_test}
 use Rattle.chw_words.proofs.reading.read_words.Goals as goal

@@ -1,9 +1,9 @@
-use Rattle.std.proofs.Common.{◌≡◌, ◌∙◌, sym, refl, ap, Some, None, codes, option_map}
+use Rattle.std.proofs.Common.{◌≡◌, ◌∙◌, sym, ap, Some, None, codes, option_map}
 use Rattle.clap.specs.Matches.{found_of}
 use Rattle.clap.specs.Walk.{first_of, rows_of}
 use Rattle.clap.proofs.WalkLemmas.{first_value-rows}
-use Rattle.chw_words.specs.Parsing.{matched_under, run}
-use Rattle.chw_words.proofs.Exactly.{run_only}
+use Rattle.chw_words.specs.Parsing.{run}
+use Rattle.chw_words.proofs.OneCommand.{run_only}
 use Rattle.chw_words.proofs.reading.run.Goals as goal
 
 pub returns-in_default-clause-fault : goal.returns-in_default-clause-fault
@@ -12,7 +12,7 @@ returns-in_default-clause-fault c =
     let none : first_of (codes "verilog") (rows_of found) ≡ None =
     sym (first_value-rows found (codes "verilog")) ∙ sym c.get_str.ensures ∙ ap (option_map (λ s. s.now)) c.in_default.is in
     λ command is.
-    let only = run_only (matched_under (codes "run") c.args.matches.now) (rows_of found) command refl is in
+    let only = run_only (rows_of found) command is in
     let bad : None ≡ Some (only.0) = sym none ∙ only.2 in
     cc
 
@@ -22,7 +22,7 @@ returns-in_default-get_str-clause-fault c =
     let none : first_of (codes "stimulus") (rows_of found) ≡ None =
     sym (first_value-rows found (codes "stimulus")) ∙ sym c.get_str-2.ensures ∙ ap (option_map (λ s. s.now)) c.in_default-get_str.is in
     λ command is.
-    let only = run_only (matched_under (codes "run") c.args.matches.now) (rows_of found) command refl is in
+    let only = run_only (rows_of found) command is in
     let bad : None ≡ Some (only.1) = sym none ∙ only.3 in
     cc
 

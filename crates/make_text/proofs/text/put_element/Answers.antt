@@ -1,6 +1,5 @@
 use Rattle.std.proofs.Common.{append_assoc}
-use Rattle.std.proofs.lemmas.List.{append-nil}
 use Rattle.make_text.proofs.text.put_element.Goals as goal
 
 pub returns : goal.returns
-returns c = simp (c.in_ok-put_number.ensures, c.from.ensures, c.in_ok-put.ensures, c.in_ok-put_comma.ensures, append_assoc, append-nil)
+returns c = simp (c.in_ok-put_number.ensures, c.from.ensures, c.in_ok-put.ensures, append_assoc)

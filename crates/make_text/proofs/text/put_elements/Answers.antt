@@ -1,12 +1,6 @@
-use Rattle.std.proofs.Common.{◌++◌, ap, ◌∙◌}
-use Rattle.std.proofs.Math.Numerals.{suc-eq-add-one}
-use Rattle.make_text.specs.MakeText.{element, each}
+use Rattle.make_text.specs.MakeText.{element_text}
 use Rattle.make_text.proofs.Joined.{one_more}
 use Rattle.make_text.proofs.text.put_elements.Goals as goal
 
 pub loop-k-preserved : goal.loop-k-preserved
-loop-k-preserved c =
-    let out = c.args.out.now.items in
-    let k = c.loop-k.k in
-    one_more out (each element k) (element k) _ _ c.loop-k.invariant c.in_ok-put_element.ensures
-    ∙ ap (λ n. out ++ each element n) (suc-eq-add-one k)
+loop-k-preserved c = one_more _ _ _ element_text c.loop-k.k c.loop-k.invariant c.in_ok-put_element.ensures

@@ -1,12 +1,6 @@
-use Rattle.std.proofs.Common.{◌++◌, ap, ◌∙◌}
-use Rattle.std.proofs.Math.Numerals.{suc-eq-add-one}
-use Rattle.make_text.specs.MakeText.{product, each}
+use Rattle.make_text.specs.MakeText.{product_text}
 use Rattle.make_text.proofs.Joined.{one_more}
 use Rattle.make_text.proofs.text.put_products.Goals as goal
 
 pub loop-k-preserved : goal.loop-k-preserved
-loop-k-preserved c =
-    let out = c.args.out.now.items in
-    let k = c.loop-k.k in
-    one_more out (each product k) (product k) _ _ c.loop-k.invariant c.in_ok-put_product.ensures
-    ∙ ap (λ n. out ++ each product n) (suc-eq-add-one k)
+loop-k-preserved c = one_more _ _ _ product_text c.loop-k.k c.loop-k.invariant c.in_ok-put_product.ensures
