@@ -43,7 +43,8 @@ module _ (means_once : OneMeaning) (encodes_once : OneEncoding) (p : Program) wh
   outputs_once : (many : ℕ) (h : History) (a b : List (List Bool)) → AreMeant p many h a → AreMeant p many h b → a ≡ b
   outputs_once many h a b x y = same_list a b (x.as_many ∙ sym y.as_many) (λ k c d i j. bits_once h k c d (x.each k c i) (y.each k d j))
 
-  all_once : (many : ℕ) (past events : List Event) (a b : List (List (List Bool))) → MeantAt p many past events a → MeantAt p many past events b → a ≡ b
+  -- the outputs at events
+  pub all_once : (many : ℕ) (past events : List Event) (a b : List (List (List Bool))) → MeantAt p many past events a → MeantAt p many past events b → a ≡ b
   all_once many past _ _ _ (meant_at_none _) (meant_at_none _) = refl
   all_once many past _ _ _ (meant_at_more _ events event a as' x xs) (meant_at_more _ _ _ b bs y ys) =
       ap₂ (λ z zs. z ∷ zs) (outputs_once many (event ∷ past) a b x y) (all_once many (event ∷ past) events as' bs xs ys)

@@ -17,6 +17,12 @@ abbrev pub OneSimulation : Type 0
 OneSimulation =
     (p : Program) (text a b : List ℕ) → IsSimulation p text a → IsSimulation p text b → a ≡ b
 
+-- a program means one list of outputs at events, behind a past
+abbrev pub OneMeant : Type 0
+OneMeant =
+    (p : Program) (many : ℕ) (past events : List Event) (a b : List (List (List Bool)))
+    → MeantAt p many past events a → MeantAt p many past events b → a ≡ b
+
 -- a stimulus of values for the program isn't refused
 abbrev pub NothingRefusesAStimulus : Type 0
 NothingRefusesAStimulus =

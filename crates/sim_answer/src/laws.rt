@@ -1,5 +1,5 @@
 //! The laws of simulations, each as the contract of a call that does nothing.
-ghost use Rattle.sim_answer.specs.Laws.{HistoriesFit, NothingRefusesAStimulus, OneFault, OneSimulation, OutputsAreMeant};
+ghost use Rattle.sim_answer.specs.Laws.{HistoriesFit, NothingRefusesAStimulus, OneFault, OneMeant, OneSimulation, OutputsAreMeant};
 
 use chw_layout::laws::encodings;
 use chw_meaning::laws::at_most_one_meaning;
@@ -14,6 +14,14 @@ pub fn one_simulation()
     at_most_one_meaning();
     encodings();
     one_stimulus();
+}
+
+/// A program means one list of outputs at events.
+pub fn one_meant()
+    ensures { OneMeant }
+{
+    at_most_one_meaning();
+    encodings();
 }
 
 /// A stimulus of values for a program isn't refused, and a text is refused for one fault.

@@ -1,0 +1,38 @@
+-- What is promised of the stimulus and of tallies.
+use Rattle.std.specs.Prelude.{◌≡◌, ◌≤◌, ℕ, List, [], ◌∷◌}
+use Rattle.chw_clock.specs.declared.event.Ports.{Ports}
+use Rattle.chw_types.specs.TypeTree.{TypeTree, scalar}
+use Rattle.chw_types.specs.declared.kind.Scalar.{Scalar}
+use Rattle.chw_terms.specs.declared.program.Program.{Program}
+use Rattle.chw_layout.specs.Measured.{closed_value}
+use Rattle.stimulus.specs.Stimulus.{Stim}
+use Rattle.sim_answer.specs.Simulation.{HasInputs, IsStimulus}
+use Rattle.make_answer.specs.Events.{HasX, make_events, make_stimulus}
+use Rattle.make_answer.specs.Sums.{odd_sum}
+use Rattle.make_answer.specs.Tally.{IsNarrow, IsSummed, IsTally}
+use Rattle.make_answer.specs.declared.tally.Tally.{Tally}
+
+-- the text is a stimulus of these events, for up to 64 taps
+abbrev pub MadeStimuliAreRead : Type 0
+MadeStimuliAreRead =
+    (taps : ℕ) (ports : Ports) → taps ≤ 64 → HasX ports
+    → Stim (make_stimulus taps) ports (make_events taps)
+
+-- it is one of values, if the input's type is a scalar of 16 bits
+abbrev pub MadeStimuliAreValues : Type 0
+MadeStimuliAreValues =
+    (p : Program) (ports : Ports) (taps : ℕ) (s : Scalar) (width : TypeTree)
+    → taps ≤ 64 → HasX ports → HasInputs p ports (scalar s width ∷ []) → closed_value width ≡ 16
+    → IsStimulus p (make_stimulus taps) ports (make_events taps)
+
+-- of an output of at most 32 bits the sum is that of its numbers, and nothing is cut off
+abbrev pub SumsAreWhole : Type 0
+SumsAreWhole =
+    (p : Program) (text : List ℕ) (sum : ℕ) → (s : IsSummed p text sum) → IsNarrow s.ports
+    → sum ≡ odd_sum s.outputs
+
+-- a program and a text have one tally at most, whatever the budgets are
+abbrev pub OneTally : Type 0
+OneTally =
+    (p : Program) (budget other : ℕ) (text : List ℕ) (a b : Tally)
+    → IsTally p budget text a → IsTally p other text b → a ≡ b

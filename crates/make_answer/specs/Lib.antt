@@ -1,0 +1,5 @@
+pub mod Events
+pub mod Laws
+pub mod Lines
+pub mod Sums
+pub mod Tally
