@@ -13,6 +13,7 @@ use Rattle.chw_cli.proofs.Asking.{AreWhole, Held, IsLonger}
 use Rattle.chw_cli.proofs.Asking.IsLonger.{its, of_later}
 use Rattle.chw_cli.proofs.Descriptions.{NoLexFault, OneSplitting, OneTree, has_no_fault, same_description}
 use Rattle.chw_cli.proofs.Emitting.{emit_status, good_is_emitted}
+use Rattle.chw_cli.proofs.Making.{make_is_answered, make_status, whole_made}
 use Rattle.chw_cli.proofs.Normal.{normal_is_answered, normal_status}
 use Rattle.chw_cli.proofs.OneText.{HasNoFault, HasNoNameFault, HasNoTypeFault, OneDescription, misses_one, one_text_is_answered, text_status, whole_text}
 use Rattle.chw_cli.proofs.Runs.{NothingRefused, NothingWrong, run_is_answered, run_status, runnable_is_right, runs_are_of_two}
@@ -24,6 +25,8 @@ use Rattle.chw_words.specs.declared.command.Command.{Command}
 use Rattle.chw_words.specs.declared.command.Command.TheVariants.{Emit, Simulate, Check, Normalise, Run, Make}
 use Rattle.compiled.specs.Laws.{NothingRefusesACompile}
 use Rattle.data_kinds.specs.Laws.{OneProgram}
+use Rattle.make_answer.specs.Events.{make_stimulus}
+use Rattle.make_text.specs.MakeText.{make_text}
 use Rattle.sim_answer.specs.Laws.{NothingRefusesAStimulus}
 
 -- the laws by which nothing refuses what breaks no restriction
@@ -78,7 +81,8 @@ not_refused l files (Normalise file budget) texts reads r held_texts breaks held
     texts reads r held_texts breaks held_reads a
 not_refused l files (Run verilog stimulus) texts reads r held_texts breaks held_reads a =
     run_is_answered l.right l.taken files (Run verilog stimulus) (verilog_in verilog) (stimulus_in stimulus) texts reads r held_texts breaks held_reads a
-not_refused l files (Make taps) texts reads r held_texts breaks held_reads a = absurd a
+not_refused l files (Make taps) texts reads r held_texts breaks held_reads a =
+    make_is_answered l.sound l.same l.named l.alone l.typed l.compiles l.values (make_text taps) (make_stimulus taps) texts reads r breaks a
 
 -- no command answers where one of its files is missing
 abbrev pub NoAnswer : Type 0
@@ -98,7 +102,7 @@ no_answer l files (Normalise file budget) reads answer m h a =
 no_answer l files (Run verilog stimulus) reads answer m h a =
     misses_two RunAnswer runs_are_of_two files (Run verilog stimulus) (verilog_in verilog) (stimulus_in stimulus) reads answer
     (λ text on r w. runnable_is_right l.right text on.0 on.1 r w) m h a
-no_answer l files (Make taps) reads answer m h a = absurd a
+no_answer l files (Make taps) reads answer m h a = elim m [ ]
 
 -- a refusal that is a command's answer has a status of its own
 abbrev pub IsOwn : Status → Type 0
@@ -118,7 +122,7 @@ command_status (Check file) reads r a = text_status IsOwn tt (λ text tree answe
 command_status (Normalise file budget) reads r a =
     text_status IsOwn tt (λ text tree answer. NormaliseAnswer tree budget answer) (λ text tree r e. normal_status IsOwn tt tt tree budget r e) reads r a
 command_status (Run verilog stimulus) reads r a = run_status IsOwn tt tt tt reads r a
-command_status (Make taps) reads r a = absurd a
+command_status (Make taps) reads r a = make_status IsOwn tt tt tt (make_text taps) (make_stimulus taps) reads r a
 
 pub longer_status : (command : Command) (r : Refusal) → IsLonger (wants command) r → IsOwn (status_of r)
 longer_status (Emit file budget) _ (its _ _) = tt
@@ -141,4 +145,4 @@ answers_whole (Simulate file stimulus budget) reads answer a = whole_two (Simula
 answers_whole (Check file) reads answer a = whole_text (λ text tree answer. answer ≡ Ok (Text tree)) reads answer a
 answers_whole (Normalise file budget) reads answer a = whole_text (λ text tree answer. NormaliseAnswer tree budget answer) reads answer a
 answers_whole (Run verilog stimulus) reads answer a = whole_two RunAnswer runs_are_of_two reads answer a
-answers_whole (Make taps) reads answer a = absurd a
+answers_whole (Make taps) reads answer a = whole_made (make_text taps) (make_stimulus taps) reads answer a

@@ -1,8 +1,9 @@
 -- The refusals of `emit`, by what was found.
 use Rattle.std.proofs.Common.{◌≡◌, ℕ, List, Result, Err, inl, inr, refl, sym, subst}
-use Rattle.chw_cli.specs.Answer.{CompileAnswer, EmitAnswer, refusal_of_compile}
+use Rattle.chw_cli.specs.Answer.{CompileAnswer, EmitAnswer}
 use Rattle.chw_cli.specs.Answer.CompileAnswer.{compiled, not_compiled}
 use Rattle.chw_cli.specs.Descriptions.{IsCompilable, IsTypedText}
+use Rattle.chw_cli.specs.Faults.{refusal_of_compile}
 use Rattle.chw_cli.specs.Lines.{status_of}
 use Rattle.chw_cli.specs.Refusals.{IsCompileRefusal, RefusesCompile}
 use Rattle.chw_cli.specs.declared.refusal.Refusal.{Refusal}

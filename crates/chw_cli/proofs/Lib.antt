@@ -5,6 +5,7 @@ pub mod Descriptions
 pub mod Emitting
 pub mod Exactly
 pub mod Limits
+pub mod Making
 pub mod Normal
 pub mod OneText
 pub mod Progress

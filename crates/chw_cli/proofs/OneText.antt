@@ -1,10 +1,10 @@
 -- What a command answers to the text of one description.
 use Rattle.std.proofs.Common.{◌≡◌, ℕ, List, [], ◌∷◌, Result, Err, refl, sym, subst, ◌∙◌}
 use Rattle.chw_base.specs.Files.{Files}
-use Rattle.chw_cli.specs.Answer.{IsWrongText, TextAnswer}
-use Rattle.chw_cli.specs.Answer.IsWrongText.{no_description, wrong_names, wrong_types}
+use Rattle.chw_cli.specs.Answer.{TextAnswer}
 use Rattle.chw_cli.specs.Answer.TextAnswer.{wrong, typed}
-use Rattle.chw_cli.specs.Descriptions.{HasProgram, IsDescription, IsTypedText, NoDescription}
+use Rattle.chw_cli.specs.Descriptions.{HasProgram, IsDescription, IsTypedText, IsWrongText, NoDescription}
+use Rattle.chw_cli.specs.Descriptions.IsWrongText.{no_description, wrong_names, wrong_types}
 use Rattle.chw_cli.specs.Descriptions.NoDescription.{lex, syntax, depth}
 use Rattle.chw_cli.specs.Exact.{AreHeld, BreaksNone, Misses}
 use Rattle.chw_cli.specs.Exact.AreHeld.{more}

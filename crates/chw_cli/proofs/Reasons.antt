@@ -1,5 +1,5 @@
 -- Why there is no answer: from the refusals of the parts to that of the whole.
-use Rattle.std.proofs.Common.{◌≡◌, ℕ, List, [], ◌∷◌, ◌++◌, Option, Some, None, Result, Ok, Err, ◌⊎◌, refl, sym, subst, inl, inr}
+use Rattle.std.proofs.Common.{◌≡◌, ◌≤◌, ℕ, List, [], ◌∷◌, ◌++◌, Option, Some, None, Result, Ok, Err, ◌⊎◌, refl, sym, subst, inl, inr}
 use Rattle.std.specs.Prelude.{length, MatchOption}
 use Rattle.std.specs.Str.{IsUtf8}
 use Rattle.chw_base.specs.Files.{Files}
@@ -11,13 +11,13 @@ use Rattle.chw_base.specs.declared.shelf.Fetched.TheVariants.{Whole, TooLong}
 use Rattle.chw_base.specs.declared.shelf.ShelfFault.{ShelfFault}
 use Rattle.chw_cli.specs.Answer.{CommandAnswer, CompileAnswer, IsUnread, LacksText, SimulateAnswer}
 use Rattle.chw_cli.specs.Answer.Answer.{no_command, no_text, texts}
-use Rattle.chw_cli.specs.Answer.IsWrongText.{no_description, wrong_names, wrong_types}
 use Rattle.chw_cli.specs.Answer.LacksText.{unread, too_long, later}
 use Rattle.chw_cli.specs.Answer.CompileAnswer.{compiled, not_compiled}
 use Rattle.chw_cli.specs.Answer.RunAnswer.{no_circuit as no_circuit_answer, no_stimulus as no_stimulus_answer}
 use Rattle.chw_cli.specs.Answer.SimulateAnswer.{no_stimulus as no_values_answer, not_compiled as not_compiled_answer, wrong_text as wrong_text_answer}
 use Rattle.chw_cli.specs.Answer.TextAnswer.{wrong, typed}
 use Rattle.chw_cli.specs.Descriptions.{Compiles, HasProgram, IsDescription, IsTypedText}
+use Rattle.chw_cli.specs.Descriptions.IsWrongText.{no_description, wrong_names, wrong_types}
 use Rattle.chw_cli.specs.Descriptions.NoDescription.{lex, syntax, depth}
 use Rattle.chw_cli.specs.Fetching.{IsTold, LacksFile, ReadsNothing, RefusesFile}
 use Rattle.chw_cli.specs.Fetching.ReadsNothing.{memory, unread as not_read}
@@ -49,10 +49,11 @@ use Rattle.chw_resolve.specs.Written.{WasRead}
 use Rattle.chw_resolve.specs.declared.fault.NameFault.{NameFault}
 use Rattle.chw_terms.specs.declared.program.Program.{Program}
 use Rattle.chw_words.specs.Commands.{IsCommand, AreNoCommand}
-use Rattle.chw_words.specs.Commands.IsCommand.{emit, simulate, check, normalise, run}
+use Rattle.chw_words.specs.Commands.IsCommand.{emit, simulate, check, normalise, run, make}
 use Rattle.chw_words.specs.declared.command.Command.{Command}
-use Rattle.chw_words.specs.declared.command.Command.TheVariants.{Emit, Simulate, Check, Normalise, Run}
+use Rattle.chw_words.specs.declared.command.Command.TheVariants.{Emit, Simulate, Check, Normalise, Run, Make}
 use Rattle.chw_words.specs.declared.command.WordsFault.{WordsFault}
+use Rattle.chw_words.specs.declared.taps.TheConstants.{MOST_TAPS}
 use Rattle.netlist.specs.declared.net.Flat.{Flat}
 use Rattle.run_answer.specs.Circuits.{CanRun, IsCircuitFault}
 use Rattle.run_answer.specs.declared.fault.CircuitFault.{CircuitFault}
@@ -299,3 +300,17 @@ simulation_answers file stimulus text budget p can bytes _ (no_values fault w) =
 pub sim_refuses : (p : Program) (text : List ℕ) (e : Or SimFault) → OfFault e (IsSimFault p text) → RefusesSimulation p text (of_sim_fault e)
 sim_refuses p text Memory h = wanting_still
 sim_refuses p text (Fault f) h = no_values f h
+
+-- so many taps as `make` has are as many as may be
+pub make_is_short : (words : List (List ℕ)) (taps : ℕ) → IsCommand words (Make taps) → taps ≤ MOST_TAPS
+make_is_short _ _ (make word taps is) = is.number.within
+
+module _ {S : Type 0} (gives : S → List ℕ → ℕ → Result Fetched (Or ShelfFault) → List ℕ → S → Type 0) (told : S → Option Files) (faults : S → ℕ)
+    (words : List (List ℕ)) (s : S) (taps : ℕ) (is : IsCommand words (Make taps)) where
+  -- what `make` answers is the answer to its words, and nothing is read for it
+  pub make_answers : (bytes : List ℕ) → CommandAnswer (Make taps) [] (Ok bytes) → AnswersBy (Asks gives told faults words s s) words (Ok bytes)
+  make_answers bytes a = record { reads = []; asked = uncalled refl; answers = texts (Make taps) [] (Ok bytes) is a }
+
+  pub make_refuses : (r : Refusal) → (r ≡ refusal.Memory) ⊎ CommandAnswer (Make taps) [] (Err r) → Refuses (Asks gives told faults words s s) words r
+  make_refuses r (inl e) = subst (Refuses (Asks gives told faults words s s) words) (sym e) (for_memory [] (uncalled refl))
+  make_refuses r (inr a) = by_answer r (record { reads = []; asked = uncalled refl; answers = texts (Make taps) [] (Err r) is a })

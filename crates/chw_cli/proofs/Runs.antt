@@ -2,11 +2,12 @@
 use Rattle.std.proofs.Common.{◌≡◌, ℕ, List, [], ◌∷◌, Result, Ok, Err, refl, subst}
 use Rattle.chw_base.specs.Files.{Files}
 use Rattle.chw_clock.specs.declared.event.Event.{Event}
-use Rattle.chw_cli.specs.Answer.{RunAnswer, refusal_of}
+use Rattle.chw_cli.specs.Answer.{RunAnswer}
 use Rattle.chw_cli.specs.Answer.RunAnswer.{no_circuit, no_stimulus, ran}
 use Rattle.chw_cli.specs.Exact.{AreHeld, RunsWith}
 use Rattle.chw_cli.specs.Exact.AreHeld.{more}
 use Rattle.chw_cli.specs.Exact.RunsWith.{runs}
+use Rattle.chw_cli.specs.Faults.{refusal_of}
 use Rattle.chw_cli.specs.Lines.{status_of}
 use Rattle.chw_cli.specs.Reads.{Read, Wanted, whole}
 use Rattle.chw_cli.specs.declared.refusal.Refusal.{Refusal}

@@ -3,12 +3,13 @@ use Rattle.std.proofs.Common.{◌≡◌, ℕ, List, [], ◌∷◌, Result, Ok, E
 use Rattle.chw_base.specs.Files.{Files}
 use Rattle.chw_clock.specs.declared.event.Event.{Event}
 use Rattle.chw_clock.specs.declared.event.Ports.{Ports}
-use Rattle.chw_cli.specs.Answer.{SimulateAnswer, refusal_of_compile, refusal_of_sim}
+use Rattle.chw_cli.specs.Answer.{SimulateAnswer}
 use Rattle.chw_cli.specs.Answer.SimulateAnswer.{wrong_text, not_compiled, no_stimulus, simulated}
 use Rattle.chw_cli.specs.Descriptions.{Compiles}
 use Rattle.chw_cli.specs.Exact.{AreHeld, SimulatesWith}
 use Rattle.chw_cli.specs.Exact.AreHeld.{more}
 use Rattle.chw_cli.specs.Exact.SimulatesWith.{simulates}
+use Rattle.chw_cli.specs.Faults.{refusal_of_compile, refusal_of_sim}
 use Rattle.chw_cli.specs.Lines.{status_of}
 use Rattle.chw_cli.specs.Reads.{Read, Wanted, whole}
 use Rattle.chw_cli.specs.declared.refusal.Refusal.{Refusal}
@@ -71,7 +72,7 @@ simulate_is_answered sound same named alone typed_ compiles taken budget files c
         (λ q w. values_are_right same alone taken budget text stimulus p ports events can values q w) held_reads a
 
 -- the refusals of `simulate` have these statuses
-sim_status : (P : Status → Type 0) → P status.Stimulus → (fault : SimFault) → P (status_of (refusal_of_sim fault))
+pub sim_status : (P : Status → Type 0) → P status.Stimulus → (fault : SimFault) → P (status_of (refusal_of_sim fault))
 sim_status P stim (sim.Stimulus fault) = stim
 sim_status P stim (sim.Value line) = stim
 

@@ -6,20 +6,17 @@ use Rattle.chw_base.specs.declared.outcome.Or.TheVariants.{Fault}
 use Rattle.chw_base.specs.declared.shelf.Fetched.{Fetched}
 use Rattle.chw_base.specs.declared.shelf.Fetched.TheVariants.{TooLong, Absent}
 use Rattle.chw_base.specs.declared.shelf.ShelfFault.{ShelfFault}
-use Rattle.chw_cli.specs.Descriptions.{Compiles, HasProgram, IsDescription, IsTypedText, NoDescription}
+use Rattle.chw_cli.specs.Descriptions.{Compiles, HasProgram, IsTypedText, IsWrongText}
+use Rattle.chw_cli.specs.Faults.{refusal_of, refusal_of_compile, refusal_of_run, refusal_of_sim}
+use Rattle.chw_cli.specs.Making.{MakeAnswer}
 use Rattle.chw_cli.specs.Reads.{Read, Wanted, wants, whole}
 use Rattle.chw_cli.specs.Reads.Read.{fetched}
 use Rattle.chw_cli.specs.declared.refusal.Refusal.{Refusal}
-use Rattle.chw_cli.specs.declared.refusal.Refusal.TheVariants.{Words, Read as Unread, Names, Types, DeepBody, FullTable, Spent, State, TooLarge, Loop, Stimulus, Value, Verilog}
-use Rattle.chw_check.specs.Faults.{IsTypeFault}
-use Rattle.chw_check.specs.declared.fault.TypeFault.{TypeFault}
+use Rattle.chw_cli.specs.declared.refusal.Refusal.TheVariants.{Words, Read as Unread, State, Stimulus}
 use Rattle.chw_grammar.specs.declared.program.Tree.{Tree}
 use Rattle.chw_grammar.specs.Text.{Text}
 use Rattle.chw_norm.specs.Running.{Ends}
 use Rattle.chw_norm.specs.declared.running.RunFault.{RunFault}
-use Rattle.chw_norm.specs.declared.running.RunFault.TheVariants as run
-use Rattle.chw_resolve.specs.Faults.{IsNameFault}
-use Rattle.chw_resolve.specs.declared.fault.NameFault.{NameFault}
 use Rattle.chw_terms.specs.declared.program.Program.{Program}
 use Rattle.chw_terms.specs.declared.scene.Made.{Made}
 use Rattle.chw_words.specs.Commands.{IsCommand, AreNoCommand}
@@ -33,7 +30,6 @@ use Rattle.norm_lines.specs.Lines.{normal_lines}
 use Rattle.rewriting.specs.Runs.{Step}
 use Rattle.compiled.specs.Compiling.{CompilesTo, IsCompileFault}
 use Rattle.compiled.specs.declared.fault.CompileFault.{CompileFault}
-use Rattle.compiled.specs.declared.fault.CompileFault.TheVariants as compile
 use Rattle.net_means.specs.Outputs.{NetMeans}
 use Rattle.net_rules.specs.WellFormed.{WellFormed}
 use Rattle.netlist.specs.Sound.{Sound}
@@ -42,22 +38,12 @@ use Rattle.netlist.specs.declared.net.Net.{Net}
 use Rattle.chw_norm.specs.Rules.{built}
 use Rattle.run_answer.specs.Circuits.{CanRun, IsCircuitFault, IsRunBy}
 use Rattle.run_answer.specs.declared.fault.CircuitFault.{CircuitFault}
-use Rattle.run_answer.specs.declared.fault.CircuitFault.TheVariants as circuit
 use Rattle.sim_answer.specs.Simulation.{IsSimFault, IsSimulation}
 use Rattle.sim_answer.specs.declared.fault.SimFault.{SimFault}
-use Rattle.sim_answer.specs.declared.fault.SimFault.TheVariants as sim
 use Rattle.stimulus.specs.Stimulus.{IsStimFault}
 use Rattle.stimulus.specs.declared.fault.StimFault.{StimFault}
 use Rattle.verilog_text.specs.Text.{net_text}
 use Rattle.verilog_text.specs.VText.{VText}
-
--- why a text is no description that is typed
-pub data IsWrongText (text : List ℕ) : Refusal → Type 0 where
-  no_description : (r : Refusal) → NoDescription text r → IsWrongText text r
-  wrong_names : (tree : Tree) (fault : NameFault) → IsDescription text tree → IsNameFault tree fault
-      → IsWrongText text (Names fault)
-  wrong_types : (tree : Tree) (p : Program) (fault : TypeFault) → IsDescription text tree → HasProgram tree p
-      → IsTypeFault p fault → IsWrongText text (Types fault)
 
 -- the answer to the text of one file: why it is wrong, or, where it is a description that is typed,
 -- the answer to its tree
@@ -68,19 +54,6 @@ pub data TextAnswer (TreeAnswer : List ℕ → Tree → Result (List ℕ) Refusa
   typed : (text : List ℕ) (tree : Tree) (answer : Result (List ℕ) Refusal)
       → IsTypedText text tree
       → TreeAnswer text tree answer → TextAnswer TreeAnswer (whole text ∷ []) answer
-
--- the refusal of a run of rewriting
-abbrev pub refusal_of_run : RunFault → Refusal
-refusal_of_run run.Depth = DeepBody
-refusal_of_run run.Full = FullTable
-refusal_of_run (run.Spent steps) = Spent steps
-
--- the refusal of a program that can't be compiled
-abbrev pub refusal_of_compile : Program → CompileFault → Refusal
-refusal_of_compile p (compile.Run fault) = refusal_of_run fault
-refusal_of_compile p (compile.State fault) = State (state_line p fault)
-refusal_of_compile p compile.TooLarge = TooLarge
-refusal_of_compile p (compile.Loop cycle) = Loop cycle
 
 -- the text denotes the net, and no other
 pub record DenotesOnly (text : List ℕ) (net : Net) : Type 0 where
@@ -118,11 +91,6 @@ pub record EmitAnswer (tree : Tree) (budget : ℕ) (answer : Result (List ℕ) R
   pub has : HasProgram tree program
   pub answers : CompileAnswer program budget answer
 
--- the refusal of a stimulus for a program
-abbrev pub refusal_of_sim : SimFault → Refusal
-refusal_of_sim (sim.Stimulus fault) = Stimulus fault
-refusal_of_sim (sim.Value line) = Value line
-
 -- the answer of `simulate`: why the first text is no description that is typed; or why its program
 -- can't be compiled; or, where it can, why the second text is no stimulus of values for it; or,
 -- where it is one, the lines of what the program means
@@ -154,12 +122,6 @@ pub data NormaliseAnswer (tree : Tree) (budget : ℕ) : Result (List ℕ) Refusa
       → RefusesState p made fault
       → NormaliseAnswer tree budget (Err (State (state_line p fault)))
 
--- the refusal of a Verilog text that can't be run
-abbrev pub refusal_of : CircuitFault → Refusal
-refusal_of (circuit.Text fault) = Verilog fault
-refusal_of circuit.TooLarge = TooLarge
-refusal_of (circuit.Loop cycle) = Loop cycle
-
 -- the answer of `run`: why the first text can't be run; or, where it can, why the second is no
 -- stimulus for the ports of its flat net; or, where it is one, the lines of the outputs
 pub data RunAnswer : List Read → Result (List ℕ) Refusal → Type 0 where
@@ -171,7 +133,7 @@ pub data RunAnswer : List Read → Result (List ℕ) Refusal → Type 0 where
   ran : (text stimulus lines : List ℕ) (flat : Flat) → CanRun text flat
       → IsRunBy flat stimulus lines → RunAnswer (whole text ∷ whole stimulus ∷ []) (Ok lines)
 
--- the answer of a command to what it read, where that was whole; `make` has none yet
+-- the answer of a command to what it read, where that was whole
 abbrev pub CommandAnswer : Command → List Read → Result (List ℕ) Refusal → Type 0
 CommandAnswer (Emit file budget) =
     TextAnswer (λ text tree answer. EmitAnswer tree budget answer)
@@ -180,7 +142,7 @@ CommandAnswer (Check file) = TextAnswer (λ text tree answer. answer ≡ Ok (Tex
 CommandAnswer (Normalise file budget) =
     TextAnswer (λ text tree answer. NormaliseAnswer tree budget answer)
 CommandAnswer (Run verilog stimulus) = RunAnswer
-CommandAnswer (Make taps) = λ reads answer. ⊥
+CommandAnswer (Make taps) = MakeAnswer taps
 
 -- the file isn't held, or couldn't be read
 abbrev pub IsUnread : Result Fetched (Or ShelfFault) → Type 0

@@ -9,8 +9,11 @@ use Rattle.chw_grammar.specs.Lexemes.{lexemes_of}
 use Rattle.chw_grammar.specs.declared.program.Tree.{Tree}
 use Rattle.chw_parser.specs.Faults.{IsFault, Shallow}
 use Rattle.chw_parser.specs.declared.parsing.ParseFault.TheVariants as fault
-use Rattle.chw_resolve.specs.Faults.{IsWellNamed}
+use Rattle.chw_check.specs.Faults.{IsTypeFault}
+use Rattle.chw_check.specs.declared.fault.TypeFault.{TypeFault}
+use Rattle.chw_resolve.specs.Faults.{IsNameFault, IsWellNamed}
 use Rattle.chw_resolve.specs.Programs.{IsProgramOf}
+use Rattle.chw_resolve.specs.declared.fault.NameFault.{NameFault}
 use Rattle.chw_terms.specs.Tidy.{IsTidy}
 use Rattle.chw_terms.specs.declared.program.Program.{Program}
 use Rattle.chw_typing.specs.Programs.{IsTyped}
@@ -18,7 +21,7 @@ use Rattle.compiled.specs.Compiling.{CompilesTo}
 use Rattle.netlist.specs.declared.net.Flat.{Flat}
 use Rattle.netlist.specs.declared.net.Net.{Net}
 use Rattle.chw_cli.specs.declared.refusal.Refusal.{Refusal}
-use Rattle.chw_cli.specs.declared.refusal.Refusal.TheVariants.{Lex, Syntax, Depth}
+use Rattle.chw_cli.specs.declared.refusal.Refusal.TheVariants.{Lex, Syntax, Depth, Names, Types}
 
 -- the text is a description with this tree, within the limits on open brackets and on height
 pub record IsDescription (text : List ℕ) (tree : Tree) : Type 0 where
@@ -46,6 +49,14 @@ pub record IsTypedText (text : List ℕ) (tree : Tree) : Type 0 where
   pub program : Program
   pub is : HasProgram tree program
   pub typed : IsTyped program
+
+-- why a text is no description that is typed
+pub data IsWrongText (text : List ℕ) : Refusal → Type 0 where
+  no_description : (r : Refusal) → NoDescription text r → IsWrongText text r
+  wrong_names : (tree : Tree) (fault : NameFault) → IsDescription text tree → IsNameFault tree fault
+      → IsWrongText text (Names fault)
+  wrong_types : (tree : Tree) (p : Program) (fault : TypeFault) → IsDescription text tree → HasProgram tree p
+      → IsTypeFault p fault → IsWrongText text (Types fault)
 
 -- the text is a description that is typed, and its program is this one, which is compiled to some
 -- net by so many steps at most

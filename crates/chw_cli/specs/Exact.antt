@@ -12,9 +12,12 @@ use Rattle.chw_norm.specs.Running.{ShallowRun}
 use Rattle.chw_terms.specs.declared.program.Program.{Program}
 use Rattle.chw_terms.specs.declared.scene.Made.{Made}
 use Rattle.chw_words.specs.Commands.{IsCommand, AreNoCommand}
+use Rattle.chw_words.specs.declared.budget.TheConstants.{MOST_BUDGET}
 use Rattle.chw_words.specs.declared.command.Command.{Command}
 use Rattle.chw_words.specs.declared.command.Command.TheVariants.{Emit, Simulate, Check, Normalise, Run, Make}
 use Rattle.judge.specs.States.{IsFinished}
+use Rattle.make_answer.specs.Events.{make_stimulus}
+use Rattle.make_text.specs.MakeText.{make_text}
 use Rattle.netlist.specs.declared.net.Flat.{Flat}
 use Rattle.rewriting.specs.Runs.{Step}
 use Rattle.rewriting.specs.Steps.{HasNoStep}
@@ -59,6 +62,12 @@ pub data SimulatesWith (budget : ℕ) : List (List ℕ) → Type 0 where
       → Compiles text budget p → IsStimulus p stimulus ports events
       → SimulatesWith budget (text ∷ stimulus ∷ [])
 
+-- no file is wanted, the text is one of which the program is compiled, and the other a stimulus of
+-- values for it
+pub data MakesWith (text stimulus : List ℕ) : List (List ℕ) → Type 0 where
+  makes : (p : Program) (ports : Ports) (events : List Event) → Compiles text MOST_BUDGET p
+      → IsStimulus p stimulus ports events → MakesWith text stimulus []
+
 -- the texts of the files of a command break no restriction
 abbrev pub BreakNothing : Command → List (List ℕ) → Type 0
 BreakNothing (Emit file budget) = BreaksNone (IsCompilable budget)
@@ -66,7 +75,7 @@ BreakNothing (Simulate file stimulus budget) = SimulatesWith budget
 BreakNothing (Check file) = BreaksNone (λ text. Unit {0})
 BreakNothing (Normalise file budget) = BreaksNone (HasNormalRun budget)
 BreakNothing (Run verilog stimulus) = RunsWith
-BreakNothing (Make taps) = λ texts. ⊥
+BreakNothing (Make taps) = MakesWith (make_text taps) (make_stimulus taps)
 
 -- the file is held with this text, which is within its limit
 abbrev pub IsHeld : Files → Wanted → List ℕ → Type 0

@@ -1,9 +1,11 @@
 -- How the refusals of other crates become refusals of the program, and why a description is refused.
-use Rattle.std.specs.Prelude.{◌≡◌, ℕ, List, Err, ◌⊎◌}
+use Rattle.std.specs.Prelude.{◌≡◌, ℕ, List, [], Err, ◌⊎◌}
 use Rattle.chw_base.specs.declared.outcome.Or.{Or}
 use Rattle.chw_base.specs.declared.outcome.Or.TheVariants.{Memory, Fault}
-use Rattle.chw_cli.specs.Answer.{CompileAnswer, EmitAnswer, IsWrongText, NormaliseAnswer, refusal_of, refusal_of_compile, refusal_of_run, refusal_of_sim}
-use Rattle.chw_cli.specs.Descriptions.{NoDescription}
+use Rattle.chw_cli.specs.Answer.{CompileAnswer, EmitAnswer, NormaliseAnswer}
+use Rattle.chw_cli.specs.Descriptions.{IsWrongText, NoDescription}
+use Rattle.chw_cli.specs.Faults.{refusal_of, refusal_of_compile, refusal_of_run, refusal_of_sim}
+use Rattle.chw_cli.specs.Making.{MadeAnswer, TallyAnswer}
 use Rattle.chw_cli.specs.declared.refusal.Refusal.{Refusal}
 use Rattle.chw_cli.specs.declared.refusal.Refusal.TheVariants as refusal
 use Rattle.chw_check.specs.declared.fault.TypeFault.{TypeFault}
@@ -116,3 +118,11 @@ pub data RefusesSimulation (p : Program) (text : List ℕ) : Refusal → Type 0 
   memory : RefusesSimulation p text refusal.Memory
   no_stimulus : (fault : SimFault) → IsSimFault p text fault
       → RefusesSimulation p text (refusal_of_sim fault)
+
+-- why a program isn't tallied: want of memory, or the refusal is the answer
+abbrev pub RefusesTally : Program → List ℕ → Refusal → Type 0
+RefusesTally p stimulus r = (r ≡ refusal.Memory) ⊎ TallyAnswer p stimulus (Err r)
+
+-- why a text and a stimulus that are made have no lines: want of memory, or the refusal is the answer
+abbrev pub RefusesMade : List ℕ → List ℕ → Refusal → Type 0
+RefusesMade text stimulus r = (r ≡ refusal.Memory) ⊎ MadeAnswer text stimulus [] (Err r)

@@ -3,11 +3,12 @@ ghost use Rattle.std.specs.Prelude.{◌≡◌, Ok, IfOk, IfErr};
 ghost use Rattle.chw_cli.specs.Outcome.{AnswersBy, Refuses};
 ghost use Rattle.chw_cli.specs.Reads.{Asks};
 ghost use Rattle.chw_words.specs.Commands.{IsCommand};
-ghost use Rattle.chw_words.specs.declared.command.Command.TheVariants.{Check, Emit, Normalise, Run, Simulate};
+ghost use Rattle.chw_words.specs.declared.command.Command.TheVariants.{Check, Emit, Make, Normalise, Run, Simulate};
 
 use crate::compile::compiled_of;
 use crate::describe::read_description;
 use crate::emit::emitted;
+use crate::make::made;
 use crate::normalise::normalised;
 use crate::refusal::Refusal;
 use crate::run::{read_circuit, run_lines};
@@ -36,7 +37,7 @@ pub(crate) fn answer<F: Shelf>(
         Command::Check { file } => check(alloc, words, &file, shelf),
         Command::Normalise { file, budget } => normalise(alloc, words, &file, budget, shelf),
         Command::Run { verilog, stimulus } => run(alloc, words, &verilog, &stimulus, shelf),
-        Command::Make { .. } => Err(Refusal::Memory),
+        Command::Make { taps } => make(alloc, words, taps, shelf),
     }
 }
 
@@ -120,4 +121,18 @@ fn run<F: Shelf>(
 {
     let circuit = read_circuit(alloc, verilog, shelf)?;
     run_lines(alloc, &circuit, stimulus, shelf)
+}
+
+/// The answer of `make` to a number of taps. No file is read.
+fn make<F: Shelf>(
+    alloc: Global,
+    words: &[Name],
+    taps: u32,
+    shelf: &mut F,
+) -> Result<Vec<u8>, Refusal>
+    requires { IsCommand words.now (Make taps) }
+    ensures answers { IfOk result (λ bytes. AnswersBy (Asks F.fetch_gives F.told F.faults words.now shelf.old shelf.new) words.now (Ok bytes.items)) }
+    ensures refuses { IfErr result (Refuses (Asks F.fetch_gives F.told F.faults words.now shelf.old shelf.new) words.now) }
+{
+    made(alloc, taps)
 }

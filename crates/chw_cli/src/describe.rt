@@ -52,7 +52,7 @@ pub(crate) fn read_description<F: Shelf>(
 }
 
 /// The tree of the description that the text is, which is typed, and its program; or why it is none.
-fn typed_tree(alloc: Global, text: &[u8]) -> Result<(Tree, Checked), Refusal>
+pub(crate) fn typed_tree(alloc: Global, text: &[u8]) -> Result<(Tree, Checked), Refusal>
     requires { length text.now ≤ DESCRIPTION_BYTES }
     ensures typed { IfOk result (λ it. IsTypedText text.now it.0) }
     ensures program { IfOk result (λ it. HasProgram it.0 it.1) }

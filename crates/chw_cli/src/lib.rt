@@ -8,6 +8,7 @@ mod describe;
 mod emit;
 mod fetch;
 mod lines;
+mod make;
 mod normalise;
 pub mod refusal;
 mod run;
