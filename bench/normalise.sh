@@ -1,10 +1,13 @@
 #!/usr/bin/env bash
 # Times `chw normalise`: the whole process, from the first byte read to the last written.
-# Usage: bench/normalise.sh [taps|constants|functions|lets]
+# Usage: bench/normalise.sh [taps|constants|functions|lets|uses|dead|operands]
 #   taps: filters of 8 to 64 taps, with a register and a product for each tap
 #   constants: 1,000 to 4,000 calls of one definition, each with another constant as an argument, in definitions with 50 calls each
 #   functions: the same, each with another function as an argument, so that each call becomes a made definition
 #   lets: 50 to 190 letrecs, one in the other
+#   uses: a local function that is named 1,000 and 10,000 times
+#   dead: 1,000 and 10,000 bindings that nothing names
+#   operands: 1,000 and 10,000 bindings, each with an operand that gets a name
 set -eu
 top=$(cd "$(dirname "$0")/.." && pwd)
 form=${1:-taps}
@@ -51,7 +54,18 @@ def lets():
     for k in range(n, 0, -1):
         body = f"letrec {{ b{k} : {s} = register @A @({word}) 0u16 {f'b{k - 1}' if k > 1 else 'x'}; }} in {body if k < n else f'b{n}'}"
     return ["domain A;", f"def main : {s} -> {s} = \\(x : {s}) . {body};"]
-lines = {"taps": filters, "constants": calls, "functions": calls, "lets": lets}[form]()
+def bindings():
+    head = f"f : {word} -> {word} = \\(v : {word}) . addU @16 v 1u16; " if form == "uses" else ""
+    right = {
+        "uses": lambda k: f"f {f'b{k - 1}' if k else 'x'}",
+        "dead": lambda k: f"addU @16 x {f'b{k - 1}' if k else 'x'}",
+        "operands": lambda k: f"addU @16 (mulU @16 x {k % 65536}u16) {f'b{k - 1}' if k else 'x'}",
+    }[form]
+    binds = " ".join(f"b{k} : {word} = {right(k)};" for k in range(n))
+    last = "x" if form == "dead" else f"b{n - 1}"
+    return ["domain A;", f"def main : {s} -> {s} = fmap @A @({word}) @({word}) (\\(x : {word}) . letrec {{ {head}{binds} }} in {last});"]
+makers = {"taps": filters, "constants": calls, "functions": calls, "lets": lets, "uses": bindings, "dead": bindings, "operands": bindings}
+lines = makers[form]()
 print("\n".join(lines + ["top main (x) (o);"]))
 PY
 }
@@ -68,6 +82,7 @@ least() {
 case $form in
   taps) sizes='8 16 32 64' ;;
   lets) sizes='50 100 190' ;;
+  uses | dead | operands) sizes='1000 10000' ;;
   *) sizes='1000 2000 4000' ;;
 esac
 printf '%8s %8s %8s %12s %12s %14s\n' "$form" steps made 'chw us' 'us a step' 'to the first'

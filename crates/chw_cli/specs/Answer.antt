@@ -1,5 +1,6 @@
 -- What the program answers to words, by what was read: bytes for `out`, or a refusal.
-use Rattle.std.specs.Prelude.{◌≡◌, ℕ, ◌≤◌, List, [], ◌∷◌, length, map, Result, Ok, Err, ◌⊎◌}
+use Rattle.std.specs.Prelude.{◌≡◌, ℕ, ◌≤◌, List, [], ◌∷◌, length, map, Some, Result, Ok, Err, ◌⊎◌}
+use Rattle.std.specs.List.{slice_get}
 use Rattle.chw_base.specs.declared.outcome.Or.{Or}
 use Rattle.chw_base.specs.declared.outcome.Or.TheVariants.{Fault}
 use Rattle.chw_base.specs.declared.shelf.Fetched.{Fetched}
@@ -32,6 +33,7 @@ use Rattle.compiled.specs.declared.fault.CompileFault.{CompileFault}
 use Rattle.net_means.specs.Outputs.{NetMeans}
 use Rattle.net_rules.specs.WellFormed.{WellFormed}
 use Rattle.netlist.specs.Sound.{Sound}
+use Rattle.normal_forms.specs.Parts.{IsFirstOrder, IsMonomorphic}
 use Rattle.netlist.specs.declared.net.Net.{Net}
 use Rattle.chw_norm.specs.Rules.{built}
 use Rattle.run_answer.specs.Circuits.{CanRun, IsCircuitFault, IsRunBy}
@@ -41,6 +43,7 @@ use Rattle.sim_answer.specs.declared.fault.SimFault.{SimFault}
 use Rattle.stimulus.specs.Stimulus.{IsStimFault}
 use Rattle.stimulus.specs.declared.fault.StimFault.{StimFault}
 use Rattle.verilog_text.specs.Text.{net_text}
+use Rattle.verilog_text.specs.VText.{VText}
 
 -- the answer to the text of one file: why it is wrong, or, where it is a description that is typed,
 -- the answer to its tree
@@ -52,13 +55,27 @@ pub data TextAnswer (TreeAnswer : List ℕ → Tree → Result (List ℕ) Refusa
       → IsTypedText text tree
       → TreeAnswer text tree answer → TextAnswer TreeAnswer (whole text ∷ []) answer
 
--- the net is one that the program is compiled to by so many steps at most: it is well formed, its
--- flat net is sound, and at each history of the program the outputs of that have the bits of what
--- they mean
+-- the text denotes the net, and no other
+pub record DenotesOnly (text : List ℕ) (net : Net) : Type 0 where
+  pub denotes : VText text net
+  pub only : (other : Net) → VText text other → other ≡ net
+
+-- each body of the state is monomorphic and first-order
+abbrev pub AreFirstOrder : Program → List Made → Type 0
+AreFirstOrder p state =
+    (m : ℕ) (it : Made) → slice_get state m ≡ Some it
+    → IsMonomorphic it.body × IsFirstOrder p.datas it.body
+
+-- the net is one that the program is compiled to by so many steps at most: the state of which it is
+-- built is monomorphic and first-order; the net is well formed, and its text, read again, denotes it
+-- and no other; its flat net is sound, and at each history of the program the outputs of that have
+-- the bits of what they mean
 pub record IsNetFor (p : Program) (budget : ℕ) (net : Net) : Type 0 where
   pub flat : Flat
   pub compiles : CompilesTo p budget net flat
+  pub first_order : AreFirstOrder p compiles.net_is.state
   pub well_formed : WellFormed net
+  pub text : DenotesOnly (net_text net) net
   pub sound : Sound flat
   pub means : NetMeans p flat
 

@@ -10,8 +10,10 @@ use crate::compile::compiled_of;
 use crate::describe::Description;
 use crate::refusal::Refusal;
 use chw_terms::Program;
+use normal_forms::laws::normal_is_first_order;
 use std::alloc::Global;
-use verilog_print::print;
+use verilog_read::readable_text;
+use verilog_text::laws::one_net;
 
 /// The Verilog text of a description, by so many steps of rewriting at most, or why there is none.
 pub(crate) fn emitted(
@@ -33,6 +35,8 @@ fn text_of(alloc: Global, program: &Program, budget: u32) -> Result<Vec<u8>, Ref
     ensures emitted { IfOk result (λ bytes. CompileAnswer program.now budget (Ok bytes.items)) }
     ensures refused { IfErr result (RefusesCompile program.now budget) }
 {
+    normal_is_first_order();
+    one_net();
     let made = compiled_of(alloc, program, budget)?;
-    Ok(print(alloc, &made.net)?)
+    Ok(readable_text(alloc, &made.net)?)
 }

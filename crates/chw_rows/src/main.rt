@@ -4,9 +4,9 @@
 //! `both TEXT` is `check` and `emit`, which are to answer alike. `words "WORD" .. TEXT` has all words between quotation marks. `absent`,
 //! `unread`, `unwritten` and `untold` are `emit` where no file has the name, or where the file, the text or the line is at fault.
 //!
-//! `run VERILOG %% STIM` and `simulate TEXT %% STIM` are these commands on two files of these texts, and `files "WORD" .. TEXT %% STIM`
-//! has other words, where the files are `v` and `s`. `fails N N N VERILOG %% STIM` is `run` where a call of the shelf, of the output and of
-//! the error output fails, by their numbers from 0, and shows how many bytes were written; `stops N N N TEXT %% STIM` is `simulate` likewise.
+//! `run VERILOG %% STIM` and `simulate TEXT %% STIM` are these commands on two files of these texts, `v` and `s`, and
+//! `files "WORD" .. TEXT %% STIM` has other words. `fails COMMAND N N N TEXT %% STIM` is a command on both files where a call of the shelf,
+//! of the output and of the error output fails, by their numbers from 0, and shows how many bytes were written.
 #![tactic(auto)]
 
 mod nets;
@@ -31,8 +31,7 @@ fn answer(alloc: Global, call: &str, text: &str, out: &mut Vec<u8>) -> Result<()
         "check" | "accepts" => put_command(alloc, "check", call, text, out),
         "normalise" => put_command(alloc, "normalise", call, text, out),
         "run" | "simulate" => put_net(alloc, call, text, out),
-        "fails" => put_failing(alloc, "run", text, out),
-        "stops" => put_failing(alloc, "simulate", text, out),
+        "fails" => put_failing(alloc, text, out),
         "files" => put_words_on_files(alloc, text, out),
         _ => put_command(alloc, "emit", call, text, out),
     }

@@ -1,4 +1,4 @@
-//! Rows of `run` and `simulate`: a Verilog text or a description, and a stimulus, with `%%` between them.
+//! Rows of `run` and `simulate`: a Verilog text or a description and a stimulus, with `%%` between them.
 use crate::run::{Fails, NONE, Shown, put_run};
 use chw_base::{Name, NoMemory, Or};
 use row_tables::{Unread, bytes_of, words_of};
@@ -11,18 +11,14 @@ pub fn put_net(
     row: &str,
     out: &mut Vec<u8>,
 ) -> Result<(), Or<Unread>> {
-    let words = net_words(alloc, command)?;
+    let words = words_on_files(alloc, command)?;
     put_on_files(alloc, words.as_slice(), row, &NONE, Shown::Text, out)
 }
 
 /// Writes what is answered to a command where the calls with these numbers fail, a minus for none: of the shelf, of the text and of the
 /// line.
-pub fn put_failing(
-    alloc: Global,
-    command: &str,
-    row: &str,
-    out: &mut Vec<u8>,
-) -> Result<(), Or<Unread>> {
+pub fn put_failing(alloc: Global, row: &str, out: &mut Vec<u8>) -> Result<(), Or<Unread>> {
+    let (command, row) = row.split_once(' ').ok_or(Or::Fault(Unread))?;
     let (shelf, row) = row.split_once(' ').ok_or(Or::Fault(Unread))?;
     let (text, row) = row.split_once(' ').ok_or(Or::Fault(Unread))?;
     let (line, row) = row.split_once(' ').ok_or(Or::Fault(Unread))?;
@@ -31,7 +27,7 @@ pub fn put_failing(
         out: text.parse::<u32>().ok(),
         err: line.parse::<u32>().ok(),
     };
-    let words = net_words(alloc, command)?;
+    let words = words_on_files(alloc, command)?;
     put_on_files(alloc, words.as_slice(), row, &fails, Shown::Length, out)
 }
 
@@ -58,9 +54,9 @@ fn put_on_files(
     shown: Shown,
     out: &mut Vec<u8>,
 ) -> Result<(), Or<Unread>> {
-    let (verilog, stimulus) = row.split_once(" %%").ok_or(Or::Fault(Unread))?;
+    let (text, stimulus) = row.split_once(" %%").ok_or(Or::Fault(Unread))?;
     let mut files = Vec::new(alloc);
-    files.push((Name::copy_of(alloc, b"v")?, bytes_of(alloc, verilog)?))?;
+    files.push((Name::copy_of(alloc, b"v")?, bytes_of(alloc, text)?))?;
     files.push((
         Name::copy_of(alloc, b"s")?,
         bytes_of(alloc, stimulus.trim_start())?,
@@ -69,7 +65,7 @@ fn put_on_files(
 }
 
 // The words of a command on the files `v` and `s`.
-fn net_words(alloc: Global, command: &str) -> Result<Vec<Name>, NoMemory> {
+fn words_on_files(alloc: Global, command: &str) -> Result<Vec<Name>, NoMemory> {
     let mut words = Vec::new(alloc);
     words.push(Name::copy_of(alloc, command.as_bytes())?)?;
     words.push(Name::copy_of(alloc, b"v")?)?;

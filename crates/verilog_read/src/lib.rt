@@ -5,5 +5,5 @@ pub mod laws;
 pub mod printing;
 pub mod reading;
 
-pub use printing::printed_and_read;
+pub use printing::{printed_and_read, readable_text};
 pub use reading::read;

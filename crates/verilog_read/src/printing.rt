@@ -1,15 +1,17 @@
-//! Reading the printed text of a net.
+//! The printed text of a net, and what is read of it.
 ghost use Rattle.std.specs.Prelude.{◌≡◌, IfOk};
 ghost use Rattle.std.specs.Bool.{Decides};
 ghost use Rattle.net_rules.specs.WellFormed.{WellFormed};
-ghost use Rattle.verilog_text.specs.VText.{AreCounted, IsCounted};
+ghost use Rattle.verilog_text.specs.Text.{net_text};
+ghost use Rattle.verilog_text.specs.VText.{AreCounted, IsCounted, VText};
 
-use crate::laws::printed_text_is_read_back;
 use crate::reading::read;
 use chw_base::{NoMemory, Or};
 use netlist::{Module, Net};
 use std::alloc::Global;
 use verilog_print::print;
+use verilog_rules::laws::no_text_is_both;
+use verilog_text::laws::{one_net, printed_text_denotes_its_net};
 
 // Whether a machine counts the wires, cells and outputs of a module, as it does of each module in memory.
 fn is_counted(body: &Module) -> bool
@@ -27,16 +29,29 @@ fn are_counted(net: &Net) -> bool
     net.modules.as_slice().iter().all(|body| is_counted(body))
 }
 
+/// The printed text of a well formed net, which denotes this net.
+///
+/// `NoMemory` comes where the text can't grow so far.
+pub fn readable_text(alloc: Global, net: &Net) -> Result<Vec<u8>, NoMemory>
+    requires { WellFormed net.now }
+    ensures text { IfOk result (λ text. text.items ≡ net_text net.now) }
+    ensures denotes { IfOk result (λ text. VText text.items net.now) }
+{
+    printed_text_denotes_its_net();
+    if !are_counted(net) {
+        return Err(NoMemory);
+    }
+    print(alloc, net)
+}
+
 /// The net that is read from the printed text of a well formed net, which is this net. Only memory may be wanting.
 pub fn printed_and_read(alloc: Global, net: &Net) -> Result<Net, NoMemory>
     requires { WellFormed net.now }
     ensures { IfOk result (λ again. again ≡ net.now) }
 {
-    printed_text_is_read_back();
-    if !are_counted(net) {
-        return Err(NoMemory);
-    }
-    let text = print(alloc, net)?;
+    one_net();
+    no_text_is_both();
+    let text = readable_text(alloc, net)?;
     match read(alloc, &text) {
         Ok(again) => Ok(again),
         Err(Or::Fault(_)) => unreachable!(),

@@ -3,6 +3,7 @@ use Rattle.chw_base.specs.declared.limits.TheConstants.{DESCRIPTION_BYTES}
 use Rattle.std.proofs.lemmas.Result.{IfErr-weaker, IfOk-weaker, err_from_is_err_and}
 use Rattle.chw_cli.specs.Making.{MadeAnswer}
 use Rattle.chw_cli.specs.Refusals.{RefusesMade}
+use Rattle.make_text.specs.MakeText.{make_text}
 use Rattle.chw_cli.proofs.make.made.Goals as goal
 
 pub made_of-requires : goal.made_of-requires
@@ -23,13 +24,13 @@ returns-in_err-stimulus-clause-refused c =
 pub returns-clause-made : goal.returns-clause-made
 returns-clause-made c =
     IfOk-weaker c.made_of.result _ _
-    (λ bytes a. subst (λ s. MadeAnswer _ s [] (Ok bytes.items)) (c.as_slice-2.ensures.value ∙ c.in_ok-stimulus.ensures)
+    (λ bytes a. subst (λ s. MadeAnswer (make_text c.args.taps) s [] (Ok bytes.items)) (c.as_slice-2.ensures.value ∙ c.in_ok-stimulus.ensures)
     (subst (λ t. MadeAnswer t c.as_slice-2.result.now [] (Ok bytes.items)) (c.as_slice.ensures.value ∙ c.in_ok-text.ensures) a))
     c.made_of.ensures.made
 
 pub returns-clause-refused : goal.returns-clause-refused
 returns-clause-refused c =
     IfErr-weaker c.made_of.result _ _
-    (λ r w. subst (λ s. RefusesMade _ s r) (c.as_slice-2.ensures.value ∙ c.in_ok-stimulus.ensures)
+    (λ r w. subst (λ s. RefusesMade (make_text c.args.taps) s r) (c.as_slice-2.ensures.value ∙ c.in_ok-stimulus.ensures)
     (subst (λ t. RefusesMade t c.as_slice-2.result.now r) (c.as_slice.ensures.value ∙ c.in_ok-text.ensures) w))
     c.made_of.ensures.refused
