@@ -1,15 +1,17 @@
 -- The refusals of `emit`, by what was found.
 use Rattle.std.proofs.Common.{◌≡◌, ℕ, List, Result, Err, inl, inr, refl, sym, subst}
-use Rattle.chw_cli.specs.Answer.{CompileAnswer, EmitAnswer, HasProgram, IsTypedText, refusal_of_compile}
+use Rattle.chw_cli.specs.Answer.{CompileAnswer, EmitAnswer}
 use Rattle.chw_cli.specs.Answer.CompileAnswer.{compiled, not_compiled}
-use Rattle.chw_cli.specs.Exact.{IsCompilable}
+use Rattle.chw_cli.specs.Descriptions.{IsCompilable, IsTypedText}
+use Rattle.chw_cli.specs.Faults.{refusal_of_compile}
 use Rattle.chw_cli.specs.Lines.{status_of}
 use Rattle.chw_cli.specs.Refusals.{IsCompileRefusal, RefusesCompile}
 use Rattle.chw_cli.specs.declared.refusal.Refusal.{Refusal}
 use Rattle.chw_cli.specs.declared.status.Status.{Status}
 use Rattle.chw_cli.specs.declared.status.Status.TheVariants as status
+use Rattle.chw_cli.proofs.Compiling.{compiles_without_fault}
 use Rattle.chw_cli.proofs.Normal.{run_status}
-use Rattle.chw_cli.proofs.OneText.{OneDescription, one_program_of}
+use Rattle.chw_cli.proofs.OneText.{OneDescription}
 use Rattle.chw_grammar.specs.declared.program.Tree.{Tree}
 use Rattle.chw_terms.specs.declared.program.Program.{Program}
 use Rattle.compiled.specs.Compiling.{IsCompileFault}
@@ -25,26 +27,17 @@ fault_refuses p budget fault r wrong (inl short) = inl short
 fault_refuses p budget fault r wrong (inr is) =
     inr (subst (λ x. CompileAnswer p budget (Err x)) (sym is) (not_compiled fault wrong))
 
--- a program that is compiled to some net isn't refused
-compiled_is_emitted : NothingRefusesACompile → (budget : ℕ) (text : List ℕ) (h : IsCompilable budget text)
-    (r : Refusal) → CompileAnswer h.program budget (Err r) → ⊥
-compiled_is_emitted law budget text h r a = only refl a
-  where
-    only : {answer : Result (List ℕ) Refusal} → answer ≡ Err r → CompileAnswer h.program budget answer → ⊥
-    only e (not_compiled fault wrong) = law h.program budget h.net h.flat fault h.compiles wrong
-    only e (compiled net is) = absurd cc
-
--- a description that breaks no restriction isn't refused
+-- a description whose text compiles isn't refused
 pub good_is_emitted : OneDescription → OneProgram → NothingRefusesACompile → (budget : ℕ) (text : List ℕ) (tree : Tree)
     (r : Refusal) → IsTypedText text tree → IsCompilable budget text → EmitAnswer tree budget (Err r) → ⊥
-good_is_emitted same alone law budget text tree r d h a =
-    let has : HasProgram tree h.program =
-    subst (λ (t : Tree). HasProgram t h.program) (same text h.tree tree h.description d.description) h.has in
-    let this : a.program ≡ h.program = one_program_of alone tree a.program h.program a.has has in
-    compiled_is_emitted law budget text h r (subst (λ q. CompileAnswer q budget (Err r)) this a.answers)
+good_is_emitted same alone law budget text tree r d h a = only refl a.answers
+  where
+    only : {answer : Result (List ℕ) Refusal} → answer ≡ Err r → CompileAnswer a.program budget answer → ⊥
+    only e (not_compiled fault wrong) = compiles_without_fault same alone law text budget h.0 a.program tree fault h.1 d a.has wrong
+    only e (compiled net is) = absurd cc
 
 -- the refusal of a program has one of two statuses
-compile_status : (P : Status → Type 0) → P status.Refused → P status.Spent → (p : Program) (fault : CompileFault)
+pub compile_status : (P : Status → Type 0) → P status.Refused → P status.Spent → (p : Program) (fault : CompileFault)
     → P (status_of (refusal_of_compile p fault))
 compile_status P refused over p (compile.Run fault) = run_status P refused over fault
 compile_status P refused over p (compile.State fault) = refused

@@ -1,12 +1,16 @@
 pub mod Asking
 pub mod Commands
+pub mod Compiling
 pub mod Descriptions
 pub mod Emitting
 pub mod Exactly
 pub mod Limits
+pub mod Making
 pub mod Normal
 pub mod OneText
 pub mod Progress
 pub mod Reasons
 pub mod Runs
+pub mod Simulating
 pub mod Telling
+pub mod TwoTexts

@@ -1,9 +1,11 @@
 -- What `normalise` answers to a description.
 use Rattle.std.proofs.Common.{◌≡◌, ◌∙◌, ℕ, List, [], ◌++◌, map, refl, ap, sym, subst, inl, inr}
 use Rattle.std.specs.Prelude.{Result, Ok, Err}
-use Rattle.chw_cli.specs.Answer.{HasProgram, IsTypedText, NormaliseAnswer, refusal_of_run}
+use Rattle.chw_cli.specs.Answer.{NormaliseAnswer}
 use Rattle.chw_cli.specs.Answer.NormaliseAnswer.{normalised, not_normalised, not_finished}
+use Rattle.chw_cli.specs.Descriptions.{HasProgram, IsTypedText}
 use Rattle.chw_cli.specs.Exact.{HasNormalRun}
+use Rattle.chw_cli.specs.Faults.{refusal_of_run}
 use Rattle.chw_cli.specs.Lines.{status_of}
 use Rattle.chw_cli.specs.Refusals.{IsRefusalOf, RefusesLast, RefusesNormalise, of_run_fault}
 use Rattle.chw_cli.specs.declared.refusal.Refusal.{Refusal}

@@ -1,10 +1,10 @@
 -- What a command answers to the text of one description.
 use Rattle.std.proofs.Common.{◌≡◌, ℕ, List, [], ◌∷◌, Result, Err, refl, sym, subst, ◌∙◌}
 use Rattle.chw_base.specs.Files.{Files}
-use Rattle.chw_cli.specs.Answer.{HasProgram, IsTypedText, IsWrongText, TextAnswer}
-use Rattle.chw_cli.specs.Answer.IsWrongText.{no_description, wrong_names, wrong_types}
+use Rattle.chw_cli.specs.Answer.{TextAnswer}
 use Rattle.chw_cli.specs.Answer.TextAnswer.{wrong, typed}
-use Rattle.chw_cli.specs.Descriptions.{IsDescription, NoDescription}
+use Rattle.chw_cli.specs.Descriptions.{HasProgram, IsDescription, IsTypedText, IsWrongText, NoDescription}
+use Rattle.chw_cli.specs.Descriptions.IsWrongText.{no_description, wrong_names, wrong_types}
 use Rattle.chw_cli.specs.Descriptions.NoDescription.{lex, syntax, depth}
 use Rattle.chw_cli.specs.Exact.{AreHeld, BreaksNone, Misses}
 use Rattle.chw_cli.specs.Exact.AreHeld.{more}
@@ -47,8 +47,14 @@ pub one_program_of : OneProgram → (tree : Tree) (p q : Program) → HasProgram
 one_program_of one tree p q w v =
     one p q (w.is.domains ∙ sym v.is.domains) (w.is.resets ∙ sym v.is.resets) (v.is.datas ∙ sym w.is.datas) (w.is.defs ∙ sym v.is.defs) (w.is.top ∙ sym v.is.top) w.tidy v.tidy
 
+-- so has a text
+pub one_program_for : OneDescription → OneProgram → (text : List ℕ) (tree other : Tree) (p q : Program) → IsTypedText text tree → HasProgram tree p
+    → IsTypedText text other → HasProgram other q → p ≡ q
+one_program_for same alone text tree other p q d has d' has' =
+    one_program_of alone other p q (subst (λ (t : Tree). HasProgram t p) (same text tree other d.description d'.description) has) has'
+
 -- a text that is typed isn't wrong
-typed_is_right : HasNoFault → OneDescription → HasNoNameFault → OneProgram → HasNoTypeFault → (text : List ℕ) (tree : Tree) (r : Refusal)
+pub typed_is_right : HasNoFault → OneDescription → HasNoNameFault → OneProgram → HasNoTypeFault → (text : List ℕ) (tree : Tree) (r : Refusal)
     → IsTypedText text tree → IsWrongText text r → ⊥
 typed_is_right sound same named alone typed_ text tree r d (no_description q n) = sound text tree q d.description n
 typed_is_right sound same named alone typed_ text tree _ d (wrong_names t fault d' is) =
@@ -97,7 +103,7 @@ fault_status text _ (lex at h) = refl
 fault_status text _ (syntax tokens at split h) = refl
 fault_status text _ (depth tokens at split h) = refl
 
-wrong_status : (text : List ℕ) (r : Refusal) → IsWrongText text r → status_of r ≡ status.Refused
+pub wrong_status : (text : List ℕ) (r : Refusal) → IsWrongText text r → status_of r ≡ status.Refused
 wrong_status text r (no_description _ n) = fault_status text r n
 wrong_status text _ (wrong_names t fault d n) = refl
 wrong_status text _ (wrong_types t p fault d w n) = refl

@@ -1,5 +1,5 @@
 -- Why there is no answer: from the refusals of the parts to that of the whole.
-use Rattle.std.proofs.Common.{◌≡◌, ℕ, List, [], ◌∷◌, ◌++◌, Option, Some, None, Result, Ok, Err, ◌⊎◌, refl, sym, subst, inl, inr}
+use Rattle.std.proofs.Common.{◌≡◌, ◌≤◌, ℕ, List, [], ◌∷◌, ◌++◌, Option, Some, None, Result, Ok, Err, ◌⊎◌, refl, sym, subst, inl, inr}
 use Rattle.std.specs.Prelude.{length, MatchOption}
 use Rattle.std.specs.Str.{IsUtf8}
 use Rattle.chw_base.specs.Files.{Files}
@@ -9,15 +9,17 @@ use Rattle.chw_base.specs.declared.outcome.Or.TheVariants.{Memory, Fault}
 use Rattle.chw_base.specs.declared.shelf.Fetched.{Fetched}
 use Rattle.chw_base.specs.declared.shelf.Fetched.TheVariants.{Whole, TooLong}
 use Rattle.chw_base.specs.declared.shelf.ShelfFault.{ShelfFault}
-use Rattle.chw_cli.specs.Answer.{CommandAnswer, HasProgram, IsTypedText, IsUnread, LacksText}
+use Rattle.chw_cli.specs.Answer.{CommandAnswer, CompileAnswer, IsUnread, LacksText, SimulateAnswer}
 use Rattle.chw_cli.specs.Answer.Answer.{no_command, no_text, texts}
-use Rattle.chw_cli.specs.Answer.IsWrongText.{no_description, wrong_names, wrong_types}
 use Rattle.chw_cli.specs.Answer.LacksText.{unread, too_long, later}
+use Rattle.chw_cli.specs.Answer.CompileAnswer.{compiled, not_compiled}
 use Rattle.chw_cli.specs.Answer.RunAnswer.{no_circuit as no_circuit_answer, no_stimulus as no_stimulus_answer}
+use Rattle.chw_cli.specs.Answer.SimulateAnswer.{no_stimulus as no_values_answer, not_compiled as not_compiled_answer, wrong_text as wrong_text_answer}
 use Rattle.chw_cli.specs.Answer.TextAnswer.{wrong, typed}
-use Rattle.chw_cli.specs.Descriptions.{IsDescription}
+use Rattle.chw_cli.specs.Descriptions.{Compiles, HasProgram, IsDescription, IsTypedText}
+use Rattle.chw_cli.specs.Descriptions.IsWrongText.{no_description, wrong_names, wrong_types}
 use Rattle.chw_cli.specs.Descriptions.NoDescription.{lex, syntax, depth}
-use Rattle.chw_cli.specs.Fetching.{IsTold, ReadsNothing, RefusesFile}
+use Rattle.chw_cli.specs.Fetching.{IsTold, LacksFile, ReadsNothing, RefusesFile}
 use Rattle.chw_cli.specs.Fetching.ReadsNothing.{memory, unread as not_read}
 use Rattle.chw_cli.specs.Fetching.RefusesFile.{nothing, too_long as too_long_file, wrong as wrong_text}
 use Rattle.chw_cli.specs.Outcome.{AnswersBy, Refuses}
@@ -26,9 +28,10 @@ use Rattle.chw_cli.specs.Reads.{Asks, Gets, GoesOn, Read, ReadsFor, Wanted, want
 use Rattle.chw_cli.specs.Reads.Asks.{uncalled, called}
 use Rattle.chw_cli.specs.Reads.Read.{fetched}
 use Rattle.chw_cli.specs.Reads.ReadsFor.{last, next}
+use Rattle.chw_cli.specs.Refusals.RefusesSimulation.{memory as wanting_still, no_stimulus as no_values}
 use Rattle.chw_cli.specs.Refusals.RefusesStimulus.{memory as wanting_too, no_stimulus}
 use Rattle.chw_cli.specs.Refusals.RefusesVerilog.{memory as wanting, no_circuit}
-use Rattle.chw_cli.specs.Refusals.{RefusesEmit, RefusesNormalise, RefusesReading, RefusesStimulus, RefusesText, RefusesVerilog, of_circuit_fault, of_lex_fault, of_name_fault, of_parse_fault, of_stim_fault, of_type_fault, of_words_fault}
+use Rattle.chw_cli.specs.Refusals.{RefusesCompile, RefusesEmit, RefusesNormalise, RefusesReading, RefusesSimulation, RefusesStimulus, RefusesText, RefusesVerilog, of_circuit_fault, of_lex_fault, of_name_fault, of_parse_fault, of_sim_fault, of_stim_fault, of_type_fault, of_words_fault}
 use Rattle.chw_cli.specs.declared.refusal.Refusal.{Refusal}
 use Rattle.chw_cli.specs.declared.refusal.Refusal.TheVariants as refusal
 use Rattle.chw_check.specs.Faults.{IsTypeFault}
@@ -46,13 +49,16 @@ use Rattle.chw_resolve.specs.Written.{WasRead}
 use Rattle.chw_resolve.specs.declared.fault.NameFault.{NameFault}
 use Rattle.chw_terms.specs.declared.program.Program.{Program}
 use Rattle.chw_words.specs.Commands.{IsCommand, AreNoCommand}
-use Rattle.chw_words.specs.Commands.IsCommand.{emit, check, normalise, run}
+use Rattle.chw_words.specs.Commands.IsCommand.{emit, simulate, check, normalise, run, make}
 use Rattle.chw_words.specs.declared.command.Command.{Command}
-use Rattle.chw_words.specs.declared.command.Command.TheVariants.{Emit, Check, Normalise, Run}
+use Rattle.chw_words.specs.declared.command.Command.TheVariants.{Emit, Simulate, Check, Normalise, Run, Make}
 use Rattle.chw_words.specs.declared.command.WordsFault.{WordsFault}
+use Rattle.chw_words.specs.declared.taps.TheConstants.{MOST_TAPS}
 use Rattle.netlist.specs.declared.net.Flat.{Flat}
 use Rattle.run_answer.specs.Circuits.{CanRun, IsCircuitFault}
 use Rattle.run_answer.specs.declared.fault.CircuitFault.{CircuitFault}
+use Rattle.sim_answer.specs.Simulation.{IsSimFault}
+use Rattle.sim_answer.specs.declared.fault.SimFault.{SimFault}
 use Rattle.stimulus.specs.Stimulus.{IsStimFault}
 use Rattle.stimulus.specs.declared.fault.StimFault.{StimFault}
 
@@ -109,6 +115,10 @@ normalise_is_text _ _ _ (normalise words file budget is said) = is.text
 
 pub check_is_text : (words : List (List ℕ)) (file : List ℕ) → IsCommand words (Check file) → IsUtf8 file
 check_is_text _ _ (check file is) = is.text
+
+pub simulate_is_text : (words : List (List ℕ)) (file stimulus : List ℕ) (budget : ℕ) → IsCommand words (Simulate file stimulus budget)
+    → IsUtf8 file × IsUtf8 stimulus
+simulate_is_text _ _ _ _ (simulate words file stimulus budget is is' said) = (is.text, is'.text)
 
 pub run_is_text : (words : List (List ℕ)) (verilog stimulus : List ℕ) → IsCommand words (Run verilog stimulus) → IsUtf8 verilog × IsUtf8 stimulus
 run_is_text _ _ _ (run verilog stimulus is is') = (is.text, is'.text)
@@ -254,3 +264,53 @@ circuit_refuses text (Fault f) h = no_circuit f h
 pub stim_refuses : (flat : Flat) (text : List ℕ) (e : Or StimFault) → OfFault e (IsStimFault text flat.ports) → RefusesStimulus flat text (of_stim_fault e)
 stim_refuses flat text Memory h = wanting_too
 stim_refuses flat text (Fault f) h = no_stimulus f h
+
+-- a file that gave no text isn't gone on with, whatever a wrong text is
+pub lacking_refuses : {S : Type 0} (gives : S → List ℕ → ℕ → Result Fetched (Or ShelfFault) → List ℕ → S → Type 0) (told : S → Option Files) (faults : S → ℕ)
+    (file : Wanted) (IsWrong : List ℕ → Refusal → Type 0) (s t : S) (r : Refusal) → LacksFile gives told faults file s t r
+    → RefusesFile gives told faults file IsWrong s t r
+lacking_refuses gives told faults file IsWrong s t _ (nothing r n) = nothing r n
+lacking_refuses gives told faults file IsWrong s t _ (too_long_file bytes g) = too_long_file bytes g
+lacking_refuses gives told faults file IsWrong s t _ (wrong_text text r g never) = absurd never
+
+-- what is wrong with the text is the answer of `simulate`; so is why its program can't be compiled, and what refuses the stimulus
+pub simulate_answers : (file stimulus text : List ℕ) (budget : ℕ) (r : Refusal) → RefusesText text r
+    → (r ≡ refusal.Memory) ⊎ CommandAnswer (Simulate file stimulus budget) (whole text ∷ []) (Err r)
+simulate_answers file stimulus text budget r (inl e) = inl e
+simulate_answers file stimulus text budget r (inr w) = inr (wrong_text_answer text r w)
+
+compile_answer : (text : List ℕ) (budget : ℕ) (tree : Tree) (p : Program) (r : Refusal) → IsTypedText text tree → HasProgram tree p
+    → CompileAnswer p budget (Err r) → SimulateAnswer budget (whole text ∷ []) (Err r)
+compile_answer text budget tree p r d has a = only refl a
+  where
+    only : {answer : Result (List ℕ) Refusal} → answer ≡ Err r → CompileAnswer p budget answer → SimulateAnswer budget (whole text ∷ []) (Err r)
+    only e (not_compiled fault w) = subst (SimulateAnswer budget (whole text ∷ [])) e (not_compiled_answer text tree p fault d has w)
+    only e (compiled net is) = absurd (cc)
+
+pub compile_answers : (file stimulus text : List ℕ) (budget : ℕ) (tree : Tree) (p : Program) (r : Refusal) → IsTypedText text tree → HasProgram tree p
+    → RefusesCompile p budget r → (r ≡ refusal.Memory) ⊎ CommandAnswer (Simulate file stimulus budget) (whole text ∷ []) (Err r)
+compile_answers file stimulus text budget tree p r d has (inl e) = inl e
+compile_answers file stimulus text budget tree p r d has (inr a) = inr (compile_answer text budget tree p r d has a)
+
+pub simulation_answers : (file stimulus text : List ℕ) (budget : ℕ) (p : Program) → Compiles text budget p → (bytes : List ℕ) (r : Refusal)
+    → RefusesSimulation p bytes r → (r ≡ refusal.Memory) ⊎ CommandAnswer (Simulate file stimulus budget) (whole text ∷ whole bytes ∷ []) (Err r)
+simulation_answers file stimulus text budget p can bytes _ wanting_still = inl refl
+simulation_answers file stimulus text budget p can bytes _ (no_values fault w) = inr (no_values_answer text bytes p fault can w)
+
+pub sim_refuses : (p : Program) (text : List ℕ) (e : Or SimFault) → OfFault e (IsSimFault p text) → RefusesSimulation p text (of_sim_fault e)
+sim_refuses p text Memory h = wanting_still
+sim_refuses p text (Fault f) h = no_values f h
+
+-- so many taps as `make` has are as many as may be
+pub make_is_short : (words : List (List ℕ)) (taps : ℕ) → IsCommand words (Make taps) → taps ≤ MOST_TAPS
+make_is_short _ _ (make word taps is) = is.number.within
+
+module _ {S : Type 0} (gives : S → List ℕ → ℕ → Result Fetched (Or ShelfFault) → List ℕ → S → Type 0) (told : S → Option Files) (faults : S → ℕ)
+    (words : List (List ℕ)) (s : S) (taps : ℕ) (is : IsCommand words (Make taps)) where
+  -- what `make` answers is the answer to its words, and nothing is read for it
+  pub make_answers : (bytes : List ℕ) → CommandAnswer (Make taps) [] (Ok bytes) → AnswersBy (Asks gives told faults words s s) words (Ok bytes)
+  make_answers bytes a = record { reads = []; asked = uncalled refl; answers = texts (Make taps) [] (Ok bytes) is a }
+
+  pub make_refuses : (r : Refusal) → (r ≡ refusal.Memory) ⊎ CommandAnswer (Make taps) [] (Err r) → Refuses (Asks gives told faults words s s) words r
+  make_refuses r (inl e) = subst (Refuses (Asks gives told faults words s s) words) (sym e) (for_memory [] (uncalled refl))
+  make_refuses r (inr a) = by_answer r (record { reads = []; asked = uncalled refl; answers = texts (Make taps) [] (Err r) is a })

@@ -6,27 +6,22 @@ use Rattle.chw_base.specs.declared.outcome.Or.TheVariants.{Fault}
 use Rattle.chw_base.specs.declared.shelf.Fetched.{Fetched}
 use Rattle.chw_base.specs.declared.shelf.Fetched.TheVariants.{TooLong, Absent}
 use Rattle.chw_base.specs.declared.shelf.ShelfFault.{ShelfFault}
-use Rattle.chw_cli.specs.Descriptions.{IsDescription, NoDescription}
+use Rattle.chw_cli.specs.Descriptions.{Compiles, HasProgram, IsTypedText, IsWrongText}
+use Rattle.chw_cli.specs.Faults.{refusal_of, refusal_of_compile, refusal_of_run, refusal_of_sim}
+use Rattle.chw_cli.specs.Making.{MakeAnswer}
 use Rattle.chw_cli.specs.Reads.{Read, Wanted, wants, whole}
 use Rattle.chw_cli.specs.Reads.Read.{fetched}
 use Rattle.chw_cli.specs.declared.refusal.Refusal.{Refusal}
-use Rattle.chw_cli.specs.declared.refusal.Refusal.TheVariants.{Words, Read as Unread, Names, Types, DeepBody, FullTable, Spent, State, TooLarge, Loop, Stimulus, Verilog}
-use Rattle.chw_check.specs.Faults.{IsTypeFault}
-use Rattle.chw_check.specs.declared.fault.TypeFault.{TypeFault}
+use Rattle.chw_cli.specs.declared.refusal.Refusal.TheVariants.{Words, Read as Unread, State, Stimulus}
 use Rattle.chw_grammar.specs.declared.program.Tree.{Tree}
 use Rattle.chw_grammar.specs.Text.{Text}
 use Rattle.chw_norm.specs.Running.{Ends}
 use Rattle.chw_norm.specs.declared.running.RunFault.{RunFault}
-use Rattle.chw_norm.specs.declared.running.RunFault.TheVariants as run
-use Rattle.chw_resolve.specs.Faults.{IsNameFault, IsWellNamed}
-use Rattle.chw_resolve.specs.declared.fault.NameFault.{NameFault}
-use Rattle.chw_terms.specs.Tidy.{IsTidy}
 use Rattle.chw_terms.specs.declared.program.Program.{Program}
 use Rattle.chw_terms.specs.declared.scene.Made.{Made}
-use Rattle.chw_typing.specs.Programs.{IsTyped}
 use Rattle.chw_words.specs.Commands.{IsCommand, AreNoCommand}
 use Rattle.chw_words.specs.declared.command.Command.{Command}
-use Rattle.chw_words.specs.declared.command.Command.TheVariants.{Emit, Check, Normalise, Run}
+use Rattle.chw_words.specs.declared.command.Command.TheVariants.{Emit, Simulate, Check, Normalise, Run, Make}
 use Rattle.judge.specs.Lines.{state_line}
 use Rattle.judge.specs.States.{IsFinished, RefusesState}
 use Rattle.judge.specs.declared.states.StateFault.{StateFault}
@@ -35,7 +30,6 @@ use Rattle.norm_lines.specs.Lines.{normal_lines}
 use Rattle.rewriting.specs.Runs.{Step}
 use Rattle.compiled.specs.Compiling.{CompilesTo, IsCompileFault}
 use Rattle.compiled.specs.declared.fault.CompileFault.{CompileFault}
-use Rattle.compiled.specs.declared.fault.CompileFault.TheVariants as compile
 use Rattle.net_means.specs.Outputs.{NetMeans}
 use Rattle.net_rules.specs.WellFormed.{WellFormed}
 use Rattle.netlist.specs.Sound.{Sound}
@@ -44,33 +38,12 @@ use Rattle.netlist.specs.declared.net.Net.{Net}
 use Rattle.chw_norm.specs.Rules.{built}
 use Rattle.run_answer.specs.Circuits.{CanRun, IsCircuitFault, IsRunBy}
 use Rattle.run_answer.specs.declared.fault.CircuitFault.{CircuitFault}
-use Rattle.run_answer.specs.declared.fault.CircuitFault.TheVariants as circuit
+use Rattle.sim_answer.specs.Simulation.{IsSimFault, IsSimulation}
+use Rattle.sim_answer.specs.declared.fault.SimFault.{SimFault}
 use Rattle.stimulus.specs.Stimulus.{IsStimFault}
 use Rattle.stimulus.specs.declared.fault.StimFault.{StimFault}
 use Rattle.verilog_text.specs.Text.{net_text}
 use Rattle.verilog_text.specs.VText.{VText}
-use Rattle.chw_resolve.specs.Programs.{IsProgramOf}
-
--- the names of the description are as they should be, and this is its program: the one that is tidy
-pub record HasProgram (tree : Tree) (p : Program) : Type 0 where
-  pub named : IsWellNamed tree
-  pub is : IsProgramOf tree p
-  pub tidy : IsTidy p
-
--- the text is a description that is typed, and this is its tree
-pub record IsTypedText (text : List ℕ) (tree : Tree) : Type 0 where
-  pub description : IsDescription text tree
-  pub program : Program
-  pub is : HasProgram tree program
-  pub typed : IsTyped program
-
--- why a text is no description that is typed
-pub data IsWrongText (text : List ℕ) : Refusal → Type 0 where
-  no_description : (r : Refusal) → NoDescription text r → IsWrongText text r
-  wrong_names : (tree : Tree) (fault : NameFault) → IsDescription text tree → IsNameFault tree fault
-      → IsWrongText text (Names fault)
-  wrong_types : (tree : Tree) (p : Program) (fault : TypeFault) → IsDescription text tree → HasProgram tree p
-      → IsTypeFault p fault → IsWrongText text (Types fault)
 
 -- the answer to the text of one file: why it is wrong, or, where it is a description that is typed,
 -- the answer to its tree
@@ -81,19 +54,6 @@ pub data TextAnswer (TreeAnswer : List ℕ → Tree → Result (List ℕ) Refusa
   typed : (text : List ℕ) (tree : Tree) (answer : Result (List ℕ) Refusal)
       → IsTypedText text tree
       → TreeAnswer text tree answer → TextAnswer TreeAnswer (whole text ∷ []) answer
-
--- the refusal of a run of rewriting
-abbrev pub refusal_of_run : RunFault → Refusal
-refusal_of_run run.Depth = DeepBody
-refusal_of_run run.Full = FullTable
-refusal_of_run (run.Spent steps) = Spent steps
-
--- the refusal of a program that can't be compiled
-abbrev pub refusal_of_compile : Program → CompileFault → Refusal
-refusal_of_compile p (compile.Run fault) = refusal_of_run fault
-refusal_of_compile p (compile.State fault) = State (state_line p fault)
-refusal_of_compile p compile.TooLarge = TooLarge
-refusal_of_compile p (compile.Loop cycle) = Loop cycle
 
 -- the text denotes the net, and no other
 pub record DenotesOnly (text : List ℕ) (net : Net) : Type 0 where
@@ -131,6 +91,22 @@ pub record EmitAnswer (tree : Tree) (budget : ℕ) (answer : Result (List ℕ) R
   pub has : HasProgram tree program
   pub answers : CompileAnswer program budget answer
 
+-- the answer of `simulate`: why the first text is no description that is typed; or why its program
+-- can't be compiled; or, where it can, why the second text is no stimulus of values for it; or,
+-- where it is one, the lines of what the program means
+pub data SimulateAnswer (budget : ℕ) : List Read → Result (List ℕ) Refusal → Type 0 where
+  wrong_text : (text : List ℕ) (r : Refusal) → IsWrongText text r
+      → SimulateAnswer budget (whole text ∷ []) (Err r)
+  not_compiled : (text : List ℕ) (tree : Tree) (p : Program) (fault : CompileFault)
+      → IsTypedText text tree → HasProgram tree p → IsCompileFault p budget fault
+      → SimulateAnswer budget (whole text ∷ []) (Err (refusal_of_compile p fault))
+  no_stimulus : (text stimulus : List ℕ) (p : Program) (fault : SimFault)
+      → Compiles text budget p → IsSimFault p stimulus fault
+      → SimulateAnswer budget (whole text ∷ whole stimulus ∷ []) (Err (refusal_of_sim fault))
+  simulated : (text stimulus lines : List ℕ) (p : Program) → Compiles text budget p
+      → IsSimulation p stimulus lines
+      → SimulateAnswer budget (whole text ∷ whole stimulus ∷ []) (Ok lines)
+
 -- the answer of `normalise` to a description: the lines of the run of its program, by so many steps
 -- at most, to a state in which none is left, and which is normal and acyclic; or why the run is
 -- refused, or the state to which it leads
@@ -145,12 +121,6 @@ pub data NormaliseAnswer (tree : Tree) (budget : ℕ) : Result (List ℕ) Refusa
       → HasProgram tree p → length steps ≤ budget → Ends built p budget steps (Ok made)
       → RefusesState p made fault
       → NormaliseAnswer tree budget (Err (State (state_line p fault)))
-
--- the refusal of a Verilog text that can't be run
-abbrev pub refusal_of : CircuitFault → Refusal
-refusal_of (circuit.Text fault) = Verilog fault
-refusal_of circuit.TooLarge = TooLarge
-refusal_of (circuit.Loop cycle) = Loop cycle
 
 -- the answer of `run`: why the first text can't be run; or, where it can, why the second is no
 -- stimulus for the ports of its flat net; or, where it is one, the lines of the outputs
@@ -167,10 +137,12 @@ pub data RunAnswer : List Read → Result (List ℕ) Refusal → Type 0 where
 abbrev pub CommandAnswer : Command → List Read → Result (List ℕ) Refusal → Type 0
 CommandAnswer (Emit file budget) =
     TextAnswer (λ text tree answer. EmitAnswer tree budget answer)
+CommandAnswer (Simulate file stimulus budget) = SimulateAnswer budget
 CommandAnswer (Check file) = TextAnswer (λ text tree answer. answer ≡ Ok (Text tree))
 CommandAnswer (Normalise file budget) =
     TextAnswer (λ text tree answer. NormaliseAnswer tree budget answer)
 CommandAnswer (Run verilog stimulus) = RunAnswer
+CommandAnswer (Make taps) = MakeAnswer taps
 
 -- the file isn't held, or couldn't be read
 abbrev pub IsUnread : Result Fetched (Or ShelfFault) → Type 0

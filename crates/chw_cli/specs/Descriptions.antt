@@ -1,4 +1,4 @@
--- Which texts are descriptions, and why a text is none.
+-- Which texts are descriptions, with their programs, and why a text is none.
 use Rattle.std.specs.Prelude.{ℕ, ◌≤◌, List, length}
 use Rattle.chw_base.specs.declared.limits.TheConstants.{NESTING}
 use Rattle.chw_lexer.specs.Tokens.{Tokens, NoToken}
@@ -9,8 +9,19 @@ use Rattle.chw_grammar.specs.Lexemes.{lexemes_of}
 use Rattle.chw_grammar.specs.declared.program.Tree.{Tree}
 use Rattle.chw_parser.specs.Faults.{IsFault, Shallow}
 use Rattle.chw_parser.specs.declared.parsing.ParseFault.TheVariants as fault
+use Rattle.chw_check.specs.Faults.{IsTypeFault}
+use Rattle.chw_check.specs.declared.fault.TypeFault.{TypeFault}
+use Rattle.chw_resolve.specs.Faults.{IsNameFault, IsWellNamed}
+use Rattle.chw_resolve.specs.Programs.{IsProgramOf}
+use Rattle.chw_resolve.specs.declared.fault.NameFault.{NameFault}
+use Rattle.chw_terms.specs.Tidy.{IsTidy}
+use Rattle.chw_terms.specs.declared.program.Program.{Program}
+use Rattle.chw_typing.specs.Programs.{IsTyped}
+use Rattle.compiled.specs.Compiling.{CompilesTo}
+use Rattle.netlist.specs.declared.net.Flat.{Flat}
+use Rattle.netlist.specs.declared.net.Net.{Net}
 use Rattle.chw_cli.specs.declared.refusal.Refusal.{Refusal}
-use Rattle.chw_cli.specs.declared.refusal.Refusal.TheVariants.{Lex, Syntax, Depth}
+use Rattle.chw_cli.specs.declared.refusal.Refusal.TheVariants.{Lex, Syntax, Depth, Names, Types}
 
 -- the text is a description with this tree, within the limits on open brackets and on height
 pub record IsDescription (text : List ℕ) (tree : Tree) : Type 0 where
@@ -25,3 +36,38 @@ pub data NoDescription (text : List ℕ) : Refusal → Type 0 where
   lex : (at : ℕ) → NoToken text at → NoDescription text (Lex at)
   syntax : (tokens : List Token) (at : ℕ) → Tokens text tokens → IsFault (length text) (lexemes_of text tokens) (fault.Syntax at) → NoDescription text (Syntax at)
   depth : (tokens : List Token) (at : ℕ) → Tokens text tokens → IsFault (length text) (lexemes_of text tokens) (fault.Depth at) → NoDescription text Depth
+
+-- the names of the description are as they should be, and this is its program: the one that is tidy
+pub record HasProgram (tree : Tree) (p : Program) : Type 0 where
+  pub named : IsWellNamed tree
+  pub is : IsProgramOf tree p
+  pub tidy : IsTidy p
+
+-- the text is a description that is typed, and this is its tree
+pub record IsTypedText (text : List ℕ) (tree : Tree) : Type 0 where
+  pub description : IsDescription text tree
+  pub program : Program
+  pub is : HasProgram tree program
+  pub typed : IsTyped program
+
+-- why a text is no description that is typed
+pub data IsWrongText (text : List ℕ) : Refusal → Type 0 where
+  no_description : (r : Refusal) → NoDescription text r → IsWrongText text r
+  wrong_names : (tree : Tree) (fault : NameFault) → IsDescription text tree → IsNameFault tree fault
+      → IsWrongText text (Names fault)
+  wrong_types : (tree : Tree) (p : Program) (fault : TypeFault) → IsDescription text tree → HasProgram tree p
+      → IsTypeFault p fault → IsWrongText text (Types fault)
+
+-- the text is a description that is typed, and its program is this one, which is compiled to some
+-- net by so many steps at most
+pub record Compiles (text : List ℕ) (budget : ℕ) (p : Program) : Type 0 where
+  pub tree : Tree
+  pub typed : IsTypedText text tree
+  pub has : HasProgram tree p
+  pub net : Net
+  pub flat : Flat
+  pub compiles : CompilesTo p budget net flat
+
+-- the text is one of which the program is compiled by so many steps at most
+abbrev pub IsCompilable : ℕ → List ℕ → Type 0
+IsCompilable budget text = (p : Program) × Compiles text budget p

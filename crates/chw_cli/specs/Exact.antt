@@ -2,8 +2,8 @@
 use Rattle.std.specs.Prelude.{◌≡◌, ◌≤◌, ℕ, List, [], ◌∷◌, length, Option, Some, None, ◌⊎◌, IsSomeAnd}
 use Rattle.chw_base.specs.Files.{Files, file_of}
 use Rattle.chw_clock.specs.declared.event.Event.{Event}
-use Rattle.chw_cli.specs.Answer.{HasProgram, IsTypedText}
-use Rattle.chw_cli.specs.Descriptions.{IsDescription}
+use Rattle.chw_clock.specs.declared.event.Ports.{Ports}
+use Rattle.chw_cli.specs.Descriptions.{Compiles, HasProgram, IsCompilable, IsDescription, IsTypedText}
 use Rattle.chw_cli.specs.Reads.{GoesOn, Wanted, wants}
 use Rattle.chw_cli.specs.declared.status.Status.{Status}
 use Rattle.chw_cli.specs.declared.status.Status.TheVariants as status
@@ -12,16 +12,18 @@ use Rattle.chw_norm.specs.Running.{ShallowRun}
 use Rattle.chw_terms.specs.declared.program.Program.{Program}
 use Rattle.chw_terms.specs.declared.scene.Made.{Made}
 use Rattle.chw_words.specs.Commands.{IsCommand, AreNoCommand}
+use Rattle.chw_words.specs.declared.budget.TheConstants.{MOST_BUDGET}
 use Rattle.chw_words.specs.declared.command.Command.{Command}
-use Rattle.chw_words.specs.declared.command.Command.TheVariants.{Emit, Check, Normalise, Run}
+use Rattle.chw_words.specs.declared.command.Command.TheVariants.{Emit, Simulate, Check, Normalise, Run, Make}
 use Rattle.judge.specs.States.{IsFinished}
+use Rattle.make_answer.specs.Events.{make_stimulus}
+use Rattle.make_text.specs.MakeText.{make_text}
 use Rattle.netlist.specs.declared.net.Flat.{Flat}
-use Rattle.netlist.specs.declared.net.Net.{Net}
-use Rattle.compiled.specs.Compiling.{CompilesTo}
 use Rattle.rewriting.specs.Runs.{Step}
 use Rattle.rewriting.specs.Steps.{HasNoStep}
 use Rattle.chw_norm.specs.Rules.{built}
 use Rattle.run_answer.specs.Circuits.{CanRun}
+use Rattle.sim_answer.specs.Simulation.{IsStimulus}
 use Rattle.stimulus.specs.Stimulus.{Stim}
 
 -- the status is this one, or memory was wanting
@@ -32,16 +34,6 @@ Ends wanted s = (s ≡ wanted) ⊎ (s ≡ status.Memory)
 pub data BreaksNone (Suits : List ℕ → Type 0) : List (List ℕ) → Type 0 where
   typed : (text : List ℕ) (tree : Tree) → IsTypedText text tree → Suits text
       → BreaksNone Suits (text ∷ [])
-
--- the program of the text is compiled to some net by so many steps at most
-pub record IsCompilable (budget : ℕ) (text : List ℕ) : Type 0 where
-  pub tree : Tree
-  pub description : IsDescription text tree
-  pub program : Program
-  pub has : HasProgram tree program
-  pub net : Net
-  pub flat : Flat
-  pub compiles : CompilesTo program budget net flat
 
 -- the program of the text has a run of so many steps at most to a state in which no step is left,
 -- and which is normal and acyclic; no step leads to a body over the limit of depth, or to more made
@@ -63,12 +55,27 @@ pub data RunsWith : List (List ℕ) → Type 0 where
   runs : (text stimulus : List ℕ) (flat : Flat) (events : List Event) → CanRun text flat
       → Stim stimulus flat.ports events → RunsWith (text ∷ stimulus ∷ [])
 
+-- the program of the first text is compiled to some net by so many steps at most, and the second is
+-- a stimulus of values for it
+pub data SimulatesWith (budget : ℕ) : List (List ℕ) → Type 0 where
+  simulates : (text stimulus : List ℕ) (p : Program) (ports : Ports) (events : List Event)
+      → Compiles text budget p → IsStimulus p stimulus ports events
+      → SimulatesWith budget (text ∷ stimulus ∷ [])
+
+-- no file is wanted, the text is one of which the program is compiled, and the other a stimulus of
+-- values for it
+pub data MakesWith (text stimulus : List ℕ) : List (List ℕ) → Type 0 where
+  makes : (p : Program) (ports : Ports) (events : List Event) → Compiles text MOST_BUDGET p
+      → IsStimulus p stimulus ports events → MakesWith text stimulus []
+
 -- the texts of the files of a command break no restriction
 abbrev pub BreakNothing : Command → List (List ℕ) → Type 0
 BreakNothing (Emit file budget) = BreaksNone (IsCompilable budget)
+BreakNothing (Simulate file stimulus budget) = SimulatesWith budget
 BreakNothing (Check file) = BreaksNone (λ text. Unit {0})
 BreakNothing (Normalise file budget) = BreaksNone (HasNormalRun budget)
 BreakNothing (Run verilog stimulus) = RunsWith
+BreakNothing (Make taps) = MakesWith (make_text taps) (make_stimulus taps)
 
 -- the file is held with this text, which is within its limit
 abbrev pub IsHeld : Files → Wanted → List ℕ → Type 0

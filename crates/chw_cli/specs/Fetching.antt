@@ -37,3 +37,7 @@ module _ {S : Type 0} (gives : FetchGives S) (told : S → Option Files) (faults
     wrong : (text : List ℕ) (r : Refusal)
         → Gets gives told faults file.name file.limit (Ok Whole) text s t
         → IsWrong text r → RefusesFile file IsWrong s t r
+
+  -- why a wanted file gave no text: nothing was read, or the file is too long
+  abbrev pub LacksFile : Wanted → S → S → Refusal → Type 0
+  LacksFile file s t = RefusesFile file (λ text r. ⊥) s t

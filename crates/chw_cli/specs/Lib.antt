@@ -2,8 +2,10 @@ pub mod Answer
 pub mod Delivery
 pub mod Descriptions
 pub mod Exact
+pub mod Faults
 pub mod Fetching
 pub mod Lines
+pub mod Making
 pub mod Outcome
 pub mod Reads
 pub mod Refusals

@@ -4,7 +4,7 @@ use Rattle.std.specs.List.{flat_map}
 use Rattle.chw_base.specs.declared.limits.TheConstants.{DESCRIPTION_BYTES, FLAT_WIRES, MADE_DEFINITIONS, MADE_DEPTH, NESTING}
 use Rattle.chw_base.specs.declared.index.WireId.{WireId}
 use Rattle.chw_cli.specs.declared.refusal.Refusal.{Refusal}
-use Rattle.chw_cli.specs.declared.refusal.Refusal.TheVariants.{Words, Read, LongText, Lex, Syntax, Depth, Names, Types, DeepBody, FullTable, Spent, State, Verilog, Stimulus, TooLarge, Loop, Write, Memory}
+use Rattle.chw_cli.specs.declared.refusal.Refusal.TheVariants.{Words, Read, LongText, Lex, Syntax, Depth, Names, Types, DeepBody, FullTable, Spent, State, Verilog, Stimulus, Value, TooLarge, Loop, Write, Memory}
 use Rattle.chw_cli.specs.declared.status.Status.{Status}
 use Rattle.chw_check.specs.declared.fault.TypeFault.{TypeFault}
 use Rattle.chw_check.specs.declared.fault.TypeFault.TheVariants.{Kind, Typing, Missing, NoDefault, NotPorts}
@@ -43,6 +43,7 @@ status_of (Spent steps) = status.Spent
 status_of (State line) = status.Refused
 status_of (Verilog fault) = status.Verilog
 status_of (Stimulus fault) = status.Stimulus
+status_of (Value line) = status.Stimulus
 status_of TooLarge = status.Refused
 status_of (Loop cycle) = status.Refused
 status_of Write = status.Write
@@ -116,6 +117,7 @@ line_of (Spent steps) = codes "chw: E18 spent " ++ decimal steps ++ codes "\n"
 line_of (State line) = line
 line_of (Verilog fault) = rule_words fault.code ++ decimal fault.at ++ codes "\n"
 line_of (Stimulus fault) = stim_words fault.code ++ decimal fault.line ++ codes "\n"
+line_of (Value line) = codes "chw: S04 line " ++ decimal line ++ codes "\n"
 line_of TooLarge = codes "chw: E17 size wires " ++ decimal FLAT_WIRES ++ codes "\n"
 line_of (Loop cycle) = codes "chw: E16 loop" ++ wire_texts cycle ++ codes "\n"
 line_of Write = codes "chw: write\n"
@@ -132,5 +134,6 @@ TakesMemory (Types fault) = Unit {0}
 TakesMemory (Spent steps) = Unit {0}
 TakesMemory (Verilog fault) = Unit {0}
 TakesMemory (Stimulus fault) = Unit {0}
+TakesMemory (Value line) = Unit {0}
 TakesMemory (Loop cycle) = Unit {0}
 TakesMemory _ = ⊥

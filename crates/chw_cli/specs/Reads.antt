@@ -7,11 +7,12 @@ use Rattle.chw_base.specs.declared.outcome.Or.{Or}
 use Rattle.chw_base.specs.declared.shelf.Fetched.{Fetched}
 use Rattle.chw_base.specs.declared.shelf.Fetched.TheVariants.{Whole}
 use Rattle.chw_base.specs.declared.shelf.ShelfFault.{ShelfFault}
+use Rattle.chw_cli.specs.Descriptions.{IsCompilable}
 use Rattle.chw_cli.specs.declared.refusal.Refusal.{Refusal}
 use Rattle.chw_cli.specs.declared.refusal.Refusal.TheVariants.{LongText, Stimulus, Verilog}
 use Rattle.chw_words.specs.Commands.{IsCommand}
 use Rattle.chw_words.specs.declared.command.Command.{Command}
-use Rattle.chw_words.specs.declared.command.Command.TheVariants.{Emit, Check, Normalise, Run}
+use Rattle.chw_words.specs.declared.command.Command.TheVariants.{Emit, Simulate, Check, Normalise, Run, Make}
 use Rattle.netlist.specs.declared.net.Flat.{Flat}
 use Rattle.run_answer.specs.Circuits.{CanRun}
 use Rattle.stimulus.specs.declared.fault.StimCode.TheVariants.{S05}
@@ -43,17 +44,22 @@ stimulus_in file = record {
 -- the files that a command wants, in the order in which it reads them
 abbrev pub wants : Command → List Wanted
 wants (Emit file budget) = description_in file ∷ []
+wants (Simulate file stimulus budget) = description_in file ∷ stimulus_in stimulus ∷ []
 wants (Check file) = description_in file ∷ []
 wants (Normalise file budget) = description_in file ∷ []
 wants (Run verilog stimulus) = verilog_in verilog ∷ stimulus_in stimulus ∷ []
+wants (Make taps) = []
 
--- after a file with this text the command goes on to the next one: never, if it wants a single file;
--- with a Verilog text that can be run, if it wants a stimulus too
+-- after a file with this text the command goes on to the next one: never, if it wants one file at
+-- most; if it wants a stimulus too, with a text of which the program is compiled, or a Verilog text
+-- that can be run
 abbrev pub GoesOn : Command → List ℕ → Type 0
 GoesOn (Emit file budget) text = ⊥
+GoesOn (Simulate file stimulus budget) text = IsCompilable budget text
 GoesOn (Check file) text = ⊥
 GoesOn (Normalise file budget) text = ⊥
 GoesOn (Run verilog stimulus) text = (flat : Flat) × CanRun text flat
+GoesOn (Make taps) text = ⊥
 
 -- one read: what a call of `fetch` answered, with the bytes
 pub data Read : Type 0 where

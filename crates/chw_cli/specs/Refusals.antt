@@ -1,9 +1,11 @@
 -- How the refusals of other crates become refusals of the program, and why a description is refused.
-use Rattle.std.specs.Prelude.{◌≡◌, ℕ, List, Err, ◌⊎◌}
+use Rattle.std.specs.Prelude.{◌≡◌, ℕ, List, [], Err, ◌⊎◌}
 use Rattle.chw_base.specs.declared.outcome.Or.{Or}
 use Rattle.chw_base.specs.declared.outcome.Or.TheVariants.{Memory, Fault}
-use Rattle.chw_cli.specs.Answer.{CompileAnswer, EmitAnswer, IsWrongText, NormaliseAnswer, refusal_of, refusal_of_compile, refusal_of_run}
-use Rattle.chw_cli.specs.Descriptions.{NoDescription}
+use Rattle.chw_cli.specs.Answer.{CompileAnswer, EmitAnswer, NormaliseAnswer}
+use Rattle.chw_cli.specs.Descriptions.{IsWrongText, NoDescription}
+use Rattle.chw_cli.specs.Faults.{refusal_of, refusal_of_compile, refusal_of_run, refusal_of_sim}
+use Rattle.chw_cli.specs.Making.{MadeAnswer, TallyAnswer}
 use Rattle.chw_cli.specs.declared.refusal.Refusal.{Refusal}
 use Rattle.chw_cli.specs.declared.refusal.Refusal.TheVariants as refusal
 use Rattle.chw_check.specs.declared.fault.TypeFault.{TypeFault}
@@ -23,6 +25,8 @@ use Rattle.judge.specs.declared.states.StateFault.{StateFault}
 use Rattle.netlist.specs.declared.net.Flat.{Flat}
 use Rattle.run_answer.specs.Circuits.{IsCircuitFault}
 use Rattle.run_answer.specs.declared.fault.CircuitFault.{CircuitFault}
+use Rattle.sim_answer.specs.Simulation.{IsSimFault}
+use Rattle.sim_answer.specs.declared.fault.SimFault.{SimFault}
 use Rattle.stimulus.specs.Stimulus.{IsStimFault}
 use Rattle.stimulus.specs.declared.fault.StimFault.{StimFault}
 
@@ -58,6 +62,10 @@ of_circuit_fault (Fault f) = refusal_of f
 abbrev pub of_stim_fault : Or StimFault → Refusal
 of_stim_fault Memory = refusal.Memory
 of_stim_fault (Fault f) = refusal.Stimulus f
+
+abbrev pub of_sim_fault : Or SimFault → Refusal
+of_sim_fault Memory = refusal.Memory
+of_sim_fault (Fault f) = refusal_of_sim f
 
 -- the refusal of a program that can't be compiled: its own, or want of memory
 abbrev pub IsCompileRefusal : Program → CompileFault → Refusal → Type 0
@@ -104,3 +112,17 @@ pub data RefusesStimulus (flat : Flat) (text : List ℕ) : Refusal → Type 0 wh
   memory : RefusesStimulus flat text refusal.Memory
   no_stimulus : (fault : StimFault) → IsStimFault text flat.ports fault
       → RefusesStimulus flat text (refusal.Stimulus fault)
+
+-- why a stimulus isn't taken for a program: want of memory, or its fault
+pub data RefusesSimulation (p : Program) (text : List ℕ) : Refusal → Type 0 where
+  memory : RefusesSimulation p text refusal.Memory
+  no_stimulus : (fault : SimFault) → IsSimFault p text fault
+      → RefusesSimulation p text (refusal_of_sim fault)
+
+-- why a program isn't tallied: want of memory, or the refusal is the answer
+abbrev pub RefusesTally : Program → List ℕ → Refusal → Type 0
+RefusesTally p stimulus r = (r ≡ refusal.Memory) ⊎ TallyAnswer p stimulus (Err r)
+
+-- why a text and a stimulus that are made have no lines: want of memory, or the refusal is the answer
+abbrev pub RefusesMade : List ℕ → List ℕ → Refusal → Type 0
+RefusesMade text stimulus r = (r ≡ refusal.Memory) ⊎ MadeAnswer text stimulus [] (Err r)

@@ -3,13 +3,16 @@ ghost use Rattle.std.specs.Prelude.{◌≡◌, Ok, IfOk, IfErr};
 ghost use Rattle.chw_cli.specs.Outcome.{AnswersBy, Refuses};
 ghost use Rattle.chw_cli.specs.Reads.{Asks};
 ghost use Rattle.chw_words.specs.Commands.{IsCommand};
-ghost use Rattle.chw_words.specs.declared.command.Command.TheVariants.{Check, Emit, Normalise, Run};
+ghost use Rattle.chw_words.specs.declared.command.Command.TheVariants.{Check, Emit, Make, Normalise, Run, Simulate};
 
+use crate::compile::compiled_of;
 use crate::describe::read_description;
 use crate::emit::emitted;
+use crate::make::made;
 use crate::normalise::normalised;
 use crate::refusal::Refusal;
 use crate::run::{read_circuit, run_lines};
+use crate::simulate::simulated;
 use chw_base::{Name, Shelf};
 use chw_text::print;
 use chw_words::{Command, read_words};
@@ -26,9 +29,15 @@ pub(crate) fn answer<F: Shelf>(
 {
     match read_words(alloc, words)? {
         Command::Emit { file, budget } => emit(alloc, words, &file, budget, shelf),
+        Command::Simulate {
+            file,
+            stimulus,
+            budget,
+        } => simulate(alloc, words, &file, &stimulus, budget, shelf),
         Command::Check { file } => check(alloc, words, &file, shelf),
         Command::Normalise { file, budget } => normalise(alloc, words, &file, budget, shelf),
         Command::Run { verilog, stimulus } => run(alloc, words, &verilog, &stimulus, shelf),
+        Command::Make { taps } => make(alloc, words, taps, shelf),
     }
 }
 
@@ -46,6 +55,25 @@ fn emit<F: Shelf>(
 {
     let description = read_description(alloc, file, shelf)?;
     emitted(alloc, &description, budget)
+}
+
+/// The answer of `simulate` to the description and the stimulus in two files.
+fn simulate<F: Shelf>(
+    alloc: Global,
+    words: &[Name],
+    file: &Name,
+    stimulus: &Name,
+    budget: u32,
+    shelf: &mut F,
+) -> Result<Vec<u8>, Refusal>
+    requires { IsCommand words.now (Simulate file.now stimulus.now budget) }
+    ensures answers { IfOk result (λ bytes. AnswersBy (Asks F.fetch_gives F.told F.faults words.now shelf.old shelf.new) words.now (Ok bytes.items)) }
+    ensures refuses { IfErr result (Refuses (Asks F.fetch_gives F.told F.faults words.now shelf.old shelf.new) words.now) }
+{
+    let description = read_description(alloc, file, shelf)?;
+    let program = description.checked.program();
+    let made = compiled_of(alloc, program, budget)?;
+    simulated(alloc, program, &made, stimulus, shelf)
 }
 
 /// The answer of `check` to the description in a file.
@@ -93,4 +121,18 @@ fn run<F: Shelf>(
 {
     let circuit = read_circuit(alloc, verilog, shelf)?;
     run_lines(alloc, &circuit, stimulus, shelf)
+}
+
+/// The answer of `make` to a number of taps. No file is read.
+fn make<F: Shelf>(
+    alloc: Global,
+    words: &[Name],
+    taps: u32,
+    shelf: &mut F,
+) -> Result<Vec<u8>, Refusal>
+    requires { IsCommand words.now (Make taps) }
+    ensures answers { IfOk result (λ bytes. AnswersBy (Asks F.fetch_gives F.told F.faults words.now shelf.old shelf.new) words.now (Ok bytes.items)) }
+    ensures refuses { IfErr result (Refuses (Asks F.fetch_gives F.told F.faults words.now shelf.old shelf.new) words.now) }
+{
+    made(alloc, taps)
 }

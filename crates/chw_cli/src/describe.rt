@@ -3,8 +3,7 @@ ghost use Rattle.std.specs.Prelude.{◌≡◌, ◌≤◌, length, Ok, IfOk, IfEr
 ghost use Rattle.std.specs.Str.{IsUtf8};
 ghost use Rattle.chw_base.specs.declared.limits.TheConstants.{DESCRIPTION_BYTES};
 ghost use Rattle.chw_base.specs.declared.shelf.Fetched.TheVariants.{Whole};
-ghost use Rattle.chw_cli.specs.Answer.{HasProgram, IsTypedText};
-ghost use Rattle.chw_cli.specs.Descriptions.{IsDescription};
+ghost use Rattle.chw_cli.specs.Descriptions.{HasProgram, IsDescription, IsTypedText};
 ghost use Rattle.chw_cli.specs.Fetching.{RefusesFile};
 ghost use Rattle.chw_cli.specs.Reads.{Gets, description_in};
 ghost use Rattle.chw_cli.specs.Refusals.{RefusesReading, RefusesText};
@@ -53,7 +52,7 @@ pub(crate) fn read_description<F: Shelf>(
 }
 
 /// The tree of the description that the text is, which is typed, and its program; or why it is none.
-fn typed_tree(alloc: Global, text: &[u8]) -> Result<(Tree, Checked), Refusal>
+pub(crate) fn typed_tree(alloc: Global, text: &[u8]) -> Result<(Tree, Checked), Refusal>
     requires { length text.now ≤ DESCRIPTION_BYTES }
     ensures typed { IfOk result (λ it. IsTypedText text.now it.0) }
     ensures program { IfOk result (λ it. HasProgram it.0 it.1) }

@@ -1,17 +1,15 @@
 //! The command `emit`: the Verilog text of a description.
 ghost use Rattle.std.specs.Prelude.{◌≡◌, Ok, IfOk, IfErr};
-ghost use Rattle.chw_cli.specs.Answer.{CompileAnswer, EmitAnswer, HasProgram};
-ghost use Rattle.chw_cli.specs.Refusals.{IsCompileRefusal, RefusesCompile, RefusesEmit};
+ghost use Rattle.chw_cli.specs.Answer.{CompileAnswer, EmitAnswer};
+ghost use Rattle.chw_cli.specs.Descriptions.{HasProgram};
+ghost use Rattle.chw_cli.specs.Refusals.{RefusesCompile, RefusesEmit};
 ghost use Rattle.chw_terms.specs.Tidy.{IsTidy};
 ghost use Rattle.chw_typing.specs.Programs.{IsTyped};
 
+use crate::compile::compiled_of;
 use crate::describe::Description;
-use crate::normalise::refusal_of_state;
 use crate::refusal::Refusal;
-use chw_base::Or;
-use chw_norm::RunFault;
 use chw_terms::Program;
-use compiled::{CompileFault, compile};
 use normal_forms::laws::normal_is_first_order;
 use std::alloc::Global;
 use verilog_read::readable_text;
@@ -39,23 +37,6 @@ fn text_of(alloc: Global, program: &Program, budget: u32) -> Result<Vec<u8>, Ref
 {
     normal_is_first_order();
     one_net();
-    match compile(alloc, program, budget) {
-        Ok(made) => Ok(readable_text(alloc, &made.net)?),
-        Err(Or::Fault(fault)) => Err(refusal_of_compile(alloc, program, fault)),
-        Err(Or::Memory) => Err(Refusal::Memory),
-    }
-}
-
-// The refusal of a program that can't be compiled.
-fn refusal_of_compile(alloc: Global, program: &Program, fault: CompileFault) -> Refusal
-    ensures { IsCompileRefusal program.now fault result }
-{
-    match fault {
-        CompileFault::Run(RunFault::Depth) => Refusal::DeepBody,
-        CompileFault::Run(RunFault::Full) => Refusal::FullTable,
-        CompileFault::Run(RunFault::Spent { steps }) => Refusal::Spent(steps),
-        CompileFault::State(fault) => refusal_of_state(alloc, program, &fault),
-        CompileFault::TooLarge => Refusal::TooLarge,
-        CompileFault::Loop(cycle) => Refusal::Loop(cycle),
-    }
+    let made = compiled_of(alloc, program, budget)?;
+    Ok(readable_text(alloc, &made.net)?)
 }

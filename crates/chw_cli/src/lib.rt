@@ -2,14 +2,17 @@
 #![tactic(auto)]
 
 mod answer;
+mod compile;
 mod deliver;
 mod describe;
 mod emit;
 mod fetch;
 mod lines;
+mod make;
 mod normalise;
 pub mod refusal;
 mod run;
+mod simulate;
 pub mod status;
 mod tell;
 pub mod top;

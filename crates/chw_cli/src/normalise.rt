@@ -1,6 +1,7 @@
 //! The command `normalise`: the steps by which a description is rewritten, and the definitions that they make.
 ghost use Rattle.std.specs.Prelude.{List, Ok, IfOk, IfErr, OnOk};
-ghost use Rattle.chw_cli.specs.Answer.{HasProgram, NormaliseAnswer};
+ghost use Rattle.chw_cli.specs.Answer.{NormaliseAnswer};
+ghost use Rattle.chw_cli.specs.Descriptions.{HasProgram};
 ghost use Rattle.chw_base.specs.Outcome.{IfFault};
 ghost use Rattle.chw_cli.specs.Refusals.{IsRefusalOf, RefusesLast, RefusesNormalise};
 ghost use Rattle.chw_norm.specs.Rules.{built};

@@ -1,6 +1,6 @@
 //! Why the program gave no answer.
 ghost use Rattle.std.specs.Prelude.{◌≡◌};
-ghost use Rattle.chw_cli.specs.Refusals.{of_circuit_fault, of_lex_fault, of_name_fault, of_parse_fault, of_run_fault, of_stim_fault, of_type_fault, of_words_fault};
+ghost use Rattle.chw_cli.specs.Refusals.{of_circuit_fault, of_lex_fault, of_name_fault, of_parse_fault, of_run_fault, of_sim_fault, of_stim_fault, of_type_fault, of_words_fault};
 ghost use Rattle.chw_cli.specs.declared.refusal.Refusal.TheVariants.{Memory};
 
 use chw_base::{Name, NoMemory, Or, Seq, WireId};
@@ -11,6 +11,7 @@ use chw_parser::ParseFault;
 use chw_resolve::NameFault;
 use chw_words::WordsFault;
 use run_answer::CircuitFault;
+use sim_answer::SimFault;
 use stimulus::StimFault;
 use verilog_rules::VFault;
 
@@ -45,6 +46,8 @@ pub enum Refusal {
     Verilog(VFault),
     /// The text is no stimulus for the ports of the net: the first line that isn't taken, and why.
     Stimulus(StimFault),
+    /// The text is a stimulus for the ports of the program, and this line has bits that encode no value of their input's type.
+    Value(u32),
     /// The net has more flat wires than the limit.
     TooLarge,
     /// These flat wires drive each other in a circle that passes no register and no RAM, the one with the least number first.
@@ -152,6 +155,18 @@ impl From<Or<StimFault>> for Refusal {
         match error {
             Or::Memory => Refusal::Memory,
             Or::Fault(fault) => Refusal::Stimulus(fault),
+        }
+    }
+}
+
+impl From<Or<SimFault>> for Refusal {
+    ghost from_gives = { λ e r. r ≡ of_sim_fault e };
+
+    fn from(error: Or<SimFault>) -> Refusal {
+        match error {
+            Or::Memory => Refusal::Memory,
+            Or::Fault(SimFault::Stimulus(fault)) => Refusal::Stimulus(fault),
+            Or::Fault(SimFault::Value { line }) => Refusal::Value(line),
         }
     }
 }

@@ -8,13 +8,12 @@ ghost use Rattle.chw_cli.specs.Reads.{Gets, stimulus_in, verilog_in};
 ghost use Rattle.chw_cli.specs.Refusals.{RefusesStimulus, RefusesVerilog};
 ghost use Rattle.run_answer.specs.Circuits.{CanStep, IsCircuitOf, IsRunBy};
 
-use crate::fetch::text_of;
+use crate::fetch::{stimulus_text, text_of};
 use crate::refusal::Refusal;
-use chw_base::limits::{STIMULUS_BYTES, VERILOG_BYTES};
+use chw_base::limits::VERILOG_BYTES;
 use chw_base::{Name, Shelf};
 use run_answer::{Circuit, circuit_of, lines_of};
 use std::alloc::Global;
-use stimulus::{StimCode, StimFault};
 use verilog_rules::{VCode, VFault};
 
 /// The circuit of the Verilog text in a file, or why there is none.
@@ -52,11 +51,6 @@ pub(crate) fn run_lines<F: Shelf>(
     ensures refused { IfErr result (RefusesFile F.fetch_gives F.told F.faults (stimulus_in file.now)
         (RefusesStimulus circuit.now.flat) shelf.old shelf.new) }
 {
-    let Some(text) = text_of(alloc, file, STIMULUS_BYTES, shelf)? else {
-        return Err(Refusal::Stimulus(StimFault {
-            code: StimCode::S05,
-            line: 0,
-        }));
-    };
+    let text = stimulus_text(alloc, file, shelf)?;
     Ok(lines_of(alloc, circuit, text.as_slice())?)
 }

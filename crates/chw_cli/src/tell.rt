@@ -63,6 +63,13 @@ pub(crate) fn tell<E: Sink>(alloc: Global, refusal: &Refusal, err: &mut E) -> St
             Status::Stimulus,
             err,
         ),
+        Refusal::Value(line) => tell_place(
+            alloc,
+            "chw: S04 line ",
+            *line as usize,
+            Status::Stimulus,
+            err,
+        ),
         Refusal::State(line) => put_bytes(alloc, line.as_slice(), Status::Refused, err),
         Refusal::TooLarge => put_line(alloc, "chw: E17 size wires 200000\n", Status::Refused, err),
         Refusal::Loop(cycle) => tell_loop(alloc, cycle, err),

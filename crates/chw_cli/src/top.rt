@@ -21,6 +21,7 @@ use chw_words::laws::words_are_one_command;
 use compiled::laws::nothing_refuses_a_compile;
 use data_kinds::kind_laws::one_program;
 use run_answer::laws::nothing_refuses_a_run;
+use sim_answer::laws::refusals;
 use std::alloc::Global;
 
 /// Does what the words ask for: reads the files from the shelf, and writes the answer to `out`, or one line to `err`.
@@ -53,6 +54,7 @@ pub fn top<F: Shelf, K: Sink, E: Sink>(
     one_last_state();
     nothing_refuses_a_compile();
     nothing_refuses_a_run();
+    refusals();
     match answer(alloc, words, shelf) {
         Ok(bytes) => match deliver(alloc, bytes.as_slice(), out) {
             Ok(()) => Status::Ok,

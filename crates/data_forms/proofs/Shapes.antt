@@ -1,5 +1,5 @@
 -- What the shape of a type says of its bits.
-use Rattle.std.proofs.Common.{◌≡◌, ℕ, zero, suc, ◌+◌, ◌*◌, ◌<◌, ◌≤◌, ◌^◌, Bool, List, [], ◌∷◌, ◌++◌, length, map, get_or, take, drop, refl, sym, ap, subst, ◌∙◌, arith, length-append}
+use Rattle.std.proofs.Common.{◌≡◌, ℕ, zero, suc, ◌*◌, ◌<◌, ◌≤◌, ◌^◌, Bool, List, [], ◌∷◌, ◌++◌, length, map, get_or, take, drop, refl, sym, ap, subst, ◌∙◌, arith, length-append}
 use Rattle.std.specs.Prelude.{Some, IsTrue, ◌↔◌}
 use Rattle.std.specs.List.{AllByRecursion, slice_get}
 use Rattle.std.proofs.lemmas.List.{nil_from_length, take-append-drop}
@@ -19,10 +19,10 @@ use Rattle.data_bits.specs.Decoding.{ArePadded, FieldsWithin, IsRow}
 use Rattle.data_bits.proofs.Decoded.{bits_mean, data_fields, length_first, tag_fails, tag_narrow, tag_room}
 use Rattle.data_forms.specs.declared.forms.Form.{Form}
 use Rattle.data_forms.specs.declared.forms.Shape.{Shape}
-use Rattle.data_forms.specs.declared.forms.Shape.TheVariants.{All, Row, Choice, Decoded}
-use Rattle.data_forms.specs.Forms.{AreConsAt, AreForms, AreTypesAt, HasRowWidth, IsEncoding, IsForm, IsShape, is_all, is_row, is_choice, is_decoded, TakesAll, fields_of, type_at}
+use Rattle.data_forms.specs.declared.forms.Shape.TheVariants.{All, Row, Choice}
+use Rattle.data_forms.specs.Forms.{AreConsAt, AreForms, AreTypesAt, HasRowWidth, IsEncoding, IsShape, is_all, is_row, is_choice, is_decoded, TakesAll, fields_of, type_at}
 use Rattle.data_forms.proofs.Tables.{type_of}
-use Rattle.data_forms.proofs.Walks.{all_within, choice_judged, row_judged, same_width, within_closed}
+use Rattle.data_forms.proofs.Walks.{choice_judged, row_judged, same_width, within_closed}
 
 -- ---- a form of the table
 

@@ -1,8 +1,8 @@
 -- Bits that are judged by forms: what the loops keep, and what the bits of a whole say.
-use Rattle.std.proofs.Common.{◌≡◌, ℕ, zero, suc, ◌+◌, ◌*◌, ◌<◌, ◌≤◌, max, Bool, true, false, List, [], ◌∷◌, ◌++◌, length, map, get_or, take, drop, refl, sym, ap, subst, ◌∙◌, arith}
+use Rattle.std.proofs.Common.{◌≡◌, ℕ, zero, suc, ◌+◌, ◌*◌, ◌<◌, ◌≤◌, max, Bool, true, false, List, [], ◌∷◌, ◌++◌, length, get_or, take, drop, refl, sym, ap, subst, ◌∙◌, arith}
 use Rattle.std.specs.Prelude.{Some, IsTrue, ◌↔◌, replicate}
 use Rattle.std.specs.List.{AllByRecursion, slice_get}
-use Rattle.std.proofs.lemmas.List.{take-append-drop, length-map}
+use Rattle.std.proofs.lemmas.List.{take-append-drop}
 use Rattle.std.proofs.lemmas.Bool.{false≢true}
 use Rattle.chw_bits.specs.Bits.{number_of}
 use Rattle.chw_types.specs.declared.declarations.ConDecl.{ConDecl}
@@ -17,7 +17,6 @@ use Rattle.chw_layout.specs.Encodes.{Encodes, EncodesFields, no_field_bits, fiel
 use Rattle.chw_layout.specs.Measured.{HasWidth, Measure, MeasuredFields, no_fields_measured, field_measured, Measured, closed_value, fits, tag_width}
 use Rattle.chw_layout.proofs.Measures.{measured_once}
 use Rattle.data_bits.specs.Decoding.{ArePadded, FieldsWithin, IsRow}
-use Rattle.data_bits.specs.Encoding.{Fits}
 use Rattle.data_bits.proofs.Decoded.{FieldsRead, RowRead, bits_mean, data_decoded, data_fails, fields_begin, fields_done, fields_fail, fields_go_on, fields_not_zero, field_room, length_first, row_begins, row_ends, row_fails, row_goes_on, row_room, vector_decoded, vector_none}
 use Rattle.data_forms.specs.Forms.{IsEncoding, fields_of}
 

@@ -12,11 +12,13 @@ pub(crate) fn put_command(alloc: Global, text: &str, out: &mut Vec<u8>) -> Resul
         Ok(Command::Emit { file, budget }) => {
             Ok(put_budgeted(out, "emit", file.as_slice(), budget)?)
         }
-        Ok(Command::Simulate {
-            file,
-            stimulus,
-            budget,
-        }) => {
+        Ok(
+            Command::Simulate {
+                file,
+                stimulus,
+                budget,
+            },
+        ) => {
             put_file(out, "simulate", file.as_slice())?;
             Ok(put_budgeted(out, "", stimulus.as_slice(), budget)?)
         }

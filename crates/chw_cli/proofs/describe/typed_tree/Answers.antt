@@ -1,6 +1,6 @@
 use Rattle.std.proofs.Common.{sym, subst}
 use Rattle.std.proofs.lemmas.Result.{err_from_is_err_and}
-use Rattle.chw_cli.specs.Answer.{HasProgram}
+use Rattle.chw_cli.specs.Descriptions.{HasProgram}
 use Rattle.chw_cli.proofs.Reasons.{names_refuse, reading_refuses, types_refuse, was_read}
 use Rattle.chw_cli.proofs.describe.typed_tree.Goals as goal
 

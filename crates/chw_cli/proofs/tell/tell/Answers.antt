@@ -58,6 +58,10 @@ returns-in-Stimulus g c =
     told_by g.E.Sink.put_gives g.E.Sink.written g.E.Sink.faults c.args.refusal.now _ c.in-Stimulus.is _ (Unit {0}) _ _ _ _
     (ap (λ words. place_line words c.in-Stimulus.fault.line) c.stim_words.ensures) refl (λ _. tt) c.tell_place-in-Stimulus.ensures
 
+pub returns-in-Value : goal.returns-in-Value
+returns-in-Value g c =
+    told_by g.E.Sink.put_gives g.E.Sink.written g.E.Sink.faults c.args.refusal.now _ c.in-Value.is _ (Unit {0}) _ _ _ _ refl refl (λ _. tt) c.tell_place-in-Value.ensures
+
 pub returns-in-State : goal.returns-in-State
 returns-in-State g c =
     told_by g.E.Sink.put_gives g.E.Sink.written g.E.Sink.faults c.args.refusal.now _ c.in-State.is _ ⊥ _ _ _ _ c.as_slice.ensures refl (λ no. absurd no) c.put_bytes.ensures

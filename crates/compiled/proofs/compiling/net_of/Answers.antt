@@ -1,4 +1,4 @@
-use Rattle.std.proofs.Common.{sym, subst, ap, ◌∙◌, length}
+use Rattle.std.proofs.Common.{sym, subst}
 use Rattle.judge.specs.States.{RefusesState}
 use Rattle.compiled.specs.Compiling.{EndsIn}
 use Rattle.compiled.specs.Compiling.IsCompileFault.{not_finished}

@@ -1,4 +1,4 @@
-use Rattle.std.proofs.Common.{◌≡◌, ◌≤◌, length, sym, subst, arith, vec_len}
+use Rattle.std.proofs.Common.{◌≡◌, length, subst, arith, vec_len}
 use Rattle.compiled.specs.Compiling.{HasSteps}
 use Rattle.compiled.proofs.Ends.{ends_there, run_fails, trace_within}
 use Rattle.compiled.proofs.states.last_state.Goals as goal

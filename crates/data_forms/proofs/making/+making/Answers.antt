@@ -1,15 +1,14 @@
-use Rattle.std.proofs.Common.{◌≡◌, ◌+◌, ◌<◌, List, [], ◌∷◌, ◌++◌, length, take, Some, refl, sym, ap, subst, ◌∙◌, arith}
+use Rattle.std.proofs.Common.{◌≡◌, ◌+◌, [], ◌∷◌, ◌++◌, length, take, Some, sym, ap, subst, ◌∙◌, arith}
 use Rattle.std.specs.List.{slice_get}
 use Rattle.std.proofs.lemmas.List.{map-append, take_all, take_more}
 use Rattle.std.proofs.lemmas.Result.{on_ok_weaker}
-use Rattle.chw_types.specs.declared.declarations.ConDecl.{ConDecl}
 use Rattle.chw_types.specs.declared.declarations.Data.{Data}
 use Rattle.chw_layout.specs.Measured.{HasWidth, closed_value, tag_width}
 use Rattle.data_bits.specs.Encoding.{Fits}
 use Rattle.data_bits.proofs.Encoded.{elements_fit}
 use Rattle.chw_types.specs.Arguments.{arguments}
 use Rattle.chw_types.specs.TypeMoves.{sub}
-use Rattle.chw_types.specs.TypeTree.{data_of, vector}
+use Rattle.chw_types.specs.TypeTree.{vector}
 use Rattle.chw_types.specs.TypeView.{tree_of, trees_of}
 use Rattle.chw_types.proofs.Weights.{whole, whole_vector}
 use Rattle.data_bits.proofs.Decoded.{data_known, read_at}

@@ -1,4 +1,4 @@
-use Rattle.std.proofs.Common.{◌≡◌, ◌<◌, ◌≤◌, ◌^◌, Some, Bool, length, map, get_or, take, refl, sym, ap, subst, ◌∙◌, arith}
+use Rattle.std.proofs.Common.{◌≡◌, ◌<◌, ◌≤◌, ◌^◌, Some, length, map, get_or, take, refl, sym, subst, arith}
 use Rattle.std.specs.Prelude.{IsTrue, ◌↔◌}
 use Rattle.std.specs.List.{slice_get}
 use Rattle.std.proofs.lemmas.List.{length-map}
@@ -9,11 +9,11 @@ use Rattle.chw_types.specs.TypeTree.{ty_var}
 use Rattle.chw_layout.specs.Datum.{Datums}
 use Rattle.chw_layout.specs.Measured.{HasWidth}
 use Rattle.data_bits.specs.Decoding.{ArePadded, IsRow}
-use Rattle.data_bits.proofs.Decoded.{length_first, none_of, read_at}
+use Rattle.data_bits.proofs.Decoded.{length_first, read_at}
 use Rattle.data_forms.specs.Forms.{IsEncoding, type_at}
 use Rattle.data_forms.proofs.Shapes.{all_of, choice_below, choice_first, choice_narrow, choice_of, choice_past, choice_room, choice_whole, choice_within, form_at, row_of, row_whole, row_width, type_got}
 use Rattle.data_forms.proofs.Tables.{type_of}
-use Rattle.data_forms.proofs.Walks.{above, above_within, all_within, below_above, field_part, fields_end_zero, fields_more, fields_start, fields_stop, never, row_is_whole, row_more, row_part, row_starts, row_stops, test_fails, within_at}
+use Rattle.data_forms.proofs.Walks.{above_within, all_within, below_above, field_part, fields_end_zero, fields_more, fields_start, fields_stop, never, row_is_whole, row_more, row_part, row_starts, row_stops, test_fails, within_at}
 use Rattle.data_forms.proofs.taking.+taking.Goals as goal
 
 -- ---- takes

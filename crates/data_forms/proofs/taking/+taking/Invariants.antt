@@ -1,6 +1,5 @@
 -- What falls from call to call, and what the loops keep.
 use Rattle.std.proofs.Common.{◌+◌, ◌*◌, map}
-use Rattle.chw_types.specs.TypeTree.{ty_var}
 use Rattle.data_forms.specs.Forms.{type_at}
 use Rattle.data_forms.proofs.Walks.{FieldsTaken, RowTaken, above}
 use Rattle.data_forms.proofs.taking.+taking.Given as goal

@@ -1,0 +1,43 @@
+-- A text that compiles has no fault, and neither has a stimulus of values for its program.
+use Rattle.std.proofs.Common.{◌≡◌, ℕ, List, sym, subst}
+use Rattle.chw_clock.specs.declared.event.Event.{Event}
+use Rattle.chw_clock.specs.declared.event.Ports.{Ports}
+use Rattle.chw_cli.specs.Descriptions.{Compiles, HasProgram, IsTypedText}
+use Rattle.chw_cli.proofs.OneText.{OneDescription, one_program_for}
+use Rattle.chw_grammar.specs.declared.program.Tree.{Tree}
+use Rattle.chw_terms.specs.declared.program.Program.{Program}
+use Rattle.compiled.specs.Compiling.{CompilesTo, IsCompileFault}
+use Rattle.compiled.specs.Laws.{NothingRefusesACompile}
+use Rattle.compiled.specs.declared.fault.CompileFault.{CompileFault}
+use Rattle.data_kinds.specs.Laws.{OneProgram}
+use Rattle.netlist.specs.declared.net.Flat.{Flat}
+use Rattle.netlist.specs.declared.net.Net.{Net}
+use Rattle.sim_answer.specs.Laws.{NothingRefusesAStimulus}
+use Rattle.sim_answer.specs.Simulation.{IsSimFault, IsStimulus}
+use Rattle.sim_answer.specs.declared.fault.SimFault.{SimFault}
+
+-- a text that is typed, and of which the program is compiled, compiles
+pub text_compiles : (text : List ℕ) (budget : ℕ) (tree : Tree) (p q : Program) (net : Net) (flat : Flat) → IsTypedText text tree → HasProgram tree p → q ≡ p
+    → CompilesTo q budget net flat → Compiles text budget q
+text_compiles text budget tree p q net flat d has is to = record {
+  tree = tree;
+  typed = d;
+  has = subst (HasProgram tree) (sym is) has;
+  net = net;
+  flat = flat;
+  compiles = to;
+}
+
+-- its program isn't refused
+pub compiles_without_fault : OneDescription → OneProgram → NothingRefusesACompile → (text : List ℕ) (budget : ℕ) (p q : Program) (tree : Tree)
+    (fault : CompileFault) → Compiles text budget p → IsTypedText text tree → HasProgram tree q → IsCompileFault q budget fault → ⊥
+compiles_without_fault same alone law text budget p q tree fault can d has w =
+    let one = one_program_for same alone text tree can.tree q p d has can.typed can.has in
+    law p budget can.net can.flat fault can.compiles (subst (λ x. IsCompileFault x budget fault) one w)
+
+-- nor is a stimulus of values for its program
+pub values_without_fault : OneDescription → OneProgram → NothingRefusesAStimulus → (text stimulus : List ℕ) (budget : ℕ) (p q : Program) (ports : Ports)
+    (events : List Event) (fault : SimFault) → Compiles text budget p → Compiles text budget q → IsStimulus p stimulus ports events → IsSimFault q stimulus fault → ⊥
+values_without_fault same alone law text stimulus budget p q ports events fault can can' values w =
+    let one = one_program_for same alone text can'.tree can.tree q p can'.typed can'.has can.typed can.has in
+    law p stimulus ports events fault values (subst (λ x. IsSimFault x stimulus fault) one w)
