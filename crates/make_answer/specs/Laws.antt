@@ -24,7 +24,8 @@ MadeStimuliAreRead =
 abbrev pub MadeStimuliAreValues : Type 0
 MadeStimuliAreValues =
     (p : Program) (ports : Ports) (taps : ℕ) (dom : DomId) (s : Scalar) (width : TypeTree)
-    → taps ≤ 64 → HasX ports → (has : HasPorts p ports) → has.ins ≡ leaf_of dom (scalar s width) ∷ []
+    → taps ≤ 64 → HasX ports → (has : HasPorts p ports)
+    → has.ins ≡ leaf_of dom (scalar s width) ∷ []
     → IsStimulus p (make_stimulus taps) ports (make_events taps)
 
 -- of an output of at most 32 bits the sum is that of its numbers, and nothing is cut off
