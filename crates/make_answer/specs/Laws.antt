@@ -1,12 +1,14 @@
 -- What is promised of the stimulus and of tallies.
 use Rattle.std.specs.Prelude.{◌≡◌, ◌≤◌, ℕ, List, [], ◌∷◌}
+use Rattle.chw_base.specs.declared.index.DomId.{DomId}
 use Rattle.chw_clock.specs.declared.event.Ports.{Ports}
+use Rattle.chw_types.specs.Ports.{leaf_of}
 use Rattle.chw_types.specs.TypeTree.{TypeTree, scalar}
 use Rattle.chw_types.specs.declared.kind.Scalar.{Scalar}
 use Rattle.chw_terms.specs.declared.program.Program.{Program}
-use Rattle.chw_layout.specs.Measured.{closed_value}
+use Rattle.chw_meaning.specs.Means.{HasPorts}
 use Rattle.stimulus.specs.Stimulus.{Stim}
-use Rattle.sim_answer.specs.Simulation.{HasInputs, IsStimulus}
+use Rattle.sim_answer.specs.Simulation.{IsStimulus}
 use Rattle.make_answer.specs.Events.{HasX, make_events, make_stimulus}
 use Rattle.make_answer.specs.Sums.{odd_sum}
 use Rattle.make_answer.specs.Tally.{IsNarrow, IsSummed, IsTally}
@@ -18,11 +20,12 @@ MadeStimuliAreRead =
     (taps : ℕ) (ports : Ports) → taps ≤ 64 → HasX ports
     → Stim (make_stimulus taps) ports (make_events taps)
 
--- it is one of values, if the input's type is a scalar of 16 bits
+-- it is one of values for a program with these ports whose input is a signal of scalars
 abbrev pub MadeStimuliAreValues : Type 0
 MadeStimuliAreValues =
-    (p : Program) (ports : Ports) (taps : ℕ) (s : Scalar) (width : TypeTree)
-    → taps ≤ 64 → HasX ports → HasInputs p ports (scalar s width ∷ []) → closed_value width ≡ 16
+    (p : Program) (ports : Ports) (taps : ℕ) (dom : DomId) (s : Scalar) (width : TypeTree)
+    → taps ≤ 64 → HasX ports → (has : HasPorts p ports)
+    → has.ins ≡ leaf_of dom (scalar s width) ∷ []
     → IsStimulus p (make_stimulus taps) ports (make_events taps)
 
 -- of an output of at most 32 bits the sum is that of its numbers, and nothing is cut off

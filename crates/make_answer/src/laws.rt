@@ -8,8 +8,8 @@ use compiled::laws::{one_compiled, one_count};
 use sim_answer::laws::one_meant;
 use stimulus::laws::one_stimulus;
 
-/// The text of the stimulus is one of its events, for ports with the domains `A` and `B` and one input `x` of 16 bits; and one of values,
-/// if the input's type is a scalar of 16 bits.
+/// The text of the stimulus is one of its events, for ports with the domains `A` and `B` and one input `x` of 16 bits; and one of values
+/// for a program with such ports, if its input is a signal of scalars.
 pub fn made_stimuli()
     ensures read { MadeStimuliAreRead }
     ensures values { MadeStimuliAreValues }

@@ -14,19 +14,18 @@ use Rattle.chw_terms.specs.declared.program.Def.{Def}
 use Rattle.chw_terms.specs.declared.program.Program.{Program}
 use Rattle.chw_terms.specs.declared.program.Top.{Top}
 use Rattle.chw_types.specs.declared.declarations.Data.{Data}
-use Rattle.chw_types.specs.declared.kind.Scalar.TheVariants.{U}
 use Rattle.chw_types.specs.declared.ports.Leaf.{Leaf}
-use Rattle.chw_types.specs.Ports.{leaf_of, one_leaf}
+use Rattle.chw_types.specs.Ports.{one_leaf}
 use Rattle.chw_types.specs.Representable.{representable_scalar}
 use Rattle.chw_types.specs.SamePromises.{natural_value}
-use Rattle.chw_types.specs.TypeTree.{TypeTree, domain, fun, nat_lit, scalar, signal}
+use Rattle.chw_types.specs.TypeTree.{TypeTree, domain, fun, signal}
 use Rattle.make_text.specs.MakeTree.{make_tree}
-use Rattle.make_laws.specs.MakePorts.{make_ports, word_port}
+use Rattle.make_laws.specs.MakePorts.{TakesWords, make_ports, word_leaf, word_port, word_type}
 use Rattle.make_laws.proofs.Bare.{domains_alike, globals_alike, resets_alike, top_alike, type_of, types_alike, types_declared}
 
 -- `Unsigned 16`, and a signal of it
 abbrev words : TypeTree
-words = scalar U (nat_lit 16)
+words = word_type
 
 abbrev words_in : ℕ → TypeTree
 words_in dom = signal (domain dom) words
@@ -42,7 +41,7 @@ unfolding natural_value
 words_wide datas = measured_scalar
 
 abbrev leaf : ℕ → Leaf
-leaf dom = leaf_of (record { number = dom }) words
+leaf dom = word_leaf dom
 
 main_leads : (datas : List Data) → LeadsFrom datas main_type (leaf 0 ∷ []) (leaf 1 ∷ [])
 main_leads datas =
@@ -100,3 +99,7 @@ made_ports taps tree p same is =
       inputs = subst (λ (names : List (List ℕ)). PortsOf p.datas (leaf 0 ∷ []) names make_ports.inputs) (sym (ap (λ (t : Top). t.inputs) top)) (port_alone p.datas (codes "x") 0);
       outputs = subst (λ (names : List (List ℕ)). PortsOf p.datas (leaf 1 ∷ []) names make_ports.outputs) (sym (ap (λ (t : Top). t.outputs) top)) (port_alone p.datas (codes "o") 1);
     }
+
+pub takes_words : (taps : ℕ) (tree : Tree) (p : Program) → Same tree (make_tree taps) → IsProgramOf tree p → TakesWords p
+unfolding made_ports
+takes_words taps tree p same is = record { has = made_ports taps tree p same is; input = refl }

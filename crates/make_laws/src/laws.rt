@@ -14,7 +14,7 @@ ghost use Rattle.chw_resolve.specs.Programs.{IsProgramOf};
 ghost use Rattle.chw_meaning.specs.Means.{HasPorts};
 ghost use Rattle.make_text.specs.MakeText.{make_text};
 ghost use Rattle.make_text.specs.MakeTree.{make_tree};
-ghost use Rattle.make_laws.specs.MakePorts.{make_ports};
+ghost use Rattle.make_laws.specs.MakePorts.{TakesWords, make_ports};
 
 use chw_grammar::laws::{canonical_text_reads_back, canonical_text_splits, places_do_not_show};
 use chw_lexer::laws::one_splitting;
@@ -48,4 +48,9 @@ pub fn made_texts_have_the_tree()
 /// The program of such a tree has an input `x` in domain `A` and an output `o` in domain `B`, of 16 bits each, and no resets.
 pub fn made_programs_have_ports()
     ensures { (taps : ℕ) (tree : Tree) (p : Program) → Same tree (make_tree taps) → IsProgramOf tree p → HasPorts p make_ports }
+{}
+
+/// The input is a signal of words of 16 bits.
+pub fn made_programs_take_words()
+    ensures { (taps : ℕ) (tree : Tree) (p : Program) → Same tree (make_tree taps) → IsProgramOf tree p → TakesWords p }
 {}
