@@ -21,6 +21,6 @@ pub enum Shape {
     Row { count: u32, of: usize },
     /// The number of a constructor in so many bits, encodings of the forms of its fields, and zeros up to the width.
     Choice { tag: u32, cons: Seq<Seq<usize>> },
-    /// Those of which a value can be decoded.
+    /// Those from which a value can be decoded.
     Decoded,
 }

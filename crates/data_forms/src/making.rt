@@ -20,8 +20,8 @@ use chw_layout::{tag_width, width};
 use chw_types::{Data, Ty, TyNode, put_arguments};
 use std::alloc::Global;
 
-/// A table with so many forms gets no further forms of data types but those of which a value is decoded.
-const FORMS: usize = 65_536;
+/// Where a table has so many forms, the bits of further data types, and of vectors of them, are decoded.
+const FORMS: usize = 4_096;
 
 /// The width of a type that has one.
 fn width_of(alloc: Global, t: &Ty, datas: &[Data]) -> Result<usize, NoMemory>
