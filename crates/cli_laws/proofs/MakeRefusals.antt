@@ -1,19 +1,17 @@
 -- What `make` is refused for.
-use Rattle.std.proofs.Common.{◌≡◌, ℕ, ◌<◌, ◌≤◌, ◌^◌, List, [], Result, Ok, Err, ◌⊎◌, inl, inr, refl, subst, arith}
+use Rattle.std.proofs.Common.{◌≡◌, ℕ, ◌<◌, ◌≤◌, ◌^◌, List, [], Result, Err, inl, inr, refl, subst, arith}
 use Rattle.chw_base.specs.declared.limits.TheConstants.{NESTING}
 use Rattle.chw_cli.specs.Answer.{Answer, CommandAnswer, LacksText}
 use Rattle.chw_cli.specs.Answer.Answer.{no_command, no_text, texts}
 use Rattle.chw_cli.specs.Descriptions.{HasProgram, IsDescription, IsTypedText, IsWrongText}
 use Rattle.chw_cli.specs.Descriptions.IsWrongText.{no_description, wrong_names, wrong_types}
 use Rattle.chw_cli.specs.Faults.{refusal_of_compile, refusal_of_run}
-use Rattle.chw_cli.specs.Lines.{status_of}
 use Rattle.chw_cli.specs.Making.{MakeAnswer, TallyAnswer}
 use Rattle.chw_cli.specs.Making.MadeAnswer.{wrong_text, typed}
 use Rattle.chw_cli.specs.Making.TallyAnswer.{not_compiled, no_stimulus, tallied}
 use Rattle.chw_cli.specs.Reads.{Read, wants}
 use Rattle.chw_cli.specs.declared.refusal.Refusal.{Refusal}
 use Rattle.chw_cli.specs.declared.refusal.Refusal.TheVariants.{DeepBody, FullTable, Loop, Names, Spent, State, TooLarge, Types}
-use Rattle.chw_cli.specs.declared.status.Status.TheVariants as status
 use Rattle.chw_cli.proofs.Descriptions.{NoLexFault, OneSplitting, OneTree, has_no_fault}
 use Rattle.chw_grammar.specs.Grammar.{Reads}
 use Rattle.chw_grammar.specs.Height.{tree_height}
