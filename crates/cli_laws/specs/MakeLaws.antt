@@ -1,0 +1,44 @@
+-- What is promised of the refusals of `make`.
+use Rattle.std.specs.Prelude.{◌≡◌, ◌≤◌, ℕ, List, Err, ◌⊎◌}
+use Rattle.chw_cli.specs.Answer.{Answer}
+use Rattle.chw_cli.specs.Lines.{status_of}
+use Rattle.chw_cli.specs.Making.{MakeAnswer}
+use Rattle.chw_cli.specs.Reads.{Read}
+use Rattle.chw_cli.specs.declared.refusal.Refusal.{Refusal}
+use Rattle.chw_cli.specs.declared.refusal.Refusal.TheVariants.{DeepBody, FullTable, Loop, Names}
+use Rattle.chw_cli.specs.declared.refusal.Refusal.TheVariants.{Spent, State, TooLarge, Types}
+use Rattle.chw_cli.specs.declared.status.Status.TheVariants as status
+use Rattle.chw_words.specs.Commands.{IsCommand}
+use Rattle.chw_words.specs.declared.command.Command.TheVariants.{Make}
+use Rattle.chw_words.specs.declared.taps.TheConstants.{MOST_TAPS}
+
+-- the refusal is for the names of a description, its types, its run, the state or the net: not for
+-- words, a file, the form of a text or a stimulus
+abbrev pub IsOfProgram : Refusal → Type 0
+IsOfProgram (Names fault) = Unit {0}
+IsOfProgram (Types fault) = Unit {0}
+IsOfProgram DeepBody = Unit {0}
+IsOfProgram FullTable = Unit {0}
+IsOfProgram (Spent steps) = Unit {0}
+IsOfProgram (State line) = Unit {0}
+IsOfProgram TooLarge = Unit {0}
+IsOfProgram (Loop cycle) = Unit {0}
+IsOfProgram _ = ⊥
+
+-- of so many taps as `make` has, an answer that is a refusal is one for the program
+abbrev pub MakeIsRefusedForItsProgram : Type 0
+MakeIsRefusedForItsProgram =
+    (taps : ℕ) (reads : List Read) (r : Refusal)
+    → taps ≤ MOST_TAPS → MakeAnswer taps reads (Err r) → IsOfProgram r
+
+-- so is the answer to words that are `make N`
+abbrev pub WordsAreRefusedForTheProgram : Type 0
+WordsAreRefusedForTheProgram =
+    (words : List (List ℕ)) (taps : ℕ) (reads : List Read) (r : Refusal)
+    → IsCommand words (Make taps) → Answer words reads (Err r) → IsOfProgram r
+
+-- such a refusal has one of two statuses
+abbrev pub HaveOneOfTwoStatuses : Type 0
+HaveOneOfTwoStatuses =
+    (r : Refusal) → IsOfProgram r
+    → (status_of r ≡ status.Refused) ⊎ (status_of r ≡ status.Spent)

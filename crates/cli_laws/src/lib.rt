@@ -1,0 +1,4 @@
+//! What `make` is refused for.
+#![tactic(auto)]
+
+pub mod laws;
