@@ -4,7 +4,7 @@ use Rattle.typing_laws.specs.Paths.{IsEarlier}
 use Rattle.step_order.specs.Sought.{IsSoughtPath}
 use Rattle.chw_norm.specs.Begins.{IsPassed, BeginsAt}
 
-none_before_root : (q : List ℕ) → IsEarlier q [] → ⊥
+pub none_before_root : (q : List ℕ) → IsEarlier q [] → ⊥
 none_before_root [] h = h
 none_before_root (i ∷ q) h = h
 

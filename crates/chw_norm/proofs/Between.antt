@@ -27,22 +27,9 @@ use Rattle.chw_norm.specs.declared.place.Found.{Found}
 use Rattle.norm_lines.specs.declared.place.StepAt.{StepAt}
 use Rattle.chw_norm.specs.Bounds.{AreBounds}
 use Rattle.chw_norm.specs.Running.{AreShallow}
-use Rattle.chw_norm.specs.Underway.{AreSought, HasSpine, IsBetweenSteps, step_of}
+use Rattle.chw_norm.specs.Underway.{HasSpine, IsBetweenSteps, step_of}
 use Rattle.chw_norm.specs.declared.progress.Progress.{Progress}
 use Rattle.chw_norm.proofs.Places.{SpineLaws, place_is_spine}
-use Rattle.chw_norm.proofs.Steps.{first_of_all}
-
--- from the root of the first made definition on everything is sought
-all_from_root : (w : Where) → IsSought 0 [] w
-all_from_root w = by w.number refl
-  where
-    never : (path : List ℕ) → IsEarlier path [] → ⊥
-    never [] h = h
-    never (i ∷ path) h = h
-
-    by : (n : ℕ) → w.number ≡ n → IsSought 0 [] w
-    by zero is = inr (sym is, inl (never w.path))
-    by (suc n) is = inl (omega (arith, is))
 
 only_one : (p : Program) (made : List Made) → IsOpening p made → length made ≡ 1
 only_one p made h = ap length h.2
@@ -50,43 +37,31 @@ only_one p made h = ap length h.2
 -- before the first step
 pub between_first : OpeningIsTyped → (r : Progress) → IsTidy r.program.now → IsTyped r.program.now
     → IsSignature r.program.now r.signature → IsOpening r.program.now r.made
-    → AreBounds r.made r.bounds.items → r.from.made.number ≡ 0 → r.from.path.items ≡ []
-    → IsBetweenSteps r
-between_first law r tidy typed table opens bounds start root =
+    → AreBounds r.made r.bounds.items → IsBetweenSteps r
+between_first law r tidy typed table opens bounds =
     let one = only_one r.program.now r.made opens in record {
       table = table;
       typed = law r.program.now r.made tidy typed opens;
-      sought = λ v new step. subst (λ n. IsSought n r.from.path.items v) (sym start)
-          (subst (λ path. IsSought 0 path v) (sym root) (all_from_root v));
       bounds = bounds;
       few = omega (arith, one);
       shallow = inl one;
     }
 
 -- behind a step to shallow bodies
-pub between_next : AnyStepKeepsState → AnyStepIsSought → (f : Found) (r r' : Progress)
+pub between_next : AnyStepKeepsState → (f : Found) (r r' : Progress)
     → IsBetweenSteps r → StepsTo built r.program.now r.made (step_of f) r'.made
     → r'.program.now ≡ r.program.now → r'.signature ≡ r.signature
     → AreBounds r'.made r'.bounds.items → length r'.made ≤ MADE_DEFINITIONS → AreShallow r'.made
-    → r'.from.made.number ≡ f.at.made.number → r'.from.path.items ≡ f.at.path.items
     → IsBetweenSteps r'
-between_next keep behind f r r' h step program table bounds few shallow number path = record {
+between_next keep f r r' h step program table bounds few shallow = record {
   table = subst (λ p. IsSignature p r'.signature) (sym program)
       (subst (IsSignature r.program.now) (sym table) h.table);
   typed = subst (λ p. IsTypedState p r'.made) (sym program)
       (keep built r.program.now r.made r'.made (step_of f) h.typed step);
-  sought = subst (λ p. AreSought p r'.made r'.from) (sym program) sought;
   bounds = bounds;
   few = few;
   shallow = inr shallow;
 }
-  where
-    sought : AreSought r.program.now r'.made r'.from
-    sought v new s =
-        let from_there : IsSought f.at.made.number f.at.path.items v = behind built r.program.now
-        r.made r'.made (step_of f) v h.typed step (new, s) in
-        subst (λ n. IsSought n r'.from.path.items v) (sym number)
-        (subst (λ q. IsSought f.at.made.number q v) (sym path) from_there)
 
 -- the scene of the made definitions
 pub scene_is_typed : (scene : Scene) (r : Progress) → scene.program.now ≡ r.program.now
@@ -96,19 +71,6 @@ scene_is_typed scene r program made h =
     (λ p. IsTypedState p scene.made.now) (sym program)
     (subst (IsTypedState r.program.now) (sym made) h.typed) in
     record { tidy = state.tidy; typed = state.typed; made = state.each }
-
--- what is first from the place on is first of all
-pub finds_next :
-    {E : Type 0} (r : Progress) (scene_made : List Made) (answer : Result (Option Found) E)
-    → scene_made ≡ r.made → IsBetweenSteps r
-    → IfOk answer (FindsFrom built r.program.now scene_made r.from.made.number r.from.path.items)
-    → IfOk answer (FindsNext built r.program.now r.made)
-finds_next r scene_made answer made h found =
-    IfOk-weaker answer (FindsFrom built r.program.now r.made r.from.made.number
-    r.from.path.items) (FindsNext built r.program.now r.made)
-    (λ f. first_of_all r.program.now r.made r.from f h.sought)
-    (subst (λ ms. IfOk answer (FindsFrom built r.program.now ms r.from.made.number
-    r.from.path.items)) made found)
 
 -- where a step is made a whole spine stands
 pub spine_there : SpineLaws → (p : Program) (made : List Made) (at : StepAt) (new : TermTree)

@@ -8,19 +8,13 @@ use Rattle.chw_terms.specs.TermTree.{TermTree}
 use Rattle.rewriting.specs.Origins.{Origins}
 use Rattle.rewriting.specs.Spots.{Spot}
 use Rattle.chw_norm.specs.First.{Additions, Places, AtPath, From, HasNoStepAt, FindsFirst}
+use Rattle.chw_norm.specs.Passed.{OfFirst, Paths}
 use Rattle.chw_norm.specs.declared.trail.Trail.{Trail}
 use Rattle.active_parts.proofs.Ways.{AreInOrder}
 use Rattle.chw_norm.proofs.Firsts.{Either, Among, AllInOrder, from_among, step_among}
 use Rattle.chw_norm.proofs.Firsts.{finds_same, no_places, found_in_first, found_in_second}
 
--- the path to each number
-abbrev pub Paths : Type 0
-Paths = ℕ → List ℕ
-
--- those of the numbers before this one, and behind it
-abbrev pub OfFirst : Places → Paths → ℕ → Places
-OfFirst s w n p at e = (i : ℕ) × (i < n) × (p ≡ w i) × s p at e
-
+-- those of the numbers behind this one
 abbrev OfLater : Places → Paths → ℕ → ℕ → Places
 OfLater s w n m p at e = (i : ℕ) × (n < i) × (i < m) × (p ≡ w i) × s p at e
 

@@ -21,11 +21,11 @@ use Rattle.chw_norm.specs.declared.trail.Trail.{Trail}
 use Rattle.chw_norm.proofs.Begins.{root_sought}
 use Rattle.chw_norm.proofs.Firsts.{Only, Among, from_among, finds_same}
 
-rest_is : (p q r : List ℕ) → p ++ q ≡ p ++ r → q ≡ r
+pub rest_is : (p q r : List ℕ) → p ++ q ≡ p ++ r → q ≡ r
 rest_is [] q r h = h
 rest_is (i ∷ p) q r h = rest_is p q r cc
 
-rest_earlier : (p q r : List ℕ) → IsEarlier (p ++ q) (p ++ r) → IsEarlier q r
+pub rest_earlier : (p q r : List ℕ) → IsEarlier (p ++ q) (p ++ r) → IsEarlier q r
 rest_earlier [] q r h = h
 rest_earlier (i ∷ p) q r (inl l) = absurd (omega (arith, l))
 rest_earlier (i ∷ p) q r (inr h) = rest_earlier p q r h.1
@@ -35,12 +35,12 @@ rest_before p q r a b (inl h) = inl (rest_earlier p q r h)
 rest_before p q r a b (inr h) = inr (rest_is p q r h.0, h.1)
 
 -- a step from one place on is one at or below it
-record StepBelow (rules : List Rule) (o : Origins) (path : List ℕ) (at : Spot) (e : TermTree) (left q : List ℕ) (r : Rule) (new : TermTree) : Type 0 where
-  rest : List ℕ
-  is : q ≡ path ++ rest
-  step : IsStepAt rules o (IsActive o at e) left rest r new
+pub record StepBelow (rules : List Rule) (o : Origins) (path : List ℕ) (at : Spot) (e : TermTree) (left q : List ℕ) (r : Rule) (new : TermTree) : Type 0 where
+  pub rest : List ℕ
+  pub is : q ≡ path ++ rest
+  pub step : IsStepAt rules o (IsActive o at e) left rest r new
 
-step_below : (rules : List Rule) (o : Origins) (path : List ℕ) (at : Spot) (e : TermTree) (from left q : List ℕ) (r : Rule) (new : TermTree) → BeginsAt path from left → IsStepAt rules o (From o (Only path at e)) from q r new → StepBelow rules o path at e left q r new
+pub step_below : (rules : List Rule) (o : Origins) (path : List ℕ) (at : Spot) (e : TermTree) (from left q : List ℕ) (r : Rule) (new : TermTree) → BeginsAt path from left → IsStepAt rules o (From o (Only path at e)) from q r new → StepBelow rules o path at e left q r new
 step_below rules o path at e from left q r new b x =
     let here = x.place.place in
     let is : q ≡ path ++ x.place.rest = x.place.is ∙ ap (λ p. p ++ x.place.rest) here.0 in
@@ -91,7 +91,7 @@ found_from rules o adds path at e from left (Some f) (Some g) b first is =
     (subst (λ d. IsFirstAt rules o adds (From o (Only path at e)) from (path ++ back) f.rule f.new d) (sym is.3) whole)))
 
 -- the place below a term at a path is the one that was found there
-only_there : (o : Origins) (at at' : Spot) (e x : TermTree) (path : List ℕ)
+pub only_there : (o : Origins) (at at' : Spot) (e x : TermTree) (path : List ℕ)
     → Below o at e path at' x → Among (AtPath (Below o at e) path) (Only path at' x)
 only_there o at at' e x path b p at'' y h =
     let there = subst (λ q. Below o at e q at'' y) h.0 h.1 in
@@ -157,14 +157,14 @@ found_here rules p made at e from back t is empty =
         is.first r e' x.is_rule h.1 (subst (λ s. HasInstance o s r e e') (sym same.0) (subst (λ z. HasInstance o x.at r z e') (sym same.1) x.made))
 
 -- where no rule has an instance at the place itself, the first step is that of the places below
-not_here : (rules : List Rule) (o : Origins) (at : Spot) (e : TermTree) (from q : List ℕ) (r : Rule) (new : TermTree) → HasNoInstance rules o at e → IsStepAt rules o (IsActive o at e) from q r new → IsStepAt rules o (From o (Below o at e)) from q r new
+pub not_here : (rules : List Rule) (o : Origins) (at : Spot) (e : TermTree) (from q : List ℕ) (r : Rule) (new : TermTree) → HasNoInstance rules o at e → IsStepAt rules o (IsActive o at e) from q r new → IsStepAt rules o (From o (Below o at e)) from q r new
 not_here rules o at e from q r new none x = of (active_parts o at e q x.at x.term x.place)
   where
     of : Only [] at e q x.at x.term ⊎ From o (Below o at e) q x.at x.term → IsStepAt rules o (From o (Below o at e)) from q r new
     of (inl h) = absurd (none r new x.is_rule (subst (λ s. HasInstance o s r e new) h.1 (subst (λ z. HasInstance o x.at r z new) h.2 x.made)))
     of (inr h) = record { at = x.at; term = x.term; place = h; sought = x.sought; is_rule = x.is_rule; made = x.made }
 
-from_is_active : (o : Origins) (at : Spot) (e : TermTree) (p : List ℕ) (at' : Spot) (x : TermTree) → From o (Below o at e) p at' x → IsActive o at e p at' x
+pub from_is_active : (o : Origins) (at : Spot) (e : TermTree) (p : List ℕ) (at' : Spot) (x : TermTree) → From o (Below o at e) p at' x → IsActive o at e p at' x
 from_is_active o at e p at' x r = subst (λ q. IsActive o at e q at' x) (sym r.is) (below r.place r.active)
 
 there : (rules : List Rule) (o : Origins) (at : Spot) (e : TermTree) (from q : List ℕ) (r : Rule) (new : TermTree) → IsStepAt rules o (From o (Below o at e)) from q r new → IsStepAt rules o (IsActive o at e) from q r new

@@ -4,12 +4,11 @@ use Rattle.std.proofs.Common.{◌++◌, length, set, max, Some, arith}
 use Rattle.std.proofs.lemmas.Bool.{cases_lt}
 use Rattle.std.specs.List.{slice_get}
 use Rattle.chw_base.specs.declared.limits.TheConstants.{MADE_DEFINITIONS, MADE_DEPTH}
-use Rattle.made_states.specs.Laws.{AnyStepIsSought, AnyStepKeepsState}
+use Rattle.made_states.specs.Laws.{AnyStepKeepsState}
 use Rattle.rewriting.specs.Runs.{StepsTo}
 use Rattle.rule_trials.specs.Trials.{built, with_new}
 use Rattle.chw_norm.specs.declared.place.Found.{Found}
 use Rattle.norm_lines.specs.declared.place.StepAt.{StepAt}
-use Rattle.chw_norm.specs.declared.place.StepPlace.{StepPlace}
 use Rattle.chw_norm.specs.Bounds.{AreBounds, IsBound}
 use Rattle.chw_norm.specs.FoundSteps.{IsNext}
 use Rattle.chw_norm.specs.Running.{AreShallow, HasDeep}
@@ -20,10 +19,6 @@ use Rattle.chw_norm.proofs.Changed.{new_is_deep}
 use Rattle.chw_norm.proofs.Between.{between_next}
 use Rattle.chw_norm.proofs.Grown.{grown_bounds, grown_few}
 use Rattle.chw_norm.proofs.Steps.{step_made}
-
--- the state of which the search goes on from another place
-abbrev pub from_place : Progress → StepPlace → Progress
-from_place r from = record r { from = from }
 
 -- the step of this state adds what it adds, and then the term is put, with this bound of the body
 pub record IsMade (f : Found) (r g q : Progress) (bound : ℕ) : Type 0 where
@@ -48,9 +43,9 @@ leads f r g q bound m =
 
 -- the step is made, and traced
 pub put_is_step :
-    (f : Found) (old new : List StepAt) (r g q : Progress) (from : StepPlace) (bound : ℕ)
-    → IsMade f r g q bound → new ≡ old ++ f.at ∷ [] → Advances f old new r (from_place q from)
-put_is_step f old new r g q from bound m traced = record {
+    (f : Found) (old new : List StepAt) (r g q : Progress) (bound : ℕ)
+    → IsMade f r g q bound → new ≡ old ++ f.at ∷ [] → Advances f old new r q
+put_is_step f old new r g q bound m traced = record {
   program = m.put.program ∙ m.grown.program;
   leads = leads f r g q bound m;
   traced = traced;
@@ -95,14 +90,12 @@ put_is_deep f r g q bound m over = by (cases_lt MADE_DEPTH bound)
         (new_is_deep r.made f.at.made.number f.definition step.it
         (record m.put.it { body = m.put.body }) step.is (omega (arith, over, l)))
 
-pub put_between : AnyStepKeepsState → AnyStepIsSought
-    → (f : Found) (r g q : Progress) (from : StepPlace) (bound : ℕ) → IsMade f r g q bound
-    → AreShallow q.made → from.made.number ≡ f.at.made.number
-    → from.path.items ≡ f.at.path.items → IsBetweenSteps (from_place q from)
-put_between keep behind f r g q from bound m shallow number path =
-    between_next keep behind f r (from_place q from) m.between (leads f r g q bound m)
+pub put_between : AnyStepKeepsState → (f : Found) (r g q : Progress) (bound : ℕ)
+    → IsMade f r g q bound → AreShallow q.made → IsBetweenSteps q
+put_between keep f r g q bound m shallow =
+    between_next keep f r q m.between (leads f r g q bound m)
     (m.put.program ∙ m.grown.program) (m.put.signature ∙ m.grown.signature) bounds
-    (put_is_few f r g q bound m) shallow number path
+    (put_is_few f r g q bound m) shallow
   where
     bounds : AreBounds q.made q.bounds.items
     bounds =

@@ -31,7 +31,7 @@ use Rattle.chw_norm.proofs.Begins.{all_sought}
 place_is : {o : Origins} {it : Made} {path : List ℕ} {at : Spot} {x : TermTree} → IsPlaceOf o (made_of it) it.body path at x → under_lambdas o (mode_of it.sort) [] it.body it.ty path at x
 place_is r = (r.root, r.vars, r.term, r.rest, r.under, r.active, r.is)
 
-is_place : {o : Origins} {it : Made} {path : List ℕ} {at : Spot} {x : TermTree} → under_lambdas o (mode_of it.sort) [] it.body it.ty path at x → IsPlaceOf o (made_of it) it.body path at x
+pub is_place : {o : Origins} {it : Made} {path : List ℕ} {at : Spot} {x : TermTree} → under_lambdas o (mode_of it.sort) [] it.body it.ty path at x → IsPlaceOf o (made_of it) it.body path at x
 is_place h = record { root = h.0; vars = h.1; term = h.2; rest = h.3; under = h.4; active = h.5; is = h.6 }
 
 sought_in : (n m : ℕ) (from left : List ℕ) (w : Where) → BeginsIn n m from left → w.number ≡ n → IsSought m from w → IsSoughtPath w.path left
@@ -47,7 +47,7 @@ one_made : (made : List Made) (n k : ℕ) (a b : Made) → k ≡ n → slice_get
 one_made made n k a b is x y = cc
 
 -- a step in the made definition is one at its places
-step_in : (rules : List Rule) (p : Program) (made : List Made) (it : Made) (n m : ℕ) (from left : List ℕ) (w : Where) (new : TermTree) → slice_get made n ≡ Some it → BeginsIn n m from left → w.number ≡ n → HasStepBy rules p made w new → IsSought m from w → IsStepAt rules (origins_in p made) (under_lambdas (origins_in p made) (mode_of it.sort) [] it.body it.ty) left w.path w.rule new
+pub step_in : (rules : List Rule) (p : Program) (made : List Made) (it : Made) (n m : ℕ) (from left : List ℕ) (w : Where) (new : TermTree) → slice_get made n ≡ Some it → BeginsIn n m from left → w.number ≡ n → HasStepBy rules p made w new → IsSought m from w → IsStepAt rules (origins_in p made) (under_lambdas (origins_in p made) (mode_of it.sort) [] it.body it.ty) left w.path w.rule new
 step_in rules p made it n m from left w new at b is s sought =
     let same : s.1.it ≡ it = one_made made n w.number it s.1.it is at s.1.is in
     record {
@@ -131,7 +131,7 @@ found_from_place rules p made n m from f none is =
         by (inr l) (inr h) = is.first v other (h.0 ∙ is.in_it) s sought b
 
 -- from the root of the first made definition on everything is sought
-sought_anyway : (w : Where) → IsSought 0 [] w
+pub sought_anyway : (w : Where) → IsSought 0 [] w
 sought_anyway w = by (cases_lt 0 w.number)
   where
     by : (0 < w.number) ⊎ (w.number ≤ 0) → IsSought 0 [] w

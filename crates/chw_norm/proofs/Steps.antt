@@ -13,28 +13,14 @@ use Rattle.typing_laws.specs.Paths.{with_part}
 use Rattle.rewriting.specs.Runs.{Step, StepsTo}
 use Rattle.rewriting.specs.Steps.{Where}
 use Rattle.rule_trials.specs.Trials.{built, with_new}
-use Rattle.chw_norm.specs.FoundSteps.{FindsFrom, FindsNext, IsNext}
+use Rattle.chw_norm.specs.FoundSteps.{IsNext}
 use Rattle.norm_lines.specs.Places.{where_of}
 use Rattle.chw_norm.specs.declared.place.Found.{Found}
 use Rattle.norm_lines.specs.declared.place.StepAt.{StepAt}
-use Rattle.chw_norm.specs.declared.place.StepPlace.{StepPlace}
 use Rattle.chw_norm.specs.Running.{FillsTable, IsWithinLimits, ShallowSteps, no_step, step_and}
 use Rattle.chw_norm.specs.Running.{Traces}
-use Rattle.chw_norm.specs.Underway.{AreSought, step_of}
+use Rattle.chw_norm.specs.Underway.{step_of}
 use Rattle.chw_norm.proofs.Changed.{length_kept, still_there}
-
--- what is first from a place on is first of all, where all steps are sought from there
-pub first_of_all : (p : Program) (made : List Made) (from : StepPlace) (answer : Option Found)
-    → AreSought p made from → FindsFrom built p made from.made.number from.path.items answer
-    → FindsNext built p made answer
-first_of_all p made from None sought h = λ w new step. h w new step (sought w new step)
-first_of_all p made from (Some f) sought h = record {
-  is_first = record {
-    step = h.step;
-    first = λ v other step. h.first v other step (sought v other step);
-  };
-  added = h.added;
-}
 
 -- the step is made where its term is put at its place, and what it adds stands behind the made
 -- definitions

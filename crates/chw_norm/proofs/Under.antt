@@ -29,12 +29,12 @@ abbrev pub Behind : List ℕ → Places → Places
 Behind path s p at e = (q : List ℕ) × s q at e × (p ≡ path ++ q)
 
 -- a step behind a path is one of the places themselves
-record StepWithin (rules : List Rule) (o : Origins) (path : List ℕ) (s : Places) (left p : List ℕ) (r : Rule) (new : TermTree) : Type 0 where
-  rest : List ℕ
-  is : p ≡ path ++ rest
-  step : IsStepAt rules o s left rest r new
+pub record StepWithin (rules : List Rule) (o : Origins) (path : List ℕ) (s : Places) (left p : List ℕ) (r : Rule) (new : TermTree) : Type 0 where
+  pub rest : List ℕ
+  pub is : p ≡ path ++ rest
+  pub step : IsStepAt rules o s left rest r new
 
-step_within : (rules : List Rule) (o : Origins) (path : List ℕ) (s : Places) (from left p : List ℕ) (r : Rule) (new : TermTree) → BeginsAt path from left → IsStepAt rules o (Behind path s) from p r new → StepWithin rules o path s left p r new
+pub step_within : (rules : List Rule) (o : Origins) (path : List ℕ) (s : Places) (from left p : List ℕ) (r : Rule) (new : TermTree) → BeginsAt path from left → IsStepAt rules o (Behind path s) from p r new → StepWithin rules o path s left p r new
 step_within rules o path s from left p r new b x =
     record {
       rest = x.place.0;

@@ -1,9 +1,14 @@
 pub mod Begins
 pub mod Bounds
+pub mod Examples
+pub mod Finding
 pub mod First
 pub mod FoundSteps
 pub mod Lambdas
 pub mod Laws
+pub mod Passed
 pub mod Rules
 pub mod Running
+pub mod Seen
+pub mod SeenPaths
 pub mod Underway

@@ -14,14 +14,11 @@ use Rattle.typing_laws.specs.Paths.{with_part}
 use Rattle.typing_laws.specs.PartSpines.{spine_at}
 use Rattle.term_types.specs.Signatures.{IsSignature}
 use Rattle.rewriting.specs.Runs.{Step, StepsTo}
-use Rattle.rewriting.specs.Steps.{HasStepBy, Where}
 use Rattle.rule_types.specs.States.{IsTypedState}
 use Rattle.rule_trials.specs.Trials.{built, with_new}
-use Rattle.step_order.specs.Sought.{IsSought}
 use Rattle.norm_lines.specs.Places.{where_of}
 use Rattle.chw_norm.specs.declared.place.Found.{Found}
 use Rattle.norm_lines.specs.declared.place.StepAt.{StepAt}
-use Rattle.chw_norm.specs.declared.place.StepPlace.{StepPlace}
 use Rattle.chw_norm.specs.Bounds.{AreBounds, IsBound}
 use Rattle.chw_norm.specs.Running.{AreShallow, FillsTable, HasDeep, IsWithinLimits, ShallowRun}
 use Rattle.chw_norm.specs.Running.{Traces}
@@ -29,17 +26,10 @@ use Rattle.chw_norm.specs.declared.progress.Progress.{Progress}
 use Rattle.chw_norm.specs.declared.running.RunFault.{RunFault}
 use Rattle.chw_norm.specs.declared.running.RunFault.TheVariants.{Depth, Full, Spent}
 
--- every step of the state is sought from this place on
-abbrev pub AreSought : Program → List Made → StepPlace → Type 0
-AreSought p made from =
-    (v : Where) (new : TermTree)
-    → HasStepBy built p made v new → IsSought from.made.number from.path.items v
-
 -- a typed state, in which one body alone can be over the limit: that of the opening
 pub record IsBetweenSteps (r : Progress) : Type 0 where
   pub table : IsSignature r.program.now r.signature
   pub typed : IsTypedState r.program.now r.made
-  pub sought : AreSought r.program.now r.made r.from
   pub bounds : AreBounds r.made r.bounds.items
   pub few : length r.made ≤ MADE_DEFINITIONS
   pub shallow : (length r.made ≡ 1) ⊎ AreShallow r.made

@@ -8,6 +8,7 @@ ghost use Rattle.chw_norm.specs.Lambdas.{under_lambdas};
 ghost use Rattle.chw_norm.specs.First.{adds_to, FindsFirst};
 ghost use Rattle.active_parts.specs.Grounds.{IsGround};
 ghost use Rattle.chw_norm.specs.FoundSteps.{LeadsToTyped};
+ghost use Rattle.chw_norm.specs.SeenPaths.{LooksAtPaths};
 
 use crate::paths::begin_at_child;
 use crate::search::first_from;
@@ -35,7 +36,8 @@ fn under_lambdas<L: Looks>(
     requires same { ground.now.scene.now.made.now ≡ table.now }
     requires result { place.old.result ≡ true }
     requires typed { LeadsToTyped (setting_in ground.now.scene.now) place.old.mode (reverse place.old.vars) at.now ty.now }
-    ensures { IfOk result (FindsFirst built (origins_of ground.now.scene.now) (adds_to ground.now.scene.now) (under_lambdas (origins_of ground.now.scene.now) place.old.mode (reverse place.old.vars) at.now ty.now) from.now) }
+    ensures first { IfOk result (FindsFirst built (origins_of ground.now.scene.now) (adds_to ground.now.scene.now) (under_lambdas (origins_of ground.now.scene.now) place.old.mode (reverse place.old.vars) at.now ty.now) from.now) }
+    ensures looks { LooksAtPaths built (origins_of ground.now.scene.now) (under_lambdas (origins_of ground.now.scene.now) place.old.mode (reverse place.old.vars) at.now ty.now) from.now (L.looks looks.old) (L.looks looks.new) }
 {
     let TyNode::Fun(_, to) = &ty.node else {
         return first_from(alloc, table, ground, at, place, from, looks);
@@ -63,7 +65,8 @@ pub(crate) fn in_made<L: Looks>(
     requires ground { IsGround ground.now }
     requires same { ground.now.scene.now.made.now ≡ table.now }
     requires typed { LeadsToTyped (setting_in ground.now.scene.now) (mode_of it.now.sort) [] it.now.body it.now.ty }
-    ensures { IfOk result (FindsFirst built (origins_of ground.now.scene.now) (adds_to ground.now.scene.now) (under_lambdas (origins_of ground.now.scene.now) (mode_of it.now.sort) [] it.now.body it.now.ty) from.now) }
+    ensures first { IfOk result (FindsFirst built (origins_of ground.now.scene.now) (adds_to ground.now.scene.now) (under_lambdas (origins_of ground.now.scene.now) (mode_of it.now.sort) [] it.now.body it.now.ty) from.now) }
+    ensures looks { LooksAtPaths built (origins_of ground.now.scene.now) (under_lambdas (origins_of ground.now.scene.now) (mode_of it.now.sort) [] it.now.body it.now.ty) from.now (L.looks looks.old) (L.looks looks.new) }
 {
     let mut place = Place {
         mode: mode_of(it.sort),

@@ -1,14 +1,6 @@
 //! Where steps are made.
-use chw_base::MadeId;
 use chw_terms::{Made, Term};
 use norm_lines::StepAt;
-
-/// A place of a state: a made definition, and a path in its body.
-#[derive(Drop)]
-pub struct StepPlace {
-    pub made: MadeId,
-    pub path: Vec<u32>,
-}
 
 /// A step, the term that is then at its place, and the made definition that it adds, if it adds one.
 #[derive(Drop)]

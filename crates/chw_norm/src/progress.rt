@@ -5,18 +5,20 @@ ghost use Rattle.chw_typing.specs.Programs.{IsTyped};
 ghost use Rattle.rewriting.specs.Runs.{IsOpening};
 ghost use Rattle.made_table.specs.Held.{HoldsNone};
 ghost use Rattle.rule_trials.specs.Trials.{built};
+ghost use Rattle.chw_norm.specs.Finding.{Moves, Suits};
 ghost use Rattle.chw_norm.specs.FoundSteps.{FindsNext, IsNext};
+ghost use Rattle.chw_norm.specs.Seen.{LooksFrom};
 ghost use Rattle.chw_norm.specs.Underway.{IsBetweenSteps, StepEnds, GrowEnds, HasSpine, IsPutAt};
 
 use crate::bodies::{bound_with, depths, exact_over_limit};
-use crate::place::{Found, StepPlace};
+use crate::finder::Finder;
+use crate::place::Found;
 use crate::running::RunFault;
-use crate::state::next_from;
 use chw_base::limits::MADE_DEPTH;
-use chw_base::{MadeId, NoMemory, Or};
+use chw_base::{NoMemory, Or};
 use chw_terms::{Made, Program, Scene, Term, depth};
 use looks::Looks;
-use made_states::laws::{any_step_stays_behind, states_stay_typed};
+use made_states::laws::states_stay_typed;
 use made_table::Table;
 use norm_lines::StepAt;
 use opening::laws::opening_is_typed;
@@ -33,8 +35,6 @@ pub(crate) struct Progress<'p> {
     pub made: Table,
     /// For each of them a number that is at least the depth of its body, if it is within the limit.
     pub bounds: Vec<usize>,
-    /// The place of the last step, from which on all steps are.
-    pub from: StepPlace,
 }
 
 impl<'p> Progress<'p> {
@@ -50,40 +50,32 @@ impl<'p> Progress<'p> {
         let signature = Signature::of(alloc, program)?;
         let made = Table::open(alloc, program)?;
         let bounds = depths(alloc, made.list())?;
-        let from = StepPlace {
-            made: MadeId { number: 0 },
-            path: Vec::new(alloc),
-        };
         Ok(Progress {
             program,
             signature,
             made,
             bounds,
-            from,
         })
     }
 
-    /// The first step that there is.
+    /// The first step that there is, by a search that suits the state.
     pub(crate) fn next<L: Looks>(
         &self,
         alloc: Global,
+        finder: &mut Finder,
         looks: &mut L,
     ) -> Result<Option<Found>, NoMemory>
-        requires { IsBetweenSteps self.now }
-        ensures { IfOk result (FindsNext built self.now.program.now self.now.made) }
+        requires between { IsBetweenSteps self.now }
+        requires suits { Suits self.now.program.now self.now.made finder.old }
+        ensures first { IfOk result (FindsNext built self.now.program.now self.now.made) }
+        ensures moves { Moves result finder.old finder.new }
+        ensures looks { LooksFrom built self.now.program.now self.now.made finder.old.made.number finder.old.path.items (L.looks looks.old) (L.looks looks.new) }
     {
         let scene = Scene {
             program: self.program,
             made: self.made.list(),
         };
-        let found = next_from(
-            alloc,
-            &self.made,
-            &scene,
-            &self.signature,
-            &self.from,
-            looks,
-        );
+        let found = finder.next(alloc, &self.made, &scene, &self.signature, looks);
         let Scene {
             program: _,
             made: _,
@@ -106,19 +98,13 @@ impl<'p> Progress<'p> {
         spines_of_parts();
         spines_below_spines();
         states_stay_typed();
-        any_step_stays_behind();
         let Found {
             at,
             new,
             definition,
         } = found;
-        let from = StepPlace {
-            made: at.made,
-            path: at.path.clone()?,
-        };
         let added = self.grow(alloc, definition)?;
         let bound = self.put(&at, new);
-        self.from = from;
         trace.push(at)?;
         let most = bound.max(added);
         if most <= MADE_DEPTH as usize {

@@ -3,7 +3,10 @@ ghost use Rattle.chw_terms.specs.Tidy.{IsTidy};
 ghost use Rattle.chw_typing.specs.Programs.{IsTyped};
 ghost use Rattle.rule_trials.specs.Trials.{built};
 ghost use Rattle.chw_norm.specs.Running.{Runs};
+ghost use Rattle.chw_norm.specs.Seen.{RunLooks};
 
+use crate::finder::Finder;
+use crate::laws::search_suits_next_state;
 use crate::progress::Progress;
 use chw_base::Or;
 use chw_terms::Program;
@@ -29,6 +32,8 @@ pub enum RunFault {
 /// `Spent` comes exactly where a step is left after as many as the budget allows. `Full` comes exactly where a step within the budget
 /// adds a made definition and `MADE_DEFINITIONS` are held; that step isn't in the trace. `Depth` comes exactly where a step leads to a
 /// body that is deeper than `MADE_DEPTH`, the body of what it adds among them.
+/// Each search begins at the place of the step before, the first one at the root of the first made definition. At each place at which it
+/// looks, each of the twenty-one rules is one look at most.
 /// Where a number would pass 32 bits, the answer is want of memory.
 pub fn run<L: Looks>(
     alloc: Global,
@@ -39,16 +44,19 @@ pub fn run<L: Looks>(
 ) -> Result<Table, Or<RunFault>>
     requires tidy { IsTidy program.now }
     requires typed { IsTyped program.now }
-    ensures { Runs built program.now budget trace.old.items trace.new.items result }
+    ensures runs { Runs built program.now budget trace.old.items trace.new.items result }
+    ensures looks { RunLooks built program.now trace.old.items trace.new.items (L.looks looks.old) (L.looks looks.new) }
 {
+    search_suits_next_state();
     let mut run = Progress::begin(alloc, program)?;
+    let mut finder = Finder::open(alloc);
     for _ in 0..budget {
-        let Some(found) = run.next(alloc, looks)? else {
+        let Some(found) = run.next(alloc, &mut finder, looks)? else {
             return Ok(run.made);
         };
         run.advance(alloc, found, trace)?;
     }
-    match run.next(alloc, looks)? {
+    match run.next(alloc, &mut finder, looks)? {
         None => Ok(run.made),
         Some(_) => Err(Or::Fault(RunFault::Spent { steps: budget })),
     }

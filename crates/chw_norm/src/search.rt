@@ -7,8 +7,11 @@ ghost use Rattle.rewriting.specs.Spots.{spot_of};
 ghost use Rattle.rule_trials.specs.Trials.{built};
 ghost use Rattle.active_parts.specs.Grounds.{IsGround, IsTypedAt};
 ghost use Rattle.chw_norm.specs.First.{adds_to, AtPath, FindsFirst, From};
+ghost use Rattle.chw_norm.specs.Passed.{ArePassedParts};
+ghost use Rattle.chw_norm.specs.SeenPaths.{LooksAtPaths};
 ghost use Rattle.active_parts.specs.Parts.{path_to, around, arguments_of, spot_in, IsAmong, IsInside, AreAmongFirst, AreAmongArguments};
 
+use crate::passing::{first_sought, is_quiet_part};
 use crate::paths::begin_at;
 use crate::trail::{Trail, behind};
 use active_parts::{
@@ -38,6 +41,7 @@ pub(crate) fn first_from<L: Looks>(
     requires typed { IsTypedAt (setting_in ground.now.scene.now) (spot_of place.old) at.now }
     ensures first { IfOk result (FindsFirst built (origins_of ground.now.scene.now) (adds_to ground.now.scene.now) (IsActive (origins_of ground.now.scene.now) (spot_of place.old) at.now) from.now) }
     ensures place { OnOk result (place.new ≡ place.old) }
+    ensures looks { LooksAtPaths built (origins_of ground.now.scene.now) (IsActive (origins_of ground.now.scene.now) (spot_of place.old) at.now) from.now (L.looks looks.old) (L.looks looks.new) }
 {
     if let Some(trial) = first_rule(
         alloc,
@@ -74,26 +78,29 @@ fn below<L: Looks>(
     requires typed { IsTypedAt (setting_in ground.now.scene.now) (spot_of place.old) at.now }
     ensures first { IfOk result (FindsFirst built (origins_of ground.now.scene.now) (adds_to ground.now.scene.now) (From (origins_of ground.now.scene.now) (Below (origins_of ground.now.scene.now) (spot_of place.old) at.now)) from.now) }
     ensures place { OnOk result (place.new ≡ place.old) }
+    ensures looks { LooksAtPaths built (origins_of ground.now.scene.now) (From (origins_of ground.now.scene.now) (Below (origins_of ground.now.scene.now) (spot_of place.old) at.now)) from.now (L.looks looks.old) (L.looks looks.new) }
 {
     let count = count_parts(place.mode, at);
-    if count == 0 {
+    let first = first_sought(at, count, from)?;
+    if first == count {
         return Ok(None);
     }
     let outside = place.vars.len();
     enter_group(alloc, place, group_around_parts(at))?;
-    let found = first_part(alloc, table, ground, at, count, place, from, looks)?;
+    let found = first_part(alloc, table, ground, at, first, count, place, from, looks)?;
     leave(alloc, place, outside);
     Ok(found)
 }
 
-// The first step at or below so many parts of a term, all of them that come into question. The variables that the term brings for all
-// of its parts are in scope.
+// The first step at or below so many parts of a term, all of them that come into question. The search passes over those before the first
+// one. The variables that the term brings for all of its parts are in scope.
 #[cycle(search)]
 fn first_part<L: Looks>(
     alloc: Global,
     table: &Table,
     ground: &Ground,
     at: &Term,
+    first: usize,
     count: usize,
     place: &mut Place,
     from: &[u32],
@@ -105,10 +112,12 @@ fn first_part<L: Looks>(
     requires typed { IsTypedAt (setting_in ground.now.scene.now) (around place.old at.now) at.now }
     requires all { AreAmongFirst place.old.mode at.now count }
     requires arguments { AreAmongArguments at.now count }
+    requires passed { ArePassedParts built at.now from.now first }
     ensures first { IfOk result (FindsFirst built (origins_of ground.now.scene.now) (adds_to ground.now.scene.now) (From (origins_of ground.now.scene.now) (Below (origins_of ground.now.scene.now) (around place.old at.now) at.now)) from.now) }
     ensures place { OnOk result (place.new ≡ place.old) }
+    ensures looks { LooksAtPaths built (origins_of ground.now.scene.now) (From (origins_of ground.now.scene.now) (Below (origins_of ground.now.scene.now) (around place.old at.now) at.now)) from.now (L.looks looks.old) (L.looks looks.new) }
 {
-    for number in 0..count {
+    for number in first..count {
         let found = in_part(alloc, table, ground, at, number, place, from, looks)?;
         if found.is_some() {
             return Ok(found);
@@ -136,11 +145,15 @@ fn in_part<L: Looks>(
     requires number { IsAmong (arguments_of at.now) number }
     ensures first { IfOk result (FindsFirst built (origins_of ground.now.scene.now) (adds_to ground.now.scene.now) (From (origins_of ground.now.scene.now) (AtPath (Below (origins_of ground.now.scene.now) (around place.old at.now) at.now) (path_to at.now number))) from.now) }
     ensures place { OnOk result (place.new ≡ place.old) }
+    ensures looks { LooksAtPaths built (origins_of ground.now.scene.now) (From (origins_of ground.now.scene.now) (AtPath (Below (origins_of ground.now.scene.now) (around place.old at.now) at.now) (path_to at.now number))) from.now (L.looks looks.old) (L.looks looks.new) }
 {
     let path = path_to(at.args.len(), number)?;
     let Some(left) = begin_at(from, path) else {
         return Ok(None);
     };
+    if is_quiet_part(at, number) {
+        return Ok(None);
+    }
     let Some(part) = part_at(alloc, ground, at, number, place)? else {
         return Ok(None);
     };
@@ -164,6 +177,7 @@ fn first_at<L: Looks>(
     requires typed { IsTypedAt (setting_in ground.now.scene.now) (spot_in (reverse place.old.vars) part) part.term.now }
     ensures first { IfOk result (FindsFirst built (origins_of ground.now.scene.now) (adds_to ground.now.scene.now) (IsActive (origins_of ground.now.scene.now) (spot_in (reverse place.old.vars) part.entry) part.entry.term.now) from.now) }
     ensures place { OnOk result (place.new ≡ place.old) }
+    ensures looks { LooksAtPaths built (origins_of ground.now.scene.now) (IsActive (origins_of ground.now.scene.now) (spot_in (reverse place.old.vars) part.entry) part.entry.term.now) from.now (L.looks looks.old) (L.looks looks.new) }
 {
     let Part {
         term,

@@ -6,9 +6,12 @@ ghost use Rattle.rule_trials.specs.Trials.{built};
 ghost use Rattle.active_parts.specs.Grounds.{IsGround};
 ghost use Rattle.chw_norm.specs.FoundSteps.{FindsFrom, FindsNext, FindsIn, IsFoundIn};
 ghost use Rattle.chw_norm.specs.Begins.{BeginsIn};
+ghost use Rattle.chw_norm.specs.Seen.{LooksFrom};
+ghost use Rattle.chw_norm.specs.SeenPaths.{LooksIn};
 
+use crate::finder::Finder;
 use crate::in_bodies::in_made;
-use crate::place::{Found, StepPlace};
+use crate::place::Found;
 use crate::trail::Trail;
 use active_parts::Ground;
 use chw_base::{MadeId, NoMemory, narrow};
@@ -50,7 +53,7 @@ fn found_in(number: usize, found: Option<Trail>) -> Result<Option<Found>, NoMemo
 }
 
 // Where the search begins in the made definition of this number, where it begins at that place.
-fn begin_in(number: usize, from: &StepPlace) -> &[u32]
+fn begin_in(number: usize, from: &Finder) -> &[u32]
     requires { from.now.made.number ≤ number }
     ensures { BeginsIn number from.now.made.number from.now.path.items result.now }
 {
@@ -68,7 +71,7 @@ fn in_number<L: Looks>(
     ground: &Ground,
     number: usize,
     it: &Made,
-    from: &StepPlace,
+    from: &Finder,
     looks: &mut L,
 ) -> Result<Option<Found>, NoMemory>
     requires ground { IsGround ground.now }
@@ -76,7 +79,8 @@ fn in_number<L: Looks>(
     requires typed { IsTypedScene ground.now.scene.now }
     requires is { slice_get ground.now.scene.now.made.now number ≡ Some it.now }
     requires later { from.now.made.number ≤ number }
-    ensures { IfOk result (FindsIn built ground.now.scene.now.program.now ground.now.scene.now.made.now number from.now.made.number from.now.path.items) }
+    ensures first { IfOk result (FindsIn built ground.now.scene.now.program.now ground.now.scene.now.made.now number from.now.made.number from.now.path.items) }
+    ensures looks { LooksIn built ground.now.scene.now.program.now ground.now.scene.now.made.now number from.now.made.number from.now.path.items (L.looks looks.old) (L.looks looks.new) }
 {
     place_of_scene_is_typed();
     let path = begin_in(number, from);
@@ -87,6 +91,9 @@ fn in_number<L: Looks>(
 /// places above that one are among these, since they may come anew where the term at the place has changed. Nothing comes exactly where
 /// there is none.
 ///
+/// At each place at which it looks, each of the twenty-one rules is one look at most. It looks at active places of the state: at that
+/// place, above it, and after it, up to the place of the step.
+///
 /// The scene is typed, its made definitions are those of the table, and the signature is that of its program.
 /// Where a number would pass 32 bits, the answer is want of memory.
 pub fn next_from<L: Looks>(
@@ -94,13 +101,14 @@ pub fn next_from<L: Looks>(
     table: &Table,
     scene: &Scene,
     signature: &Signature,
-    from: &StepPlace,
+    from: &Finder,
     looks: &mut L,
 ) -> Result<Option<Found>, NoMemory>
     requires same { scene.now.made.now ≡ table.now }
     requires typed { IsTypedScene scene.now }
     requires table { IsSignature scene.now.program.now signature.now }
-    ensures { IfOk result (FindsFrom built scene.now.program.now scene.now.made.now from.now.made.number from.now.path.items) }
+    ensures first { IfOk result (FindsFrom built scene.now.program.now scene.now.made.now from.now.made.number from.now.path.items) }
+    ensures looks { LooksFrom built scene.now.program.now scene.now.made.now from.now.made.number from.now.path.items (L.looks looks.old) (L.looks looks.new) }
 {
     settings_of_scenes();
     data_types_in_order();
@@ -132,9 +140,6 @@ pub fn next<L: Looks>(
     requires table { IsSignature scene.now.program.now signature.now }
     ensures { IfOk result (FindsNext built scene.now.program.now scene.now.made.now) }
 {
-    let from = StepPlace {
-        made: MadeId { number: 0 },
-        path: Vec::new(alloc),
-    };
+    let from = Finder::open(alloc);
     next_from(alloc, table, scene, signature, &from, looks)
 }

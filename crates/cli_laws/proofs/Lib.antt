@@ -1,1 +1,2 @@
 mod MakeRefusals
+mod MakeEnds

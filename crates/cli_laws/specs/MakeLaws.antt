@@ -7,6 +7,7 @@ use Rattle.chw_cli.specs.Reads.{Read}
 use Rattle.chw_cli.specs.declared.refusal.Refusal.{Refusal}
 use Rattle.chw_cli.specs.declared.refusal.Refusal.TheVariants.{DeepBody, FullTable, Loop, Names}
 use Rattle.chw_cli.specs.declared.refusal.Refusal.TheVariants.{Spent, State, TooLarge, Types}
+use Rattle.chw_cli.specs.declared.status.Status.{Status}
 use Rattle.chw_cli.specs.declared.status.Status.TheVariants as status
 use Rattle.chw_words.specs.Commands.{IsCommand}
 use Rattle.chw_words.specs.declared.command.Command.TheVariants.{Make}
@@ -42,3 +43,11 @@ abbrev pub HaveOneOfTwoStatuses : Type 0
 HaveOneOfTwoStatuses =
     (r : Refusal) → IsOfProgram r
     → (status_of r ≡ status.Refused) ⊎ (status_of r ≡ status.Spent)
+
+-- a status with which `make` may end: not that of words, of a file, of a stimulus or of Verilog
+abbrev pub IsOfMake : Status → Type 0
+IsOfMake status.Words = ⊥
+IsOfMake status.Read = ⊥
+IsOfMake status.Stimulus = ⊥
+IsOfMake status.Verilog = ⊥
+IsOfMake _ = Unit {0}

@@ -3,10 +3,11 @@ use Rattle.std.proofs.Common.{◌≡◌, ◌≢◌, ℕ, suc, ◌+◌, ◌-◌, 
 use Rattle.std.specs.List.{list_any, flat_map}
 use Rattle.std.proofs.lemmas.Bool.{cases_lt, cases_eq}
 use Rattle.std.proofs.lemmas.Grind.{flat_map-append}
-use Rattle.std.proofs.lemmas.List.{take_all, take_more}
+use Rattle.std.proofs.lemmas.List.{map-append, take_all, take_more}
 use Rattle.std.proofs.lemmas.List.Folds.{list_any-append}
 use Rattle.std.proofs.lemmas.List.Sums.{fold-append}
 use Rattle.indexmap.specs.IndexSet.{insert_key, insert_all}
+use Rattle.chw_base.specs.declared.index.VarIx.{VarIx}
 use Rattle.chw_types.specs.TypeTree.{TypeTree}
 use Rattle.chw_terms.specs.declared.term.Arg.{Arg}
 use Rattle.chw_terms.specs.declared.term.Arg.TheVariants.{OfTerm, OfType}
@@ -14,8 +15,8 @@ use Rattle.chw_terms.specs.declared.term.Alt.{Alt}
 use Rattle.chw_terms.specs.declared.term.Binding.{Binding}
 use Rattle.chw_terms.specs.TermTree.{TermTree, lam, app, ty_app, letrec, case_of, Alts, size_of}
 use Rattle.chw_terms.specs.TermView.{terms_of, group_of, alts_of, applied}
-use Rattle.chw_terms.specs.FreeVariables.{outside, occurrences, occurrences_all, occurrences_group, occurrences_alts, firsts, free_in}
-use Rattle.free_variables.specs.Gathered.{gathered, in_arg, in_alt}
+use Rattle.chw_terms.specs.FreeVariables.{outside, occurrences, occurrences_all, occurrences_group, occurrences_alts, firsts}
+use Rattle.free_variables.specs.Gathered.{gathered, in_arg, in_alt, numbers_of}
 
 -- variables outside of binders
 inside : (n x : ℕ) (xs : List ℕ) → x < n → outside n (x ∷ xs) ≡ outside n xs
@@ -52,10 +53,10 @@ outside_none (x ∷ xs) = let e : x - 0 ≡ x = omega arith in beyond 0 x xs (om
 
 -- one part after the other
 pub gathered_both : (n : ℕ) (xs ys seen : List ℕ) → gathered n ys (gathered n xs seen) ≡ gathered n (xs ++ ys) seen
-gathered_both n xs ys seen = sym (ap (insert_all nat_eq seen) (outside_both n xs ys) ∙ fold-append (insert_key nat_eq) seen (outside n xs) (outside n ys))
+gathered_both n xs ys seen = append_assoc seen (outside n xs) (outside n ys) ∙ ap (λ zs. seen ++ zs) (sym (outside_both n xs ys))
 
 pub gathered_under : (n k : ℕ) (xs seen : List ℕ) → gathered (n + k) xs seen ≡ gathered n (outside k xs) seen
-gathered_under n k xs seen = ap (insert_all nat_eq seen) (sym (outside_again n k xs))
+gathered_under n k xs seen = ap (λ zs. seen ++ zs) (sym (outside_again n k xs))
 
 -- a loop over items, at one and behind all
 one_more : {X : Type 0} (f : X → List ℕ) (xs : List X) (i : ℕ) (x : X) → i < length xs → x ≡ get_or xs i x → flat_map f (take (i + 1) xs) ≡ flat_map f (take i xs) ++ f x
@@ -190,6 +191,28 @@ none_seen : (ys : List ℕ) → filter (is_new []) ys ≡ ys
 none_seen [] = refl
 none_seen (y ∷ ys) = ap (λ zs. y ∷ zs) (none_seen ys)
 
-pub gathered_all : (e : TermTree) (seen : List ℕ) → seen ≡ [] → gathered 0 (occurrences e) seen ≡ free_in e
-gathered_all e seen h =
-    (λ i. insert_all nat_eq (h i) (outside_none (occurrences e) i)) ∙ inserted (occurrences e) [] ∙ none_seen (firsts (occurrences e))
+-- a variable that is met
+pub met_inside : (n x : ℕ) (seen : List ℕ) → x < n → gathered n (x ∷ []) seen ≡ seen
+met_inside n x seen h = ap (λ zs. seen ++ zs) (inside n x [] h) ∙ append-nil seen
+
+pub met_beyond : (n x : ℕ) (seen : List ℕ) → n ≤ x → gathered n (x ∷ []) seen ≡ seen ++ (x - n) ∷ []
+met_beyond n x seen h = ap (λ zs. seen ++ zs) (beyond n x [] h)
+
+-- under no binders all that is met is free
+pub gathered_all : (e : TermTree) (seen : List ℕ) → gathered 0 (occurrences e) seen ≡ seen ++ occurrences e
+gathered_all e seen = ap (λ zs. seen ++ zs) (outside_none (occurrences e))
+
+-- those in a set are each where it is first
+pub set_of_firsts : (xs seen : List ℕ) → seen ≡ [] → insert_all nat_eq seen xs ≡ firsts xs
+set_of_firsts xs seen h = ap (λ s. insert_all nat_eq s xs) h ∙ inserted xs [] ∙ none_seen (firsts xs)
+
+-- one more in the set
+pub set_next : (vs : List VarIx) (seen now next : List ℕ) (i : ℕ) (v : VarIx) → i < length vs
+    → now ≡ insert_all nat_eq seen (numbers_of (take i vs)) → next ≡ insert_key nat_eq now (get_or vs i v).number
+    → next ≡ insert_all nat_eq seen (numbers_of (take (i + 1) vs))
+set_next vs seen now next i v h a b =
+    let x = get_or vs i v in
+    b ∙ ap (λ s. insert_key nat_eq s x.number) a ∙ sym (fold-append (insert_key nat_eq) seen (numbers_of (take i vs)) (x.number ∷ []))
+    ∙ ap (insert_all nat_eq seen)
+    (sym (map-append (λ (y : VarIx). y.number) (take i vs) (x ∷ []))
+    ∙ ap numbers_of (sym (take_more vs i v h)))

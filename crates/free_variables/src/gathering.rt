@@ -2,11 +2,10 @@
 ghost use Rattle.std.specs.Prelude.{◌≡◌, ◌+◌, [], ◌∷◌, OnOk, IfOk};
 ghost use Rattle.chw_terms.specs.TermView.{tree_of, terms_of, group_of, alts_of};
 ghost use Rattle.chw_terms.specs.FreeVariables.{occurrences, occurrences_all, occurrences_group, occurrences_alts};
-ghost use Rattle.free_variables.specs.Gathered.{gathered, in_arg, in_alt};
+ghost use Rattle.free_variables.specs.Gathered.{gathered, in_arg, in_alt, numbers_of};
 
-use chw_base::NoMemory;
+use chw_base::{NoMemory, VarIx};
 use chw_terms::{Alt, Arg, Binding, Head, Term};
-use indexmap::IndexSet;
 
 // The place under so many more binders.
 fn deeper(place: u32, binders: usize) -> Result<u32, NoMemory>
@@ -18,8 +17,8 @@ fn deeper(place: u32, binders: usize) -> Result<u32, NoMemory>
 
 // Gathers the variables of a term that stands under so many binders, as they are called outside of these.
 #[cycle(gather)]
-pub(crate) fn gather(t: &Term, under: u32, seen: &mut IndexSet<u32>) -> Result<(), NoMemory>
-    ensures { OnOk result (seen.new.keys ≡ gathered under (occurrences t.now) seen.old.keys) }
+pub(crate) fn gather(t: &Term, under: u32, seen: &mut Vec<VarIx>) -> Result<(), NoMemory>
+    ensures { OnOk result (numbers_of seen.new.items ≡ gathered under (occurrences t.now) (numbers_of seen.old.items)) }
 {
     gather_head(&t.head, under, seen)?;
     for arg in &t.args {
@@ -29,8 +28,8 @@ pub(crate) fn gather(t: &Term, under: u32, seen: &mut IndexSet<u32>) -> Result<(
 }
 
 #[cycle(gather)]
-fn gather_arg(arg: &Arg, under: u32, seen: &mut IndexSet<u32>) -> Result<(), NoMemory>
-    ensures { OnOk result (seen.new.keys ≡ gathered under (in_arg arg.now) seen.old.keys) }
+fn gather_arg(arg: &Arg, under: u32, seen: &mut Vec<VarIx>) -> Result<(), NoMemory>
+    ensures { OnOk result (numbers_of seen.new.items ≡ gathered under (in_arg arg.now) (numbers_of seen.old.items)) }
 {
     match arg {
         Arg::OfTerm(e) => gather(e, under, seen),
@@ -40,8 +39,8 @@ fn gather_arg(arg: &Arg, under: u32, seen: &mut IndexSet<u32>) -> Result<(), NoM
 
 #[cycle(gather)]
 #[tactic(auto, unfolding(chw_terms::specs::FreeVariables::occurrences))]
-fn gather_head(head: &Head, under: u32, seen: &mut IndexSet<u32>) -> Result<(), NoMemory>
-    ensures { OnOk result (seen.new.keys ≡ gathered under (occurrences (tree_of head.now)) seen.old.keys) }
+fn gather_head(head: &Head, under: u32, seen: &mut Vec<VarIx>) -> Result<(), NoMemory>
+    ensures { OnOk result (numbers_of seen.new.items ≡ gathered under (occurrences (tree_of head.now)) (numbers_of seen.old.items)) }
 {
     match head {
         Head::Var(x) => gather_var(x.number, under, seen),
@@ -63,18 +62,18 @@ fn gather_head(head: &Head, under: u32, seen: &mut IndexSet<u32>) -> Result<(), 
     }
 }
 
-fn gather_var(x: u32, under: u32, seen: &mut IndexSet<u32>) -> Result<(), NoMemory>
-    ensures { OnOk result (seen.new.keys ≡ gathered under (x ∷ []) seen.old.keys) }
+fn gather_var(x: u32, under: u32, seen: &mut Vec<VarIx>) -> Result<(), NoMemory>
+    ensures { OnOk result (numbers_of seen.new.items ≡ gathered under (x ∷ []) (numbers_of seen.old.items)) }
 {
     if x >= under {
-        seen.insert(x - under)?;
+        seen.push(VarIx { number: x - under })?;
     }
     Ok(())
 }
 
 #[cycle(gather)]
-fn gather_group(bindings: &[Binding], under: u32, seen: &mut IndexSet<u32>) -> Result<(), NoMemory>
-    ensures { OnOk result (seen.new.keys ≡ gathered under (occurrences_group (group_of bindings.now)) seen.old.keys) }
+fn gather_group(bindings: &[Binding], under: u32, seen: &mut Vec<VarIx>) -> Result<(), NoMemory>
+    ensures { OnOk result (numbers_of seen.new.items ≡ gathered under (occurrences_group (group_of bindings.now)) (numbers_of seen.old.items)) }
 {
     for binding in bindings {
         gather(&binding.body, under, seen)?;
@@ -83,8 +82,8 @@ fn gather_group(bindings: &[Binding], under: u32, seen: &mut IndexSet<u32>) -> R
 }
 
 #[cycle(gather)]
-fn gather_all(elements: &[Term], under: u32, seen: &mut IndexSet<u32>) -> Result<(), NoMemory>
-    ensures { OnOk result (seen.new.keys ≡ gathered under (occurrences_all (terms_of elements.now)) seen.old.keys) }
+fn gather_all(elements: &[Term], under: u32, seen: &mut Vec<VarIx>) -> Result<(), NoMemory>
+    ensures { OnOk result (numbers_of seen.new.items ≡ gathered under (occurrences_all (terms_of elements.now)) (numbers_of seen.old.items)) }
 {
     for element in elements {
         gather(element, under, seen)?;
@@ -93,8 +92,8 @@ fn gather_all(elements: &[Term], under: u32, seen: &mut IndexSet<u32>) -> Result
 }
 
 #[cycle(gather)]
-fn gather_alts(alts: &[Alt], under: u32, seen: &mut IndexSet<u32>) -> Result<(), NoMemory>
-    ensures { OnOk result (seen.new.keys ≡ gathered under (occurrences_alts (alts_of alts.now)) seen.old.keys) }
+fn gather_alts(alts: &[Alt], under: u32, seen: &mut Vec<VarIx>) -> Result<(), NoMemory>
+    ensures { OnOk result (numbers_of seen.new.items ≡ gathered under (occurrences_alts (alts_of alts.now)) (numbers_of seen.old.items)) }
 {
     for alt in alts {
         gather_alt(alt, under, seen)?;
@@ -103,8 +102,8 @@ fn gather_alts(alts: &[Alt], under: u32, seen: &mut IndexSet<u32>) -> Result<(),
 }
 
 #[cycle(gather)]
-fn gather_alt(alt: &Alt, under: u32, seen: &mut IndexSet<u32>) -> Result<(), NoMemory>
-    ensures { OnOk result (seen.new.keys ≡ gathered under (in_alt alt.now) seen.old.keys) }
+fn gather_alt(alt: &Alt, under: u32, seen: &mut Vec<VarIx>) -> Result<(), NoMemory>
+    ensures { OnOk result (numbers_of seen.new.items ≡ gathered under (in_alt alt.now) (numbers_of seen.old.items)) }
 {
     let inner = deeper(under, alt.pattern.binders() as usize)?;
     gather(&alt.body, inner, seen)

@@ -4,4 +4,4 @@
 mod free;
 mod gathering;
 
-pub use free::free_in;
+pub use free::{free_in, occurring_in};

@@ -1,2 +1,3 @@
+mod Ports
 pub mod Heads
 pub mod Instances

@@ -1,2 +1,3 @@
-pub mod Order
-pub mod Tried
+mod Looked
+mod Order
+mod Tried

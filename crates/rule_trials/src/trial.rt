@@ -1,8 +1,9 @@
 //! The first rule with an instance.
-ghost use Rattle.std.specs.Prelude.{◌≡◌, [], reverse, option_map, IfOk};
+ghost use Rattle.std.specs.Prelude.{◌≡◌, ◌≤◌, ◌+◌, [], reverse, option_map, IfOk};
 ghost use Rattle.chw_types.specs.References.{HasNoCycle};
 ghost use Rattle.chw_typing.specs.Scopes.{setting_in};
 ghost use Rattle.chw_terms.specs.declared.rule.Rule.TheVariants.{Spec};
+ghost use Rattle.looks.specs.Looking.{looked};
 ghost use Rattle.rewriting.specs.Origins.{origins_of};
 ghost use Rattle.rewriting.specs.Spots.{spot_of};
 ghost use Rattle.term_types.specs.Answers.{IsReady};
@@ -67,7 +68,8 @@ fn plain<L: Looks>(
     requires ready { IsReady (setting_in scene.now) [] (reverse place.now.vars) }
     requires table { IsSignature scene.now.program.now signature.now }
     requires typed { HasTypeAt (origins_of scene.now) (spot_of place.now) at.now }
-    ensures { IfOk result (IsInstanceAnswer (origins_of scene.now) (spot_of place.now) rule at.now) }
+    ensures exact { IfOk result (IsInstanceAnswer (origins_of scene.now) (spot_of place.now) rule at.now) }
+    ensures one_look { L.looks looks.new ≡ looked (L.looks looks.old) }
 {
     match rule {
         Rule::TyBeta
@@ -114,7 +116,8 @@ fn tried<L: Looks>(
     requires ready { IsReady (setting_in scene.now) [] (reverse place.now.vars) }
     requires table { IsSignature scene.now.program.now signature.now }
     requires typed { HasTypeAt (origins_of scene.now) (spot_of place.now) at.now }
-    ensures { IfOk result (AnswersRule scene.now.program.now scene.now.made.now (spot_of place.now) rule at.now) }
+    ensures exact { IfOk result (AnswersRule scene.now.program.now scene.now.made.now (spot_of place.now) rule at.now) }
+    ensures one_look { L.looks looks.new ≡ looked (L.looks looks.old) }
 {
     if let Rule::Spec = rule {
         return try_special(alloc, table, scene, signature, at, place, looks);
@@ -126,7 +129,7 @@ fn tried<L: Looks>(
 /// The first rule with an instance on a term at a place, what it makes of it, and the made definition that it adds where it is the rule of
 /// made definitions and none in the table has the origin. Nothing comes exactly where no rule has an instance.
 ///
-/// Each rule that is tried is one look.
+/// Each rule that is tried is one look, so there are twenty-one at most.
 ///
 /// The scene's made definitions are those of the table. No data type leads back to itself and the scene is sound, as in every typed
 /// program. Terms have the types of the variables in scope at the place, and the term has a type there. The signature is that of the
@@ -146,7 +149,8 @@ pub fn first_rule<L: Looks>(
     requires ready { IsReady (setting_in scene.now) [] (reverse place.now.vars) }
     requires table { IsSignature scene.now.program.now signature.now }
     requires typed { HasSomeType (setting_in scene.now) (reverse place.now.vars) at.now }
-    ensures { IfOk result (IsFirstRule built scene.now.program.now scene.now.made.now (spot_of place.now) at.now) }
+    ensures first { IfOk result (IsFirstRule built scene.now.program.now scene.now.made.now (spot_of place.now) at.now) }
+    ensures looks { L.looks looks.new ≤ L.looks looks.old + 21 }
 {
     settings_of_scenes();
     for rule in &BUILT {

@@ -252,13 +252,12 @@ fn seed_of(
     requires ready { IsReady (setting_in scene.now) [] (reverse place.now.vars) }
     requires table { IsSignature scene.now.program.now signature.now }
     requires free { numbers free.now ≡ free_in at.now }
+    requires plain { (d : ℕ) × (args : List Arg) × (at.now ≡ applied (global d) args)
+        × NoneNeedsName (origins_of scene.now) (spot_of place.now) args }
     requires found { Finds (setting_at (origins_of scene.now)) [] (reverse place.now.vars) at.now gives }
     requires named { IsNamed scene.now.program.now.datas place.now.mode gives }
     ensures { IfOk result (AnswersCall (origins_of scene.now) (spot_of place.now) at.now) }
 {
-    if !is_plain(alloc, scene, signature, place, at)? {
-        return Ok(None);
-    }
     let Some(types) = named_types(alloc, scene, place, free)? else {
         return Ok(None);
     };
@@ -284,6 +283,10 @@ pub(crate) fn call_seed(
     requires free { numbers free.now ≡ free_in at.now }
     ensures { IfOk result (AnswersCall (origins_of scene.now) (spot_of place.now) at.now) }
 {
+    // The arguments first: in a call on calls these need names, and the type of the whole isn't looked for.
+    if !is_plain(alloc, scene, signature, place, at)? {
+        return Ok(None);
+    }
     let Some(gives) = named_result(alloc, scene, signature, place, at)? else {
         return Ok(None);
     };

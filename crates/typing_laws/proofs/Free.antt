@@ -105,6 +105,14 @@ among_turned : (xs : List ℕ) (v : ℕ) → among xs v ≡ list_any (nat_eq v) 
 among_turned [] v = refl
 among_turned (x ∷ xs) v = λ i. nat_eq_equiv.symm x v i || among_turned xs v i
 
+-- an occurrence is listed
+pub occurrences_occur : (e : TermTree) (x : ℕ) → Contains (occurrences e) x ↔ (occurs e x ≡ true)
+occurrences_occur e x =
+    (λ h. sym found ∙ list_any-from_Contains nat_eq_equiv x (occurrences e) h, λ h. Contains-from_any eqb-true x (occurrences e) (found ∙ h))
+  where
+    found : list_any (nat_eq x) (occurrences e) ≡ occurs e x
+    found = sym (among_turned (occurrences e) x) ∙ among_occurrences e x
+
 pub free_occur : (e : TermTree) (x : ℕ) → Contains (free_in e) x ↔ (occurs e x ≡ true)
 free_occur e x =
     (λ h. sym found ∙ list_any-from_Contains nat_eq_equiv x (free_in e) h, λ h. Contains-from_any eqb-true x (free_in e) (found ∙ h))

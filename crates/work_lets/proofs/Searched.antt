@@ -7,7 +7,7 @@ use Rattle.std.proofs.lemmas.Option.{slice_get_within}
 use Rattle.chw_base.specs.declared.index.VarIx.{VarIx}
 use Rattle.chw_types.specs.TypeTree.{TypeTree}
 use Rattle.chw_terms.specs.declared.term.Binding.{Binding}
-use Rattle.chw_terms.specs.FreeVariables.{free_in}
+use Rattle.chw_terms.specs.FreeVariables.{occurrences}
 use Rattle.chw_terms.specs.Occurs.{occurs}
 use Rattle.chw_terms.specs.TermTree.{TermTree, Group, size_of}
 use Rattle.chw_terms.specs.TermView.{group_of}
@@ -174,13 +174,13 @@ none_marked zero i m = let e : None ≡ Some true = m in absurd cc
 none_marked (suc n) zero m = let e : Some false ≡ Some true = m in let f : true ≡ false = cc in true≢false f
 none_marked (suc n) (suc i) m = none_marked n i m
 
-abbrev FreeAreOccurring : Type 0
-FreeAreOccurring = (e : TermTree) (x : ℕ) → Contains (free_in e) x ↔ (occurs e x ≡ true)
+abbrev AreOccurring : Type 0
+AreOccurring = (e : TermTree) (x : ℕ) → Contains (occurrences e) x ↔ (occurs e x ≡ true)
 
 none_waits : (i : ℕ) → Contains [] i → ⊥
 none_waits i w = let h = w.1 in omega (arith, h)
 
-pub searches_first : FreeAreOccurring → (g : Group) (e : TermTree) (s s' : Search) → s.marks.items ≡ replicate (size_of g) false → s.waiting.items ≡ [] → Noted s (free_in e) s' → Searches g e s'
+pub searches_first : AreOccurring → (g : Group) (e : TermTree) (s s' : Search) → s.marks.items ≡ replicate (size_of g) false → s.waiting.items ≡ [] → Noted s (occurrences e) s' → Searches g e s'
 searches_first free g e s s' marks waiting n =
     let count : length s.marks.items ≡ size_of g = ap length marks ∙ length-replicate (size_of g) false in
     let unmarked_first : (i : ℕ) → IsMarked s.marks.items i → ⊥ = λ i m. none_marked (size_of g) i (subst (λ ms. IsMarked ms i) marks m) in
@@ -189,28 +189,28 @@ searches_first free g e s s' marks waiting n =
       each_one = n.count ∙ count;
       reached = λ i m. elim (n.new i m) [
         | inl old ↦ absurd (unmarked_first i old)
-        | inr w ↦ let names = subst (λ k. NamesBinding (free_in e) k i) count w.0 in from_body names.within ((free e (size_of g - 1 - i)).0 names.named)
+        | inr w ↦ let names = subst (λ k. NamesBinding (occurrences e) k i) count w.0 in from_body names.within ((free e (size_of g - 1 - i)).0 names.named)
       ];
-      body = λ i l o. n.all i (subst (λ k. NamesBinding (free_in e) k i) (sym count) (record { within = l; named = (free e (size_of g - 1 - i)).1 o }));
+      body = λ i l o. n.all i (subst (λ k. NamesBinding (occurrences e) k i) (sym count) (record { within = l; named = (free e (size_of g - 1 - i)).1 o }));
       sides = λ j b m at. elim (n.new j m) [ inl old ↦ absurd (unmarked_first j old) | inr w ↦ inl w.1 ];
       waits = λ i w. elim (n.marked i w) [ inl old ↦ absurd (unwaiting i old) | inr m ↦ m ];
     }
 
 -- the last that waits is looked at
-pub searches_next : FreeAreOccurring → (g : Group) (e : TermTree) (s t s' : Search) (place : ℕ) (b : TypeTree × TermTree) → Searches g e s
+pub searches_next : AreOccurring → (g : Group) (e : TermTree) (s t s' : Search) (place : ℕ) (b : TypeTree × TermTree) → Searches g e s
     → t.marks.items ≡ s.marks.items → s.waiting.items ≡ t.waiting.items ++ place ∷ [] → binding_at g place ≡ Some b
-    → Noted t (free_in b.1) s' → Searches g e s'
+    → Noted t (occurrences b.1) s' → Searches g e s'
 searches_next free g e s t s' place b h same popped at n =
     let count : length t.marks.items ≡ size_of g = ap length same ∙ h.each_one in
     let here : IsMarked s.marks.items place = h.waits place (subst (λ ws. Contains ws place) (sym popped) (Contains-push t.waiting.items place)) in
     let keeps : (i : ℕ) → IsMarked s.marks.items i → IsMarked s'.marks.items i = λ i m. n.kept i (subst (λ ms. IsMarked ms i) (sym same) m) in
     let looked : (i : ℕ) → i < size_of g → occurs b.1 (size_of g - 1 - i) ≡ true → IsMarked s'.marks.items i =
-    λ i l o. n.all i (subst (λ k. NamesBinding (free_in b.1) k i) (sym count) (record { within = l; named = (free b.1 (size_of g - 1 - i)).1 o })) in
+    λ i l o. n.all i (subst (λ k. NamesBinding (occurrences b.1) k i) (sym count) (record { within = l; named = (free b.1 (size_of g - 1 - i)).1 o })) in
     record {
       each_one = n.count ∙ count;
       reached = λ i m. elim (n.new i m) [
         | inl old ↦ h.reached i (subst (λ ms. IsMarked ms i) same old)
-        | inr w ↦ let names = subst (λ k. NamesBinding (free_in b.1) k i) count w.0 in from_side (h.reached place here) at names.within ((free b.1 (size_of g - 1 - i)).0 names.named)
+        | inr w ↦ let names = subst (λ k. NamesBinding (occurrences b.1) k i) count w.0 in from_side (h.reached place here) at names.within ((free b.1 (size_of g - 1 - i)).0 names.named)
       ];
       body = λ i l o. keeps i (h.body i l o);
       sides = λ j c m side. elim (n.new j m) [

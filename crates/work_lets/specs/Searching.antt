@@ -3,7 +3,7 @@ use Rattle.std.specs.Prelude.{◌≡◌, ℕ, suc, ◌+◌, ◌-◌, ◌<◌, �
 use Rattle.std.specs.Prelude.{List, [], ◌∷◌, length, Contains, Some}
 use Rattle.std.specs.List.{slice_get}
 use Rattle.chw_terms.specs.declared.term.Binding.{Binding}
-use Rattle.chw_terms.specs.FreeVariables.{free_in}
+use Rattle.chw_terms.specs.FreeVariables.{occurrences}
 use Rattle.work_lets.specs.declared.reached.Search.{Search}
 
 -- the binding of this place is marked
@@ -38,4 +38,4 @@ pub record Noted (s : Search) (variables : List ℕ) (s' : Search) : Type 0 wher
 -- the same of the variables that occur in the right side at a place
 abbrev pub NotedSide : List Binding → ℕ → Search → Search → Type 0
 NotedSide bindings place s s' =
-    (b : Binding) → slice_get bindings place ≡ Some b → Noted s (free_in b.body) s'
+    (b : Binding) → slice_get bindings place ≡ Some b → Noted s (occurrences b.body) s'

@@ -1,13 +1,13 @@
 //! Which bindings of a letrec its body reaches.
 ghost use Rattle.std.specs.Prelude.{◌<◌, [], ◌∷◌, map, length, IfOk, OnOk};
-ghost use Rattle.chw_terms.specs.FreeVariables.{free_in};
+ghost use Rattle.chw_terms.specs.FreeVariables.{occurrences};
 ghost use Rattle.chw_terms.specs.TermView.{group_of};
 ghost use Rattle.rewriting.specs.Lets.{MarksReached};
 ghost use Rattle.work_lets.specs.Searching.{Noted, NotedSide};
 
 use chw_base::{NoMemory, VarIx};
 use chw_terms::{Binding, Term};
-use free_variables::free_in;
+use free_variables::occurring_in;
 use std::alloc::Global;
 
 /// How far the search for reached bindings has come.
@@ -47,25 +47,26 @@ fn note_each(variables: &[VarIx], search: &mut Search) -> Result<(), NoMemory>
     Ok(())
 }
 
-// The same of all variables that occur in a term.
-fn look_at(alloc: Global, term: &Term, search: &mut Search) -> Result<(), NoMemory>
-    ensures { OnOk result (Noted search.old (free_in term.now) search.new) }
+// The same of all variables that occur in a term. They are listed in place of what was listed before.
+fn look_at(term: &Term, found: &mut Vec<VarIx>, search: &mut Search) -> Result<(), NoMemory>
+    ensures { OnOk result (Noted search.old (occurrences term.now) search.new) }
 {
-    let variables = free_in(alloc, term)?;
-    note_each(variables.as_slice(), search)
+    found.clear();
+    occurring_in(term, found)?;
+    note_each(found.as_slice(), search)
 }
 
 // The same of all variables that occur in the right side at this place.
 fn look_into(
-    alloc: Global,
     bindings: &[Binding],
     place: usize,
+    found: &mut Vec<VarIx>,
     search: &mut Search,
 ) -> Result<(), NoMemory>
     requires { place < length bindings.now }
     ensures { OnOk result (NotedSide bindings.now place search.old search.new) }
 {
-    look_at(alloc, &bindings[place].body, search)
+    look_at(&bindings[place].body, found, search)
 }
 
 /// Of each binding whether the body reaches it, the first one first: its variable occurs in the body or in a reached right side.
@@ -82,9 +83,11 @@ pub(crate) fn reached(
         marks: vec![in alloc; false; bindings.len()]?,
         waiting: Vec::new(alloc),
     };
-    look_at(alloc, body, &mut search)?;
+    // One list serves for all terms.
+    let mut found = Vec::new(alloc);
+    look_at(body, &mut found, &mut search)?;
     while let Some(place) = search.waiting.pop() {
-        look_into(alloc, bindings, place, &mut search)?;
+        look_into(bindings, place, &mut found, &mut search)?;
     }
     Ok(search.marks)
 }

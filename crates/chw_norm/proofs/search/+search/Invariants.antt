@@ -1,4 +1,4 @@
--- nothing is found at the parts so far, and what falls from call to call
+-- nothing is found at the parts so far, what was tried there, and what falls from call to call
 use Rattle.std.proofs.Common.{◌≡◌, ◌+◌, ◌*◌}
 use Rattle.chw_terms.specs.TermSize.{tree_size}
 use Rattle.rewriting.specs.Origins.{origins_of}
@@ -6,7 +6,8 @@ use Rattle.rewriting.specs.Active.{Below}
 use Rattle.rule_trials.specs.Trials.{built}
 use Rattle.chw_norm.specs.First.{From, HasNoStepAt}
 use Rattle.active_parts.specs.Parts.{around, path_to}
-use Rattle.chw_norm.proofs.Numbered.{OfFirst}
+use Rattle.chw_norm.specs.Passed.{OfFirst}
+use Rattle.chw_norm.specs.SeenPaths.{LooksAtPaths}
 use Rattle.chw_norm.proofs.search.+search.Given as goal
 
 abbrev pub invariant-first_part-loop-number : goal.invariant-first_part-loop-number
@@ -17,6 +18,11 @@ invariant-first_part-loop-number g l = record {
       (From (origins_of l.ground.scene.now)
       (OfFirst (Below (origins_of l.ground.scene.now) (around l.fn.place l.at) l.at) (path_to l.at) l.number))
       l.from;
+  looks :
+      LooksAtPaths built (origins_of l.ground.scene.now)
+      (From (origins_of l.ground.scene.now)
+      (OfFirst (Below (origins_of l.ground.scene.now) (around l.fn.place l.at) l.at) (path_to l.at) l.number))
+      l.from (g.L.Looks.looks l.fn.looks) (g.L.Looks.looks l.looks);
 }
 
 -- the calls go from a term to its parts, which are smaller

@@ -1,5 +1,6 @@
 use Rattle.rule_trials.specs.Trials.{built}
 use Rattle.active_parts.proofs.Options.{ok_more}
+use Rattle.chw_norm.proofs.LookedStates.{looked_in_made}
 use Rattle.chw_norm.proofs.States.{found_in_made, made_leads}
 use Rattle.chw_norm.proofs.state.in_number.Goals as goal
 
@@ -14,7 +15,20 @@ pub returns : goal.returns
 returns g c =
     let scene = c.args.ground.now.scene.now in
     let from = c.args.from.now in
-    ok_more c.found_in.result _ _
-    (λ answer is. found_in_made built scene.program.now scene.made.now c.args.it.now c.args.number from.made.number from.path.items c.begin_in-path.result.now
-    c.in_ok-in_made.field-0 answer c.requires.is c.begin_in-path.ensures c.in_ok-in_made.ensures is)
-    c.found_in.ensures
+    record {
+      first =
+          ok_more c.found_in.result _ _
+          (λ answer is. found_in_made built scene.program.now scene.made.now c.args.it.now c.args.number from.made.number from.path.items c.begin_in-path.result.now
+          c.in_ok-in_made.field-0 answer c.requires.is c.begin_in-path.ensures c.in_ok-in_made.ensures.first is)
+          c.found_in.ensures;
+      looks =
+          looked_in_made built scene.program.now scene.made.now c.args.it.now c.args.number from.made.number from.path.items c.begin_in-path.result.now (g.L.Looks.looks c.args.looks.now) (g.L.Looks.looks c.in_made.new.looks)
+          c.requires.is c.begin_in-path.ensures c.in_made.ensures.looks;
+    }
+
+pub returns-in_err-in_made-clause-looks : goal.returns-in_err-in_made-clause-looks
+returns-in_err-in_made-clause-looks g c =
+    let scene = c.args.ground.now.scene.now in
+    let from = c.args.from.now in
+    looked_in_made built scene.program.now scene.made.now c.args.it.now c.args.number from.made.number from.path.items c.begin_in-path.result.now (g.L.Looks.looks c.args.looks.now) (g.L.Looks.looks c.in_made.new.looks)
+    c.requires.is c.begin_in-path.ensures c.in_made.ensures.looks

@@ -8,5 +8,6 @@ pub returns : goal.returns
 returns g c =
     let scene = c.args.scene.now in
     ok_more c.next_from.result _ _
-    (λ answer is. next_of_all built scene.program.now scene.made.now 0 c.new.result.items answer refl c.new.ensures.items is)
-    c.next_from.ensures
+    (λ answer is. next_of_all built scene.program.now scene.made.now c.open-from.result.made.number c.open-from.result.path.items answer
+    c.open-from.ensures.first c.open-from.ensures.root is)
+    c.next_from.ensures.first

@@ -1,5 +1,6 @@
 use Rattle.std.proofs.Common.{◌≡◌, ◌∙◌, ◌+◌, suc, sym, subst, arith}
 use Rattle.rule_trials.specs.Trials.{built}
+use Rattle.chw_norm.proofs.LookedStates.{LooksBelow, looked_at_none, looked_below_next, looked_so_far}
 use Rattle.chw_norm.proofs.States.{HasNoneBelow, none_below_start, found_if_some, none_if_none, none_at_all}
 use Rattle.chw_norm.proofs.state.next_from.Goals as goal
 
@@ -7,14 +8,26 @@ pub loop-number-init : goal.loop-number-init
 loop-number-init g c =
     let scene = c.args.scene.now in
     let from = c.args.from.now in
-    none_below_start built scene.program.now scene.made.now from.made.number from.path.items
+    record {
+      none =
+          none_below_start built scene.program.now scene.made.now from.made.number from.path.items;
+      looks =
+          looked_at_none built scene.program.now scene.made.now from.made.number from.made.number from.path.items (g.L.Looks.looks c.args.looks.now);
+    }
 
 pub returns-then-is_some : goal.returns-then-is_some
 returns-then-is_some g c =
     let scene = c.args.scene.now in
     let from = c.args.from.now in
-    found_if_some built scene.program.now scene.made.now c.loop-number.number from.made.number from.path.items c.in_ok-found.found
-    (sym c.is_some.ensures ∙ c.if-is_some.true) c.loop-number.invariant c.in_ok-found.ensures
+    record {
+      first =
+          found_if_some built scene.program.now scene.made.now c.loop-number.number from.made.number from.path.items c.in_ok-found.found
+          (sym c.is_some.ensures ∙ c.if-is_some.true) c.loop-number.invariant.none c.in_ok-found.ensures.first;
+      looks =
+          looked_so_far built scene.program.now scene.made.now (suc c.loop-number.number) from.made.number from.path.items (g.L.Looks.looks c.args.looks.now) (g.L.Looks.looks c.in_number.new.looks)
+          (looked_below_next built scene.program.now scene.made.now c.loop-number.number from.made.number from.path.items (g.L.Looks.looks c.args.looks.now) (g.L.Looks.looks c.loop-number.looks) (g.L.Looks.looks c.in_number.new.looks)
+          c.loop-number.invariant.none c.loop-number.invariant.looks c.in_number.ensures.looks);
+    }
 
 pub loop-number-preserved : goal.loop-number-preserved
 loop-number-preserved g c =
@@ -22,13 +35,33 @@ loop-number-preserved g c =
     let from = c.args.from.now in
     let n = c.loop-number.number in
     let next : suc n ≡ n + 1 = omega arith in
-    subst (λ k. HasNoneBelow built scene.program.now scene.made.now k from.made.number from.path.items) next
-    (none_if_none built scene.program.now scene.made.now n from.made.number from.path.items c.in_ok-found.found
-    (sym c.is_some.ensures ∙ c.if-is_some.false) c.loop-number.invariant c.in_ok-found.ensures)
+    record {
+      none =
+          subst (λ k. HasNoneBelow built scene.program.now scene.made.now k from.made.number from.path.items) next
+          (none_if_none built scene.program.now scene.made.now n from.made.number from.path.items c.in_ok-found.found
+          (sym c.is_some.ensures ∙ c.if-is_some.false) c.loop-number.invariant.none c.in_ok-found.ensures.first);
+      looks =
+          subst (λ k. LooksBelow built scene.program.now scene.made.now k from.made.number from.path.items (g.L.Looks.looks c.args.looks.now) (g.L.Looks.looks c.in_number.new.looks)) next
+          (looked_below_next built scene.program.now scene.made.now c.loop-number.number from.made.number from.path.items (g.L.Looks.looks c.args.looks.now) (g.L.Looks.looks c.loop-number.looks) (g.L.Looks.looks c.in_number.new.looks)
+          c.loop-number.invariant.none c.loop-number.invariant.looks c.in_number.ensures.looks);
+    }
 
 pub returns : goal.returns
 returns g c =
     let scene = c.args.scene.now in
     let from = c.args.from.now in
-    none_at_all built scene.program.now scene.made.now c.loop-number.number from.made.number from.path.items
-    (omega (arith, c.loop-number-test.false)) c.loop-number.invariant
+    record {
+      first =
+          none_at_all built scene.program.now scene.made.now c.loop-number.number from.made.number from.path.items
+          (omega (arith, c.loop-number-test.false)) c.loop-number.invariant.none;
+      looks =
+          looked_so_far built scene.program.now scene.made.now c.loop-number.number from.made.number from.path.items (g.L.Looks.looks c.args.looks.now) (g.L.Looks.looks c.loop-number.looks) c.loop-number.invariant.looks;
+    }
+
+pub returns-in_err-found-clause-looks : goal.returns-in_err-found-clause-looks
+returns-in_err-found-clause-looks g c =
+    let scene = c.args.scene.now in
+    let from = c.args.from.now in
+    looked_so_far built scene.program.now scene.made.now (suc c.loop-number.number) from.made.number from.path.items (g.L.Looks.looks c.args.looks.now) (g.L.Looks.looks c.in_number.new.looks)
+    (looked_below_next built scene.program.now scene.made.now c.loop-number.number from.made.number from.path.items (g.L.Looks.looks c.args.looks.now) (g.L.Looks.looks c.loop-number.looks) (g.L.Looks.looks c.in_number.new.looks)
+    c.loop-number.invariant.none c.loop-number.invariant.looks c.in_number.ensures.looks)

@@ -3,21 +3,21 @@ use Rattle.std.specs.List.{flat_map}
 use Rattle.chw_terms.specs.TermSize.{tree_size, terms_size, group_size, alts_size, args_size}
 use Rattle.chw_terms.specs.TermView.{tree_of, terms_of, group_of, alts_of}
 use Rattle.chw_terms.specs.FreeVariables.{occurrences}
-use Rattle.free_variables.specs.Gathered.{gathered, in_arg, in_alt}
+use Rattle.free_variables.specs.Gathered.{gathered, in_arg, in_alt, numbers_of}
 use Rattle.free_variables.proofs.gathering.+gather.Given as goal
 
 abbrev pub invariant-gather-loop-arg : goal.invariant-gather-loop-arg
-invariant-gather-loop-arg l = l.seen.keys ≡ gathered l.under (flat_map in_arg (take l.arg-index l.arg-items)) l.initial.seen.keys
+invariant-gather-loop-arg l = (numbers_of l.seen.items) ≡ gathered l.under (flat_map in_arg (take l.arg-index l.arg-items)) (numbers_of l.initial.seen.items)
 
 abbrev pub invariant-gather_all-loop-element : goal.invariant-gather_all-loop-element
-invariant-gather_all-loop-element l = l.seen.keys ≡ gathered l.under (flat_map occurrences (take l.element-index l.elements)) l.initial.seen.keys
+invariant-gather_all-loop-element l = (numbers_of l.seen.items) ≡ gathered l.under (flat_map occurrences (take l.element-index l.elements)) (numbers_of l.initial.seen.items)
 
 abbrev pub invariant-gather_alts-loop-alt : goal.invariant-gather_alts-loop-alt
-invariant-gather_alts-loop-alt l = l.seen.keys ≡ gathered l.under (flat_map in_alt (take l.alt-index l.alts)) l.initial.seen.keys
+invariant-gather_alts-loop-alt l = (numbers_of l.seen.items) ≡ gathered l.under (flat_map in_alt (take l.alt-index l.alts)) (numbers_of l.initial.seen.items)
 
 abbrev pub invariant-gather_group-loop-binding : goal.invariant-gather_group-loop-binding
 invariant-gather_group-loop-binding l =
-    l.seen.keys ≡ gathered l.under (flat_map (λ b. occurrences b.body) (take l.binding-index l.bindings)) l.initial.seen.keys
+    (numbers_of l.seen.items) ≡ gathered l.under (flat_map (λ b. occurrences b.body) (take l.binding-index l.bindings)) (numbers_of l.initial.seen.items)
 
 -- the calls go into parts of the term, or from a term to its head
 abbrev pub decreases-gather : goal.decreases-gather

@@ -4,10 +4,10 @@ use Rattle.rule_trials.specs.Trials.{AnswersRule}
 use Rattle.rule_trials.proofs.Tried.{of_plain}
 use Rattle.rule_trials.proofs.trial.tried.Goals as goal
 
-pub returns : goal.returns
-returns g c =
+pub returns-clause-exact : goal.returns-clause-exact
+returns-clause-exact g c =
     let scene = c.args.scene.now in
     subst (AnswersRule scene.program.now scene.made.now (spot_of c.args.place.now) c.args.rule c.args.at.now)
     (sym c.without_definition.ensures)
     (of_plain scene.program.now scene.made.now (spot_of c.args.place.now) c.args.rule c.args.at.now
-    c.in_ok-found.found c.in_default.not-Spec c.in_ok-found.ensures)
+    c.in_ok-found.found c.in_default.not-Spec c.in_ok-found.ensures.exact)

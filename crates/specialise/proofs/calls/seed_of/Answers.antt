@@ -4,15 +4,9 @@ use Rattle.rewriting.specs.Spots.{spot_of}
 use Rattle.specialise.specs.Calls.{HaveTypes}
 use Rattle.specialise.specs.Closed.{numbers}
 use Rattle.specialise.specs.Seeds.{made_of_seed}
-use Rattle.specialise.proofs.Called.{called_plain, called_types, is_called, seed_made}
+use Rattle.specialise.proofs.Called.{called_types, is_called, seed_made}
 use Rattle.specialise.proofs.Called.{no_types, types_are}
 use Rattle.specialise.proofs.calls.seed_of.Goals as goal
-
-pub returns-then-not-branch : goal.returns-then-not-branch
-returns-then-not-branch c = λ types gives call.
-    let yes = c.in_ok-is_plain.ensures.1 (called_plain call) in
-    let no = c.if-not-branch.true in
-    absurd cc
 
 pub returns-in_default : goal.returns-in_default
 returns-in_default c = λ types gives call.
@@ -32,7 +26,7 @@ returns c =
     types_are (λ ts. ts.items) o at xs c.in_ok-types.field-0 ts c.in-Some.is
     c.in_ok-types.ensures in
     let call : IsCall o at e ts.items t =
-    is_called e xs ts.items t (c.in_ok-is_plain.ensures.0 c.if-not-branch.false) c.requires.found
+    is_called e xs ts.items t c.requires.plain c.requires.found
     c.requires.named c.requires.free have in
     seed_made e xs ts.items t (made_of_seed _) c.in_ok-inner.inner call c.requires.free
     c.in_ok-inner.ensures c.in_ok-origin.ensures.0 c.in_ok-origin.ensures.1

@@ -1,7 +1,5 @@
 use Rattle.std.proofs.Common.{refl, arith}
 use Rattle.std.proofs.lemmas.Result.{err_from_is_err_and}
-use Rattle.std.specs.List.{each_same}
-use Rattle.chw_norm.specs.declared.place.StepPlace.{StepPlace}
 use Rattle.chw_norm.proofs.Grown.{grown_bounds, grown_spine, not_grown}
 use Rattle.chw_norm.proofs.Puts.{IsMade, put_between}
 use Rattle.chw_norm.proofs.Puts.{put_is_deep, put_is_few, put_is_shallow, put_is_step}
@@ -30,8 +28,8 @@ put-bound-requires-clause-one_each c =
 
 pub returns-in_err-added : goal.returns-in_err-added
 returns-in_err-added c =
-    let p = err_from_is_err_and c.from_residual-in_err-added.result
-    c.from_residual-in_err-added.ensures.1 in
+    let p = err_from_is_err_and c.from_residual.result
+    c.from_residual.ensures.1 in
     rw (p.1, p.2)
     (not_grown c.args.found c.args.trace.now.items c.args.self.now c.grow.new.self c.grow.new.self
     c.args.found.definition c.requires.next refl c.in_err-added.field-0.0 c.in_err-added.ensures)
@@ -43,7 +41,6 @@ returns-then-most c =
     let g = c.grow.new.self in
     let q = c.put-bound.new.self in
     let bound = c.put-bound.result in
-    let from : StepPlace = record { made = f.at.made; path = c.in_ok-clone.field-0 } in
     let made : IsMade f r g q bound = record {
       between = c.requires.between;
       next = c.requires.next;
@@ -54,12 +51,10 @@ returns-then-most c =
     let shallow = put_is_shallow f r g q bound made
     (omega (arith, depths, c.max-most.ensures, c.if-most.true))
     (omega (arith, c.max-most.ensures, c.if-most.true)) in (
-      put_is_step f c.args.trace.now.items c.push.new.self.items r g q from bound made
+      put_is_step f c.args.trace.now.items c.push.new.self.items r g q bound made
           c.in_ok-push.ensures.items,
       record { shallow = shallow; few = put_is_few f r g q bound made },
-      put_between c.states_stay_typed.ensures.steps c.any_step_stays_behind.ensures.sought f r g q
-          from bound made shallow refl
-          (each_same f.at.path.items c.in_ok-clone.field-0.items c.in_ok-clone.ensures.cases.0),
+      put_between c.states_stay_typed.ensures.steps f r g q bound made shallow,
     )
 
 pub returns-else-most : goal.returns-else-most
@@ -69,7 +64,6 @@ returns-else-most c =
     let g = c.grow.new.self in
     let q = c.put-bound.new.self in
     let bound = c.put-bound.result in
-    let from : StepPlace = record { made = f.at.made; path = c.in_ok-clone.field-0 } in
     let made : IsMade f r g q bound = record {
       between = c.requires.between;
       next = c.requires.next;
@@ -77,7 +71,7 @@ returns-else-most c =
       put = c.put-bound.ensures;
     } in
     let depths = c.in_ok-added.ensures.1 in (
-      put_is_step f c.args.trace.now.items c.push.new.self.items r g q from bound made
+      put_is_step f c.args.trace.now.items c.push.new.self.items r g q bound made
           c.in_ok-push.ensures.items,
       put_is_few f r g q bound made,
       put_is_deep f r g q bound made (omega (arith, depths, c.max-most.ensures, c.if-most.false)),

@@ -14,8 +14,5 @@ returns-clause-between c =
       signature = c.in_ok-signature.signature;
       made = made;
       bounds = c.in_ok-bounds.bounds;
-      from = record
-          { made = record { number = 0 }; path = c.new.result };
     })
-    c.requires.tidy c.requires.typed c.in_ok-signature.ensures c.in_ok-made.ensures bounds refl
-    c.new.ensures.items
+    c.requires.tidy c.requires.typed c.in_ok-signature.ensures c.in_ok-made.ensures bounds

@@ -1,13 +1,31 @@
-use Rattle.std.proofs.Common.{refl}
-use Rattle.chw_norm.proofs.Between.{finds_next, scene_is_typed}
+use Rattle.std.proofs.Common.{refl, sym, subst, IfOk}
+use Rattle.rule_trials.specs.Trials.{built}
+use Rattle.chw_norm.specs.Finding.{Suits}
+use Rattle.chw_norm.specs.FoundSteps.{FindsNext}
+use Rattle.chw_norm.specs.Seen.{LooksFrom}
+use Rattle.chw_norm.proofs.Between.{scene_is_typed}
 use Rattle.chw_norm.proofs.progress.Progress.next.Goals as goal
 
-pub next_from-found-requires-clause-typed : goal.next_from-found-requires-clause-typed
-next_from-found-requires-clause-typed g c =
+pub next-found-requires-clause-typed : goal.next-found-requires-clause-typed
+next-found-requires-clause-typed g c =
     scene_is_typed (record { program = c.args.self.now.program; made = c.list.result })
-    c.args.self.now refl c.list.ensures c.requires
+    c.args.self.now refl c.list.ensures c.requires.between
+
+pub next-found-requires-clause-suits : goal.next-found-requires-clause-suits
+next-found-requires-clause-suits g c =
+    subst (λ ms. Suits c.args.self.now.program.now ms c.args.finder.now) (sym c.list.ensures)
+    c.requires.suits
 
 pub returns : goal.returns
 returns g c =
-    finds_next c.args.self.now c.list.result.now c.next_from-found.result
-    c.list.ensures c.requires c.next_from-found.ensures
+    let p = c.args.self.now.program.now in
+    let finder = c.args.finder.now in
+    record {
+      first = subst (λ ms. IfOk c.next-found.result (FindsNext built p ms)) c.list.ensures
+          c.next-found.ensures.first;
+      moves = c.next-found.ensures.moves;
+      looks =
+          subst (λ ms. LooksFrom built p ms finder.made.number finder.path.items
+          (g.L.Looks.looks c.args.looks.now) (g.L.Looks.looks c.next-found.new.looks))
+          c.list.ensures c.next-found.ensures.looks;
+    }

@@ -1,0 +1,95 @@
+-- How many looks a search takes, and how many a run.
+use Rattle.std.specs.Prelude.{◌≡◌, ◌≢◌, ◌⊎◌, ◌<◌, ◌≤◌, ◌+◌, ◌*◌, ℕ, List, [], ◌∷◌, ◌++◌, length}
+use Rattle.std.specs.Prelude.{Some, slice_get, ⊤}
+use Rattle.std.specs.List.{AllByRecursion}
+use Rattle.chw_terms.specs.declared.program.Program.{Program}
+use Rattle.chw_terms.specs.declared.rule.Rule.{Rule}
+use Rattle.chw_terms.specs.declared.scene.Made.{Made}
+use Rattle.chw_terms.specs.TermTree.{TermTree}
+use Rattle.typing_laws.specs.Paths.{IsEarlier}
+use Rattle.rewriting.specs.Origins.{made_of}
+use Rattle.rewriting.specs.Active.{IsPlaceOf}
+use Rattle.rewriting.specs.Runs.{IsOpening, Step, StepsTo}
+use Rattle.rewriting.specs.Spots.{Spot}
+use Rattle.rewriting.specs.Steps.{HasStepBy, origins_in, Where}
+use Rattle.step_order.specs.Sought.{IsSought, IsSoughtPath}
+use Rattle.norm_lines.specs.declared.place.StepAt.{StepAt}
+use Rattle.chw_norm.specs.Running.{Traces}
+
+-- no two of the list are the same
+abbrev pub AreDifferent : {X : Type 0} → List X → Type 0
+AreDifferent [] = ⊤
+AreDifferent (x ∷ xs) = AllByRecursion (λ y. x ≢ y) xs × AreDifferent xs
+
+-- a count grows by so much at most for each of some different things of this kind
+pub record GrowsBy {X : Type 0} (most : ℕ) (kind : X → Type 0) (before after : ℕ) : Type 0
+  where
+    pub things : List X
+    pub different : AreDifferent things
+    pub each : AllByRecursion kind things
+    pub bound : after ≤ before + most * length things
+
+-- a place of a state: the number of a made definition, and a path in its body
+pub record StatePath : Type 0 where
+  pub number : ℕ
+  pub path : List ℕ
+
+-- a term is active there
+pub record IsActiveIn (p : Program) (made : List Made) (x : StatePath) : Type 0 where
+  pub it : Made
+  pub is : slice_get made x.number ≡ Some it
+  pub at : Spot
+  pub term : TermTree
+  pub place : IsPlaceOf (origins_in p made) (made_of it) it.body x.path at term
+
+-- it is at this place, at one above it, or at one after it
+abbrev pub IsSoughtThere : ℕ → List ℕ → StatePath → Type 0
+IsSoughtThere m from x = (m < x.number) ⊎ ((m ≡ x.number) × IsSoughtPath x.path from)
+
+-- the place of the step is before it
+abbrev pub ComesBefore : Where → StatePath → Type 0
+ComesBefore w x =
+    (w.number < x.number) ⊎ ((w.number ≡ x.number) × IsEarlier w.path x.path)
+
+-- a place at which a search looks that begins at this place: an active one that is sought from
+-- there on, and before which no step is that is sought from there on
+pub record IsSeen (rules : List Rule) (p : Program) (made : List Made) (m : ℕ) (from : List ℕ)
+    (x : StatePath) : Type 0 where
+  pub active : IsActiveIn p made x
+  pub sought : IsSoughtThere m from x
+  pub none_before : (w : Where) (new : TermTree)
+      → HasStepBy rules p made w new → IsSought m from w → ComesBefore w x → ⊥
+
+-- a search that begins at this place tries each rule once at most at each place at which it looks
+abbrev pub LooksFrom : List Rule → Program → List Made → ℕ → List ℕ → ℕ → ℕ → Type 0
+LooksFrom rules p made m from before after =
+    GrowsBy (length rules) (IsSeen rules p made m from) before after
+
+-- searches, each with the step to which it led, which lead by these steps from this state to that
+-- one; the next search begins there at this place. The first one begins at the root of the first
+-- made definition, and each other at the place of the step before.
+pub data SearchesLead (rules : List Rule) (p : Program) (opening : List Made) (before : ℕ)
+    : List Step → List Made → ℕ → List ℕ → ℕ → Type 0 where
+  no_search : SearchesLead rules p opening before [] opening 0 [] before
+  then_one : {steps : List Step} {made made' : List Made} {m : ℕ} {from : List ℕ} {s : Step}
+      {between after : ℕ}
+      → SearchesLead rules p opening before steps made m from between
+      → LooksFrom rules p made m from between after
+      → StepsTo rules p made s made'
+      → SearchesLead rules p opening before (steps ++ s ∷ []) made' s.place.number s.place.path
+      after
+
+-- a run takes the looks of such searches by the steps that it traces, and of one more from the
+-- state on to which they lead
+pub record RunLooks (rules : List Rule) (p : Program) (old new : List StepAt)
+    (before after : ℕ) : Type 0 where
+  pub steps : List Step
+  pub trace : Traces old new steps
+  pub opening : List Made
+  pub opens : IsOpening p opening
+  pub made : List Made
+  pub number : ℕ
+  pub path : List ℕ
+  pub between : ℕ
+  pub searches : SearchesLead rules p opening before steps made number path between
+  pub last : LooksFrom rules p made number path between after

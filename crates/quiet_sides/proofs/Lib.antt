@@ -1,0 +1,16 @@
+pub mod Acts
+pub mod Alternatives
+pub mod Arguments
+pub mod Below
+pub mod Chains
+pub mod Forms
+pub mod Heads
+pub mod Loops
+pub mod Passed
+pub mod Refused
+pub mod Shown
+pub mod Sides
+pub mod Spines
+pub mod Still
+pub mod Tested
+pub mod Truths
