@@ -15,7 +15,7 @@ use Rattle.chw_typing.specs.Programs.{AreClosed, IsSound, IsTyped, setting_of}
 use Rattle.chw_typing.specs.Typing.{HasType, h_app, h_ty_app}
 use Rattle.chw_typing.proofs.EvaluatedTypes.{kind_evaluated}
 use Rattle.chw_typing.proofs.Kinded.{function_parts, type_kinded}
-use Rattle.typing_laws.specs.Groups.{each_body}
+use Rattle.chw_typing.specs.Groups.{each_body}
 use Rattle.rewriting.specs.Shapes.{shift_alts}
 use Rattle.chw_meaning.specs.Values.{member, Thunks, none, thunk_and, count_of, thunk_at, type_at, closed_type, joined}
 use Rattle.acts.specs.Levels.{later, term_runs, term_has}

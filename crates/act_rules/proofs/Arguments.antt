@@ -15,7 +15,7 @@ use Rattle.chw_terms.specs.TermView.{applied}
 use Rattle.chw_typing.specs.Scopes.{AreTermTypes}
 use Rattle.chw_typing.specs.Programs.{AreClosed, IsSound, IsTyped, setting_of}
 use Rattle.chw_typing.specs.Typing.{HasType}
-use Rattle.typing_laws.specs.Groups.{rename_arg}
+use Rattle.chw_typing.specs.Groups.{rename_arg}
 use Rattle.chw_meaning.specs.Values.{Thunks, closed_type}
 use Rattle.acts.specs.Levels.{Levels}
 use Rattle.acts.specs.Terms.{TiedBy, Kinded, OriginsTyped, setting_with}

@@ -10,7 +10,7 @@ use Rattle.chw_terms.specs.declared.program.Program.{Program}
 use Rattle.chw_terms.specs.declared.term.Arg.TheVariants.{OfTerm, OfType}
 use Rattle.chw_terms.specs.TermTree.{TermTree, app, ty_app, prim}
 use Rattle.chw_terms.specs.TermView.{applied}
-use Rattle.typing_laws.specs.Given.{types_then}
+use Rattle.chw_typing.specs.Given.{types_then}
 use Rattle.chw_meaning.specs.Values.{History, Value, prim_head, partial, closed, Thunks, none, thunk_and, count_of}
 use Rattle.chw_meaning.specs.Steps.{gives, types_asked, thunks_asked, lacks, by_row, saturated, step}
 use Rattle.chw_meaning.specs.Eval.{Evals, e_app, e_ty_app, e_prim, a_runs, t_runs, Runs, r_gives}

@@ -4,7 +4,7 @@ use Rattle.chw_types.specs.TypeTree.{TypeTree, TypeTrees}
 use Rattle.chw_types.specs.TypeMoves.{raised}
 use Rattle.chw_terms.specs.declared.program.Program.{Program}
 use Rattle.chw_terms.specs.TermTree.{TermTree, var, no_bindings, bind, Alts, no_alts, alt, binders}
-use Rattle.typing_laws.specs.Groups.{each_body}
+use Rattle.chw_typing.specs.Groups.{each_body}
 use Rattle.chw_meaning.specs.Values.{Thunk, member, Thunks, none, thunk_and, count_of, thunk_at, joined, in_group}
 use Rattle.chw_meaning.specs.Eval.{Evals, e_var, Forces, f_member}
 use Rattle.chw_meaning.proofs.Once.{same_some}

@@ -16,7 +16,7 @@ use Rattle.chw_typing.specs.Programs.{AreClosed, IsSound, IsTyped, setting_of}
 use Rattle.chw_typing.specs.Typing.{HasType}
 use Rattle.chw_typing.proofs.Kinded.{typed_more, typed_at, type_kinded}
 use Rattle.chw_typing.proofs.Lists.{found_in_map}
-use Rattle.typing_laws.specs.Given.{AreGiven}
+use Rattle.chw_typing.specs.Given.{AreGiven}
 use Rattle.rewriting.specs.Shapes.{or_body}
 use Rattle.chw_meaning.specs.Values.{History, Value, Thunk, member, Thunks, thunk_at, closed_type, in_group, body_at}
 use Rattle.chw_meaning.specs.Eval.{Evals, e_letrec, f_member}

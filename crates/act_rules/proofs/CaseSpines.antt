@@ -18,8 +18,8 @@ use Rattle.chw_typing.specs.Programs.{AreClosed, IsSound, IsTyped, setting_of}
 use Rattle.chw_typing.specs.Typing.{HasType, h_app, h_ty_app}
 use Rattle.chw_typing.proofs.EvaluatedTypes.{kind_evaluated}
 use Rattle.chw_typing.proofs.Kinded.{function_parts, type_kinded}
-use Rattle.typing_laws.specs.Groups.{rename_arg}
-use Rattle.typing_laws.proofs.TypedSpines.{head_typed}
+use Rattle.chw_typing.specs.Groups.{rename_arg}
+use Rattle.chw_typing.proofs.TypedSpines.{head_typed}
 use Rattle.chw_meaning.specs.Values.{Thunks, type_at, closed_type}
 use Rattle.acts.specs.Levels.{Levels, term_runs, term_has}
 use Rattle.acts.specs.Terms.{Kinded, OriginsTyped, setting_with}

@@ -16,7 +16,7 @@ use Rattle.chw_terms.specs.TermMoves.{Substitution, up_by}
 use Rattle.chw_terms.specs.TermTree.{TermTree, Alts, no_alts, alt, binders}
 use Rattle.chw_typing.specs.HeadTypes.{PatternOf, of_con, of_lit, of_any, fields_at}
 use Rattle.chw_typing.specs.Typing.{AllGive, none_give, give_and}
-use Rattle.typing_laws.specs.Groups.{each_body}
+use Rattle.chw_typing.specs.Groups.{each_body}
 use Rattle.chw_meaning.specs.Values.{Value, Thunk, Thunks, none, thunk_and, count_of, fields_from}
 use Rattle.chw_meaning.specs.Eval.{Choice, goes_on, takes, looks, choice, is_only, by_fields, Arm, matches, bound, arm_of}
 use Rattle.chw_meaning.proofs.Once.{same_some}

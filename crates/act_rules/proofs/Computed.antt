@@ -21,8 +21,8 @@ use Rattle.chw_typing.specs.Scopes.{HasKind, AreTermTypes}
 use Rattle.chw_typing.specs.Programs.{AreClosed, IsSound, IsTyped, setting_of}
 use Rattle.chw_typing.specs.Typing.{HasType}
 use Rattle.chw_typing.proofs.Lists.{turned_onto}
-use Rattle.typing_laws.specs.Given.{types_then, IsSaturated}
-use Rattle.typing_laws.proofs.Saturated.{prim_at_arguments}
+use Rattle.chw_typing.specs.Given.{types_then, IsSaturated}
+use Rattle.chw_typing.proofs.Saturated.{prim_at_arguments}
 use Rattle.chw_layout.specs.Measured.{closed_value}
 use Rattle.chw_meaning.specs.Values.{History, Value, bits, con_of, con_head, closed, Thunks, none, thunk_and, closed_type}
 use Rattle.chw_meaning.specs.Steps.{gives, naturals, computes, on_words, step}

@@ -13,7 +13,7 @@ use Rattle.chw_terms.specs.declared.term.Arg.TheVariants.{OfTerm}
 use Rattle.chw_terms.specs.Evaluated.{evaluated}
 use Rattle.chw_terms.specs.TermTree.{TermTree, app, ty_app, con}
 use Rattle.chw_terms.specs.TermView.{applied}
-use Rattle.typing_laws.specs.Given.{types_then}
+use Rattle.chw_typing.specs.Given.{types_then}
 use Rattle.chw_meaning.specs.Values.{History, con_head, Value, con_of, partial, closed, Thunks, none, thunk_and, count_of, closed_type}
 use Rattle.chw_meaning.specs.Steps.{gives, takes_types, takes_thunks, lacks, saturated, step, params_of, fields_of}
 use Rattle.chw_meaning.specs.Eval.{plus, Evals, e_app, e_ty_app, e_con, a_runs, t_runs, Runs, r_gives}

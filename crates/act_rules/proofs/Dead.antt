@@ -15,9 +15,9 @@ use Rattle.chw_typing.specs.Scopes.{AreTermTypes, with_more, declared}
 use Rattle.chw_typing.specs.Programs.{AreClosed, IsSound, IsTyped, setting_of}
 use Rattle.chw_typing.specs.Typing.{HasType}
 use Rattle.chw_typing.proofs.Kinded.{typed_more, bound_typed, type_kinded}
-use Rattle.typing_laws.specs.Groups.{binding_at, from_body, from_side}
-use Rattle.typing_laws.proofs.Occurrences.{rename_where}
-use Rattle.typing_laws.proofs.Where.{renamed_where}
+use Rattle.chw_typing.specs.Groups.{binding_at, from_body, from_side}
+use Rattle.chw_typing.proofs.Occurrences.{rename_where}
+use Rattle.chw_typing.proofs.Where.{renamed_where}
 use Rattle.rewriting.specs.Shapes.{or_body, marked, closed_up}
 use Rattle.rewriting.specs.Lets.{MarksReached}
 use Rattle.chw_meaning.specs.Values.{member, Thunks, thunk_at, closed_type, in_group, body_at}

@@ -11,7 +11,7 @@ use Rattle.chw_terms.proofs.Renamed.{rename_ids_alts}
 use Rattle.chw_typing.specs.Scopes.{AreTermTypes}
 use Rattle.chw_typing.specs.Programs.{AreClosed, IsSound, IsTyped, setting_of}
 use Rattle.chw_typing.specs.Typing.{HasType, h_case, give_and}
-use Rattle.typing_laws.specs.Groups.{each_body}
+use Rattle.chw_typing.specs.Groups.{each_body}
 use Rattle.chw_meaning.specs.Values.{History, Value, closed, Thunks, none, count_of, closed_type, joined, fields_from}
 use Rattle.chw_meaning.specs.Eval.{plus, choice, goes_on, takes, looks, Arm, arm_of, Evals, e_goes_on, e_takes, e_looks}
 use Rattle.acts.specs.Levels.{Levels, later, Alike, Second, RunsAct, term_runs, term_has}

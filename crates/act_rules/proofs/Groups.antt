@@ -10,7 +10,7 @@ use Rattle.chw_terms.specs.TermTree.{TermTree, letrec, Group, no_bindings, bind,
 use Rattle.chw_typing.specs.Scopes.{Setting, HasKind, with_more, declared}
 use Rattle.chw_typing.specs.Typing.{HasType, h_letrec, AreBound, none_bound, bound_and}
 use Rattle.chw_typing.proofs.Lists.{turned_onto}
-use Rattle.typing_laws.specs.Groups.{joined}
+use Rattle.chw_typing.specs.Groups.{joined}
 use Rattle.chw_meaning.specs.Values.{body_at}
 use Rattle.rewriting.specs.Origins.{with_origins, with_origins_group}
 

@@ -17,10 +17,10 @@ use Rattle.chw_typing.specs.Scopes.{AreTermTypes, with_more, declared}
 use Rattle.chw_typing.specs.Programs.{AreClosed, IsSound, IsTyped, setting_of}
 use Rattle.chw_typing.specs.Typing.{HasType, AreBound}
 use Rattle.chw_typing.proofs.Kinded.{typed_more, bound_typed, type_kinded}
-use Rattle.typing_laws.specs.Groups.{joined}
-use Rattle.typing_laws.proofs.GroupParts.{size_joined}
-use Rattle.typing_laws.proofs.Occurrences.{rename_where}
-use Rattle.typing_laws.proofs.Where.{renamed_where}
+use Rattle.chw_typing.specs.Groups.{joined}
+use Rattle.chw_typing.proofs.GroupParts.{size_joined}
+use Rattle.chw_typing.proofs.Occurrences.{rename_where}
+use Rattle.chw_typing.proofs.Where.{renamed_where}
 use Rattle.rewriting.specs.Shapes.{or_body}
 use Rattle.chw_meaning.specs.Values.{member, Thunks, thunk_at, closed_type, in_group, body_at}
 use Rattle.chw_meaning.specs.Eval.{e_letrec}

@@ -27,9 +27,9 @@ use Rattle.chw_typing.proofs.Kinded.{typed_more, type_kinded}
 use Rattle.chw_typing.proofs.Lists.{found_in_map}
 use Rattle.chw_typing.proofs.Patterns.{pattern_same, one_pattern}
 use Rattle.chw_typing.proofs.SameScopes.{are_same_turned, are_same_through}
-use Rattle.typing_laws.specs.Paths.{Branch}
-use Rattle.typing_laws.specs.Given.{types_then, AreGiven}
-use Rattle.typing_laws.proofs.Saturated.{con_at_arguments}
+use Rattle.chw_typing.specs.Paths.{Branch}
+use Rattle.chw_typing.specs.Given.{types_then, AreGiven}
+use Rattle.chw_typing.proofs.Saturated.{con_at_arguments}
 use Rattle.rewriting.specs.Shapes.{IsTakenBy, by_first, by_later, with_fields}
 use Rattle.chw_meaning.specs.Values.{History, Value, con_of, Thunk, closed, field, Thunks, none, thunk_at, closed_type, joined, fields_from}
 use Rattle.chw_meaning.specs.Eval.{choice, looks, is_only, by_fields, bound, e_goes_on, e_takes, e_looks, f_closed, f_field}

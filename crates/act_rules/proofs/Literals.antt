@@ -19,7 +19,7 @@ use Rattle.chw_typing.specs.Scopes.{Setting, AreTermTypes, AreSame, with_more}
 use Rattle.chw_typing.specs.Programs.{AreClosed, IsSound, IsTyped, setting_of}
 use Rattle.chw_typing.specs.Typing.{HasType, h_lit, AllGive, none_give, give_and}
 use Rattle.chw_typing.proofs.Kinded.{type_kinded}
-use Rattle.typing_laws.specs.Paths.{Branch}
+use Rattle.chw_typing.specs.Paths.{Branch}
 use Rattle.rewriting.specs.Shapes.{IsTakenBy, by_first, by_later}
 use Rattle.chw_meaning.specs.Values.{History, Value, bits, Thunks, none, closed_type, joined}
 use Rattle.chw_meaning.specs.Eval.{choice, looks, same_bits, bound, Evals, e_lit, e_goes_on, e_looks}

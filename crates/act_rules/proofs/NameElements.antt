@@ -24,9 +24,9 @@ use Rattle.chw_typing.specs.Scopes.{Setting, AreTermTypes}
 use Rattle.chw_typing.specs.Programs.{AreClosed, IsSound, IsTyped, setting_of}
 use Rattle.chw_typing.specs.Typing.{HasType, HasTypeUpTo, h_vec, AllHave, none_have, have_and}
 use Rattle.chw_typing.proofs.Kinded.{type_kinded}
-use Rattle.typing_laws.specs.Given.{types_then}
-use Rattle.typing_laws.proofs.Saturated.{prim_at_arguments}
-use Rattle.typing_laws.specs.Paths.{element_at}
+use Rattle.chw_typing.specs.Given.{types_then}
+use Rattle.chw_typing.proofs.Saturated.{prim_at_arguments}
+use Rattle.chw_typing.specs.Paths.{element_at}
 use Rattle.chw_layout.specs.Measured.{closed_value}
 use Rattle.chw_meaning.specs.Values.{History, Value, prim_head, partial, Thunk, closed, element, Thunks, none, thunk_and, thunk_at, type_at, closed_type, closed_all}
 use Rattle.chw_meaning.specs.Steps.{gives, goes_to, step}

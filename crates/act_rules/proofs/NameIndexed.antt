@@ -23,9 +23,9 @@ use Rattle.chw_typing.specs.Scopes.{Setting, HasKind, AreTermTypes}
 use Rattle.chw_typing.specs.Programs.{AreClosed, IsSound, IsTyped, setting_of}
 use Rattle.chw_typing.specs.Typing.{HasType, HasTypeUpTo, h_lit}
 use Rattle.chw_typing.proofs.EvaluatedTypes.{same_evaluated}
-use Rattle.typing_laws.specs.Given.{types_then}
-use Rattle.typing_laws.proofs.Saturated.{prim_at_arguments}
-use Rattle.typing_laws.specs.Paths.{element_at}
+use Rattle.chw_typing.specs.Given.{types_then}
+use Rattle.chw_typing.proofs.Saturated.{prim_at_arguments}
+use Rattle.chw_typing.specs.Paths.{element_at}
 use Rattle.chw_layout.specs.Measured.{closed_value}
 use Rattle.chw_meaning.specs.Values.{History, Value, prim_head, partial, Thunk, closed, element, Thunks, none, thunk_and, closed_type}
 use Rattle.chw_meaning.specs.Steps.{at_index}

@@ -14,7 +14,7 @@ use Rattle.chw_typing.specs.Scopes.{HasKind, AreTermTypes}
 use Rattle.chw_typing.specs.Programs.{AreClosed, IsSound, IsTyped, setting_of}
 use Rattle.chw_typing.specs.Typing.{HasType, HasTypeUpTo}
 use Rattle.chw_typing.proofs.Kinded.{type_kinded}
-use Rattle.typing_laws.specs.Given.{AreGiven}
+use Rattle.chw_typing.specs.Given.{AreGiven}
 use Rattle.chw_meaning.specs.Values.{closed, member, Thunks, none, thunk_at, closed_type, in_group, body_at}
 use Rattle.chw_meaning.specs.Steps.{each_from}
 use Rattle.chw_meaning.specs.Eval.{Evals, Forces, f_closed, f_member, e_var}

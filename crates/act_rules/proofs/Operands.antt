@@ -18,11 +18,11 @@ use Rattle.chw_typing.specs.Programs.{AreClosed, IsSound, IsTyped, setting_of}
 use Rattle.chw_typing.specs.Typing.{count, HasType, h_vec, AllHave, none_have, have_and}
 use Rattle.chw_typing.proofs.Kinded.{type_kinded}
 use Rattle.chw_typing.proofs.Lists.{found_in_map}
-use Rattle.typing_laws.specs.Groups.{rename_arg}
-use Rattle.typing_laws.proofs.Exchanged.{spine_renamed}
-use Rattle.typing_laws.specs.Paths.{element_at, with_element, with_part, argument_path}
-use Rattle.typing_laws.proofs.PathParts.{with_part_below}
-use Rattle.typing_laws.proofs.PathSpines.{with_spine_argument}
+use Rattle.chw_typing.specs.Groups.{rename_arg}
+use Rattle.chw_typing.proofs.Exchanged.{spine_renamed}
+use Rattle.chw_typing.specs.Paths.{element_at, with_element, with_part, argument_path}
+use Rattle.chw_typing.proofs.PathParts.{with_part_below}
+use Rattle.chw_typing.proofs.PathSpines.{with_spine_argument}
 use Rattle.chw_meaning.specs.Values.{Thunks, closed_type, in_group}
 use Rattle.rewriting.specs.Operands.{StandsAt, StandsInCall, of_case, of_con, of_global, of_made, of_prim, of_vector, with_name}
 use Rattle.rewriting.specs.Shapes.{shift_args}

@@ -34,7 +34,7 @@ use Rattle.chw_typing.proofs.Lists.{turned_onto}
 use Rattle.chw_typing.proofs.Patterns.{are_of_terms}
 use Rattle.chw_typing.proofs.PutAgreeing.{Agree, put_agreeing}
 use Rattle.chw_typing.proofs.PutKinds.{sums_put}
-use Rattle.typing_laws.proofs.Saturated.{turned_arguments}
+use Rattle.chw_typing.proofs.Saturated.{turned_arguments}
 use Rattle.chw_meaning.specs.Values.{type_at, closed_type}
 use Rattle.acts.specs.Terms.{Kinded}
 use Rattle.acts.proofs.Closing.{closed_kind, puts_closed}

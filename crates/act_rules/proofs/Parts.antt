@@ -14,7 +14,7 @@ use Rattle.acts.specs.Acts.{acts_from}
 use Rattle.acts.specs.Terms.{OriginsTyped, setting_with}
 use Rattle.acts.proofs.Levels.{from_turns}
 use Rattle.act_rules.proofs.RuleMoves.{same_term_acts}
-use Rattle.typing_laws.specs.Paths.{element_at, with_element, part_of_group, with_side, with_body, Branch, branch_at, with_branch}
+use Rattle.chw_typing.specs.Paths.{element_at, with_element, part_of_group, with_side, with_body, Branch, branch_at, with_branch}
 use Rattle.act_rules.specs.ContextLaws.{ActsAtTypes}
 
 -- two groups of the same declared types, of which each right side acts as the other's

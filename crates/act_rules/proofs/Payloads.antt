@@ -14,7 +14,7 @@ use Rattle.chw_terms.specs.TermTree.{TermTree, var, app}
 use Rattle.chw_typing.specs.Programs.{IsSound}
 use Rattle.chw_typing.specs.Scopes.{Setting, HasKind, AreTermTypes}
 use Rattle.chw_typing.specs.Typing.{HasType, HasTypeUpTo}
-use Rattle.typing_laws.proofs.Saturated.{prim_at_arguments}
+use Rattle.chw_typing.proofs.Saturated.{prim_at_arguments}
 use Rattle.chw_meaning.specs.Values.{History, Value, Thunk, closed, applied, sample, Thunks, thunk_at}
 use Rattle.chw_meaning.specs.Eval.{Evals, Forces, f_closed, f_sample}
 use Rattle.rewriting.specs.Shapes.{fmap_of, ap_of, pure_of}

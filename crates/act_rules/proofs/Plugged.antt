@@ -29,10 +29,10 @@ use Rattle.acts.proofs.Levels.{from_turns, at_later}
 use Rattle.acts.proofs.SameActs.{same_acts}
 use Rattle.acts.proofs.Tied.{tied_later}
 use Rattle.act_rules.proofs.RuleMoves.{tied_more, tied_type}
-use Rattle.typing_laws.specs.Paths.{with_part, with_body, with_element}
-use Rattle.typing_laws.proofs.PathParts.{with_part_below}
-use Rattle.typing_laws.specs.Around.{Around, here, in_lam, in_ty_lam, in_function, in_argument, in_ty_app, in_letrec, in_vector, in_scrutinee, in_branch}
-use Rattle.typing_laws.proofs.Plugged.{same_variables}
+use Rattle.chw_typing.specs.Paths.{with_part, with_body, with_element}
+use Rattle.chw_typing.proofs.PathParts.{with_part_below}
+use Rattle.chw_typing.specs.Around.{Around, here, in_lam, in_ty_lam, in_function, in_argument, in_ty_app, in_letrec, in_vector, in_scrutinee, in_branch}
+use Rattle.chw_typing.proofs.Plugged.{same_variables}
 use Rattle.act_rules.specs.ContextLaws.{ActsAtTypes}
 use Rattle.act_rules.proofs.Parts.{itself_acts, one_side, one_body, one_element, alts_itself, one_alt}
 use Rattle.act_rules.proofs.Variables.{same_variables_act}

@@ -15,7 +15,7 @@ use Rattle.chw_terms.proofs.Renamed.{rename_ids_alts}
 use Rattle.chw_typing.specs.Scopes.{AreTermTypes}
 use Rattle.chw_typing.specs.Programs.{AreClosed, IsSound, IsTyped, setting_of}
 use Rattle.chw_typing.specs.Typing.{HasType}
-use Rattle.typing_laws.specs.Groups.{each_body, rename_arg}
+use Rattle.chw_typing.specs.Groups.{each_body, rename_arg}
 use Rattle.rewriting.specs.Shapes.{shift_args}
 use Rattle.chw_meaning.specs.Values.{Thunks, count_of, closed_type, joined}
 use Rattle.acts.specs.Levels.{Levels, later, term_has}

@@ -14,8 +14,8 @@ use Rattle.chw_typing.specs.Scopes.{AreTermTypes, with_more, declared}
 use Rattle.chw_typing.specs.Programs.{AreClosed, IsSound, IsTyped, setting_of}
 use Rattle.chw_typing.specs.Typing.{HasType}
 use Rattle.chw_typing.proofs.Kinded.{typed_more, bound_typed}
-use Rattle.typing_laws.specs.Groups.{joined}
-use Rattle.typing_laws.proofs.GroupParts.{size_joined}
+use Rattle.chw_typing.specs.Groups.{joined}
+use Rattle.chw_typing.proofs.GroupParts.{size_joined}
 use Rattle.rewriting.specs.Shapes.{shift_group}
 use Rattle.rewriting.specs.Lets.{side_joined}
 use Rattle.chw_meaning.specs.Values.{member, Thunks, thunk_at, closed_type, in_group, body_at}

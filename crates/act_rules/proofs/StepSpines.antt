@@ -8,7 +8,7 @@ use Rattle.chw_terms.specs.declared.term.Arg.TheVariants.{OfTerm, OfType}
 use Rattle.chw_terms.specs.TermTree.{TermTree, app, ty_app}
 use Rattle.chw_terms.specs.TermView.{applied_to, applied}
 use Rattle.chw_typing.specs.Scopes.{AreTermTypes}
-use Rattle.typing_laws.specs.Around.{here, in_function, in_ty_app}
+use Rattle.chw_typing.specs.Around.{here, in_function, in_ty_app}
 use Rattle.acts.specs.Terms.{setting_with}
 use Rattle.act_rules.specs.RuleLaws.{HasOrigins}
 use Rattle.act_rules.specs.ContextLaws.{ActsAtTypes, PlugActs}

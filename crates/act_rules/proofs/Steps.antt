@@ -11,8 +11,8 @@ use Rattle.chw_typing.specs.Scopes.{setting_in, IsTermType}
 use Rattle.chw_typing.specs.Programs.{IsSound, setting_of}
 use Rattle.chw_typing.specs.Typing.{HasTypeUpTo}
 use Rattle.chw_typing.proofs.Kinded.{type_kinded}
-use Rattle.typing_laws.specs.Paths.{with_part}
-use Rattle.typing_laws.specs.Around.{Around}
+use Rattle.chw_typing.specs.Paths.{with_part}
+use Rattle.chw_typing.specs.Around.{Around}
 use Rattle.rewriting.specs.SceneLaws.{SettingOfScene, TypedSceneIsSound, OriginNeedsProgram}
 use Rattle.rewriting.specs.Origins.{made_of, origins_of, origin_at, origin_of, setting_at}
 use Rattle.rewriting.specs.Typed.{IsTypedScene}

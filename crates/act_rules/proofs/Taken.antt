@@ -11,7 +11,7 @@ use Rattle.chw_terms.specs.TermTree.{TermTree, Alts, no_alts, alt}
 use Rattle.chw_typing.specs.Alternatives.{Hides}
 use Rattle.chw_typing.specs.Scopes.{Setting, with_more}
 use Rattle.chw_typing.specs.Typing.{HasType, Binds, AllGive, give_and}
-use Rattle.typing_laws.specs.Paths.{Branch}
+use Rattle.chw_typing.specs.Paths.{Branch}
 use Rattle.rewriting.specs.Shapes.{IsTakenBy, by_first, by_later}
 use Rattle.chw_meaning.specs.Values.{Value, con_of, Thunks}
 use Rattle.chw_meaning.specs.Eval.{matches, bound, arm_of}

@@ -18,8 +18,8 @@ use Rattle.chw_typing.specs.Scopes.{HasKind, AreTermTypes}
 use Rattle.chw_typing.specs.Programs.{AreClosed, IsSound, IsTyped, setting_of}
 use Rattle.chw_typing.specs.Typing.{HasType}
 use Rattle.chw_typing.proofs.Kinded.{type_kinded}
-use Rattle.typing_laws.specs.Given.{types_then, IsSaturated}
-use Rattle.typing_laws.proofs.Saturated.{prim_at_arguments}
+use Rattle.chw_typing.specs.Given.{types_then, IsSaturated}
+use Rattle.chw_typing.proofs.Saturated.{prim_at_arguments}
 use Rattle.chw_meaning.specs.Values.{Thunks, none, closed_type, in_group}
 use Rattle.chw_meaning.specs.Steps.{by_row}
 use Rattle.rewriting.specs.Origins.{with_origins, with_origins_group}

@@ -20,9 +20,9 @@ use Rattle.chw_terms.specs.Unrolled.{named}
 use Rattle.chw_typing.specs.HeadTypes.{PatternOf}
 use Rattle.chw_typing.specs.Scopes.{AreTermTypes}
 use Rattle.chw_typing.specs.Typing.{HasType}
-use Rattle.typing_laws.specs.Groups.{each_body}
-use Rattle.typing_laws.specs.Paths.{Branch}
-use Rattle.typing_laws.specs.Given.{types_then}
+use Rattle.chw_typing.specs.Groups.{each_body}
+use Rattle.chw_typing.specs.Paths.{Branch}
+use Rattle.chw_typing.specs.Given.{types_then}
 use Rattle.rewriting.specs.Shapes.{IsTakenBy, shift_alts, shift_args, with_fields}
 use Rattle.rewriting.specs.Shapes.{or_body, projections}
 use Rattle.acts.specs.Terms.{ActsUnder, setting_with}

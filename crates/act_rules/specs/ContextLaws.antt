@@ -14,8 +14,8 @@ use Rattle.chw_typing.specs.Typing.{HasType}
 use Rattle.chw_meaning.specs.Gives.{Better}
 use Rattle.rewriting.specs.Origins.{with_origins, eta_expanded}
 use Rattle.acts.specs.Terms.{ActsUnder, OriginsTyped, setting_with}
-use Rattle.typing_laws.specs.Paths.{with_part}
-use Rattle.typing_laws.specs.Around.{Around}
+use Rattle.chw_typing.specs.Paths.{with_part}
+use Rattle.chw_typing.specs.Around.{Around}
 
 -- in this scope the first term acts as the second at each type of the second, both with the terms
 -- for the made definitions

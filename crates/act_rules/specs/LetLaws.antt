@@ -5,7 +5,7 @@ use Rattle.chw_terms.specs.Occurs.{occurs}
 use Rattle.chw_terms.specs.TermMoves.{rename, rename_group, shift, sub, sub_group}
 use Rattle.chw_terms.specs.TermMoves.{in_place_of, lowered}
 use Rattle.chw_terms.specs.TermTree.{TermTree, letrec, Group, bind, size_of}
-use Rattle.typing_laws.specs.Groups.{joined}
+use Rattle.chw_typing.specs.Groups.{joined}
 use Rattle.rewriting.specs.Shapes.{or_body, shift_group, marked, closed_up}
 use Rattle.rewriting.specs.Lets.{side_joined, MarksReached}
 use Rattle.act_rules.specs.RuleLaws.{KeepsMeaning}

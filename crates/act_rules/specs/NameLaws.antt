@@ -18,8 +18,8 @@ use Rattle.chw_terms.specs.TermView.{applied}
 use Rattle.chw_typing.specs.HeadTypes.{from_each}
 use Rattle.chw_typing.specs.Scopes.{AreTermTypes}
 use Rattle.chw_typing.specs.Typing.{HasType}
-use Rattle.typing_laws.specs.Given.{types_then}
-use Rattle.typing_laws.specs.Paths.{element_at}
+use Rattle.chw_typing.specs.Given.{types_then}
+use Rattle.chw_typing.specs.Paths.{element_at}
 use Rattle.rewriting.specs.Spots.{Spot}
 use Rattle.rewriting.specs.Operands.{StandsAt, StandsInCall, with_name}
 use Rattle.rewriting.specs.Shapes.{fmap_of}

@@ -10,7 +10,7 @@ use Rattle.chw_terms.specs.TermTree.{TermTree}
 use Rattle.chw_terms.specs.TermView.{applied}
 use Rattle.chw_typing.specs.Scopes.{setting_in, AreTermTypes}
 use Rattle.chw_meaning.specs.Gives.{Better}
-use Rattle.typing_laws.specs.Paths.{with_part}
+use Rattle.chw_typing.specs.Paths.{with_part}
 use Rattle.rewriting.specs.Origins.{Origins, origins_of, origin_at, origin_of}
 use Rattle.rewriting.specs.Typed.{IsTypedScene}
 use Rattle.rewriting.specs.Spots.{Spot}

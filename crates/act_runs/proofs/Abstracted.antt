@@ -17,8 +17,8 @@ use Rattle.chw_typing.specs.Laws.{TypedIsSound}
 use Rattle.chw_meaning.specs.Values.{History, Value, closure, Thunk, closed, Thunks, thunk_and, thunk_at, closed_type}
 use Rattle.chw_meaning.specs.Eval.{plus, Evals, e_var, e_lam, e_app, Forces, f_closed, Applies, a_closure}
 use Rattle.chw_meaning.proofs.Once.{same_some}
-use Rattle.typing_laws.proofs.Free.{free_occur}
-use Rattle.typing_laws.proofs.Occurrences.{rename_where}
+use Rattle.chw_typing.proofs.Free.{free_occur}
+use Rattle.chw_typing.proofs.Occurrences.{rename_where}
 use Rattle.rewriting.specs.Origins.{with_origins, under_each}
 use Rattle.rewriting.specs.Calls.{to_lambdas}
 use Rattle.acts.specs.Levels.{Levels, later, term_has, thunk_has, ThunksAct}

@@ -12,7 +12,7 @@ use Rattle.chw_typing.specs.Programs.{setting_of}
 use Rattle.chw_typing.specs.Scopes.{Setting, AreTermTypes, IsTermType}
 use Rattle.chw_typing.specs.Typing.{HasType, HasTypeUpTo, h_lam}
 use Rattle.chw_typing.proofs.Kinded.{function_takes, type_kinded}
-use Rattle.typing_laws.specs.Around.{here, in_lam, in_function, in_ty_app}
+use Rattle.chw_typing.specs.Around.{here, in_lam, in_function, in_ty_app}
 use Rattle.rewriting.specs.SceneLaws.{NoMadeKeepsType}
 use Rattle.rewriting.specs.Origins.{origin_at, origin_of, setting_at, with_origins}
 use Rattle.rewriting.proofs.PutMade.{made_put}

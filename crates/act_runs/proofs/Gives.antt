@@ -15,7 +15,7 @@ use Rattle.chw_typing.specs.Laws.{TypedIsSound}
 use Rattle.chw_typing.specs.Programs.{LeadsToPort, from_port, to_port}
 use Rattle.chw_typing.proofs.Lists.{found_in_map, found_before_map}
 use Rattle.chw_meaning.specs.Gives.{Better}
-use Rattle.typing_laws.specs.Paths.{with_part}
+use Rattle.chw_typing.specs.Paths.{with_part}
 use Rattle.rewriting.specs.SceneLaws.{NoMadeKeepsType}
 use Rattle.rewriting.specs.Origins.{MadeOf, made_of, eta_expanded, origin_of}
 use Rattle.rewriting.specs.Runs.{first_body, RunsTo, no_more, none_left, step_and, Step, StepsTo, top_of, opened}

@@ -5,7 +5,7 @@ use Rattle.chw_terms.specs.declared.rule.Rule.TheVariants.{TyBeta, Beta, AppLet,
 use Rattle.chw_terms.specs.TermTree.{TermTree}
 use Rattle.chw_typing.specs.Laws.{TypedIsSound}
 use Rattle.chw_typing.specs.Scopes.{AreTermTypes}
-use Rattle.typing_laws.proofs.FoundTyped.{found_is_type}
+use Rattle.chw_typing.proofs.FoundTyped.{found_is_type}
 use Rattle.rewriting.specs.SceneLaws.{NoMadeKeepsType}
 use Rattle.rewriting.specs.Origins.{Origins, origin_at, setting_at}
 use Rattle.rewriting.specs.Spots.{Spot}

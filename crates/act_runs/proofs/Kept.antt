@@ -9,9 +9,9 @@ use Rattle.chw_terms.specs.TermTree.{TermTree}
 use Rattle.chw_typing.specs.Laws.{TypedIsSound}
 use Rattle.chw_typing.specs.Programs.{setting_of}
 use Rattle.chw_typing.specs.Typing.{HasTypeUpTo}
-use Rattle.typing_laws.specs.Paths.{with_part}
-use Rattle.typing_laws.proofs.Complete.{part_complete}
-use Rattle.typing_laws.proofs.ContextPlaces.{around_is_part}
+use Rattle.chw_typing.specs.Paths.{with_part}
+use Rattle.chw_typing.proofs.Complete.{part_complete}
+use Rattle.chw_typing.proofs.ContextPlaces.{around_is_part}
 use Rattle.rewriting.specs.SceneLaws.{NoMadeKeepsType}
 use Rattle.rewriting.specs.Origins.{MadeOf, Origins, made_of, origin_at, origin_of}
 use Rattle.rewriting.proofs.Around.{place_around}

@@ -2,8 +2,8 @@
 use Rattle.std.proofs.Common.{◌≡◌, ℕ, zero, suc, refl, sym, ap, ◌∙◌, List, [], ◌∷◌, Some}
 use Rattle.std.specs.Prelude.{option_map}
 use Rattle.chw_terms.specs.TermTree.{TermTree, lam, app, ty_lam, ty_app, letrec, vec_lit, case_of, Terms, no_terms, term_and, Group, no_bindings, bind, Alts, no_alts, alt}
-use Rattle.typing_laws.specs.Paths.{element_at, with_element, part_of_group, with_side, with_body, branch_at, with_branch, child, with_child, part_at, with_part}
-use Rattle.typing_laws.proofs.PathParts.{way_to, with_part_below}
+use Rattle.chw_typing.specs.Paths.{element_at, with_element, part_of_group, with_side, with_body, branch_at, with_branch, child, with_child, part_at, with_part}
+use Rattle.chw_typing.proofs.PathParts.{way_to, with_part_below}
 use Rattle.rewriting.specs.Origins.{with_origins, with_origins_all, with_origins_group, with_origins_alts}
 
 element_put : (o : ℕ → TermTree) (es : Terms) (i : ℕ) (c : TermTree) → element_at es i ≡ Some c → element_at (with_origins_all o es) i ≡ Some (with_origins o c)

@@ -15,13 +15,13 @@ use Rattle.chw_typing.specs.Scopes.{Setting, IsTermType, AreTermTypes}
 use Rattle.chw_typing.specs.HeadTypes.{from_each}
 use Rattle.chw_typing.specs.Typing.{Binds, HasType, HasTypeUpTo, h_var, h_app}
 use Rattle.chw_typing.proofs.Kinded.{type_kinded}
-use Rattle.typing_laws.specs.TypedPartLaws.{with_made}
-use Rattle.typing_laws.proofs.MoreMade.{typed_with_made, term_types_with_made, sound_with_made}
-use Rattle.typing_laws.specs.Paths.{with_part}
-use Rattle.typing_laws.specs.Around.{Around, here, in_lam, in_ty_lam, in_function, in_argument, in_ty_app, in_letrec, in_vector, in_scrutinee, in_branch}
-use Rattle.typing_laws.proofs.ContextPlaces.{around_is_part}
-use Rattle.typing_laws.proofs.Plugged.{plugged}
-use Rattle.typing_laws.proofs.Typed.{part_typed}
+use Rattle.chw_typing.specs.TypedPartLaws.{with_made}
+use Rattle.chw_typing.proofs.MoreMade.{typed_with_made, term_types_with_made, sound_with_made}
+use Rattle.chw_typing.specs.Paths.{with_part}
+use Rattle.chw_typing.specs.Around.{Around, here, in_lam, in_ty_lam, in_function, in_argument, in_ty_app, in_letrec, in_vector, in_scrutinee, in_branch}
+use Rattle.chw_typing.proofs.ContextPlaces.{around_is_part}
+use Rattle.chw_typing.proofs.Plugged.{plugged}
+use Rattle.chw_typing.proofs.Typed.{part_typed}
 use Rattle.rewriting.specs.Origins.{Origins, origin_at, setting_at, with_origins}
 use Rattle.rewriting.proofs.PutMade.{made_put}
 use Rattle.acts.specs.Terms.{ActsAs, ActsUnder, OriginsAct, OriginsTyped}

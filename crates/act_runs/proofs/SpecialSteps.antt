@@ -24,14 +24,14 @@ use Rattle.chw_typing.proofs.Kinded.{type_kinded}
 use Rattle.chw_typing.proofs.Lists.{found_in_map, found_before_map}
 use Rattle.chw_typing.proofs.OneType.{one_type}
 use Rattle.chw_typing.proofs.SameScopes.{are_same_self}
-use Rattle.typing_laws.proofs.FoundTyped.{found_is_type}
-use Rattle.typing_laws.specs.TypedPartLaws.{with_made}
-use Rattle.typing_laws.proofs.Lowered.{moved_typed}
-use Rattle.typing_laws.proofs.MoreMade.{typed_with_made, term_types_with_made}
-use Rattle.typing_laws.specs.Paths.{with_part}
-use Rattle.typing_laws.proofs.PathParts.{with_part_behind}
-use Rattle.typing_laws.specs.Around.{Around, here, in_function, in_argument}
-use Rattle.typing_laws.proofs.ContextPlaces.{around_is_part, around_behind}
+use Rattle.chw_typing.proofs.FoundTyped.{found_is_type}
+use Rattle.chw_typing.specs.TypedPartLaws.{with_made}
+use Rattle.chw_typing.proofs.Lowered.{moved_typed}
+use Rattle.chw_typing.proofs.MoreMade.{typed_with_made, term_types_with_made}
+use Rattle.chw_typing.specs.Paths.{with_part}
+use Rattle.chw_typing.proofs.PathParts.{with_part_behind}
+use Rattle.chw_typing.specs.Around.{Around, here, in_function, in_argument}
+use Rattle.chw_typing.proofs.ContextPlaces.{around_is_part, around_behind}
 use Rattle.rewriting.specs.SceneLaws.{NamedIsTermKind, NoMadeKeepsType}
 use Rattle.rewriting.specs.Origins.{MadeOf, Origins, made_of, origin_at, origin_of, setting_at, under_each}
 use Rattle.rewriting.proofs.Around.{place_around}

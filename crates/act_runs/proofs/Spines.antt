@@ -7,8 +7,8 @@ use Rattle.chw_terms.specs.declared.term.Arg.TheVariants.{OfTerm, OfType}
 use Rattle.chw_terms.specs.TermTree.{TermTree, app, ty_app}
 use Rattle.chw_terms.specs.TermView.{applied}
 use Rattle.chw_typing.specs.Scopes.{Setting}
-use Rattle.typing_laws.specs.Paths.{with_part}
-use Rattle.typing_laws.specs.Around.{Around, in_function, in_ty_app}
+use Rattle.chw_typing.specs.Paths.{with_part}
+use Rattle.chw_typing.specs.Around.{Around, in_function, in_ty_app}
 
 -- the path to a place of the core
 abbrev pub behind : List Arg → List ℕ → List ℕ

@@ -3,7 +3,7 @@ use Rattle.std.proofs.Common.{[]}
 use Rattle.chw_types.proofs.SameLaws.{same_turned}
 use Rattle.chw_typing.specs.Laws.{TypedIsSound}
 use Rattle.chw_typing.proofs.Kinded.{type_kinded}
-use Rattle.typing_laws.specs.Paths.{with_part}
+use Rattle.chw_typing.specs.Paths.{with_part}
 use Rattle.rewriting.specs.SceneLaws.{NoMadeKeepsType}
 use Rattle.rewriting.specs.Origins.{made_of, origin_at, origin_of, setting_at}
 use Rattle.rewriting.proofs.Around.{place_around}

@@ -16,7 +16,7 @@ use Rattle.chw_typing.specs.Programs.{IsTyped, setting_of}
 use Rattle.chw_typing.specs.Scopes.{IsTermType, AreTermTypes}
 use Rattle.chw_typing.specs.Typing.{HasTypeUpTo}
 use Rattle.chw_meaning.specs.Gives.{Better}
-use Rattle.typing_laws.specs.Paths.{with_part}
+use Rattle.chw_typing.specs.Paths.{with_part}
 use Rattle.rewriting.specs.Origins.{Origins, origin_at, origin_of, setting_at, under_each}
 use Rattle.rewriting.specs.Spots.{Spot}
 use Rattle.rewriting.specs.Calls.{to_lambdas}

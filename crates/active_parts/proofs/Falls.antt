@@ -8,8 +8,8 @@ use Rattle.chw_terms.specs.TermSize.{tree_size, terms_size, group_size, alts_siz
 use Rattle.chw_terms.specs.TermTree.{TermTree, con, prim, Terms, no_terms, term_and}
 use Rattle.chw_terms.specs.TermTree.{Group, no_bindings, bind, Alts, no_alts, alt}
 use Rattle.chw_terms.specs.TermView.{applied}
-use Rattle.typing_laws.specs.Groups.{binding_at}
-use Rattle.typing_laws.specs.Paths.{element_at, Branch, branch_at}
+use Rattle.chw_typing.specs.Groups.{binding_at}
+use Rattle.chw_typing.specs.Paths.{element_at, Branch, branch_at}
 use Rattle.rewriting.specs.Origins.{Origins}
 use Rattle.rewriting.specs.Active.{Below, right_side, let_body, constant_body, scrutinee, branch}
 use Rattle.rewriting.specs.Active.{of_constructor, of_words, of_element, of_vector, demanded, begins}

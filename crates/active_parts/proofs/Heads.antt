@@ -14,8 +14,8 @@ use Rattle.chw_terms.specs.TermView.{applied, terms_of, group_of, alts_of}
 use Rattle.chw_typing.specs.HeadTypes.{PatternOf}
 use Rattle.chw_typing.specs.Scopes.{with_more, declared}
 use Rattle.chw_typing.specs.Typing.{HasType}
-use Rattle.typing_laws.specs.Groups.{binding_at}
-use Rattle.typing_laws.specs.Paths.{element_at, Branch, branch_at}
+use Rattle.chw_typing.specs.Groups.{binding_at}
+use Rattle.chw_typing.specs.Paths.{element_at, Branch, branch_at}
 use Rattle.rewriting.specs.Named.{IsNamed}
 use Rattle.rewriting.specs.Origins.{Origins, setting_at}
 use Rattle.rewriting.specs.Active.{Below, right_side, let_body, constant_body, scrutinee, branch}

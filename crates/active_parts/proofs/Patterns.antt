@@ -7,8 +7,8 @@ use Rattle.chw_terms.specs.TermTree.{TermTree, var, case_of, Alts, no_alts, alt}
 use Rattle.chw_terms.specs.TermView.{alts_of}
 use Rattle.chw_typing.specs.Scopes.{Setting, setting_in}
 use Rattle.chw_typing.specs.Typing.{HasType, h_var, h_case, Binds}
-use Rattle.typing_laws.specs.Paths.{Branch, branch_at}
-use Rattle.typing_laws.proofs.Typed.{given_typed}
+use Rattle.chw_typing.specs.Paths.{Branch, branch_at}
+use Rattle.chw_typing.proofs.Typed.{given_typed}
 use Rattle.active_parts.specs.Below.{HasFields}
 use Rattle.active_parts.proofs.Heads.{listed_branch}
 

@@ -13,7 +13,7 @@ use Rattle.chw_terms.specs.Constructors.{Constructor, con_at}
 use Rattle.chw_terms.specs.TermTree.{TermTree, var, letrec, con, prim, vec_lit, case_of}
 use Rattle.chw_terms.specs.TermView.{tree_of, applied_to, applied}
 use Rattle.chw_typing.specs.HeadTypes.{con_type}
-use Rattle.typing_laws.specs.Paths.{argument_path}
+use Rattle.chw_typing.specs.Paths.{argument_path}
 use Rattle.rewriting.specs.Origins.{Origins}
 use Rattle.rewriting.specs.Active.{Below, right_side, let_body, constant_body, scrutinee, branch, of_constructor, of_words, of_element, of_vector, demanded, begins}
 use Rattle.rewriting.specs.Spots.{Spot, spot, asked_for, head_mode}

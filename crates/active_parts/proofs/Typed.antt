@@ -9,7 +9,7 @@ use Rattle.rewriting.proofs.Settings.{setting_of_scene}
 use Rattle.rewriting.specs.Active.{Below}
 use Rattle.rewriting.specs.Spots.{Spot}
 use Rattle.rewriting.proofs.Around.{below_around}
-use Rattle.typing_laws.proofs.Typed.{PartTyped, part_typed}
+use Rattle.chw_typing.proofs.Typed.{PartTyped, part_typed}
 use Rattle.active_parts.specs.Grounds.{IsTypedAt}
 
 pub below_typed : (scene : Scene) (at : Spot) (e : TermTree) → IsSound (setting_in scene) → IsTypedAt (setting_in scene) at e → (p : List ℕ) (at' : Spot) (x : TermTree) → Below (origins_of scene) at e p at' x → IsTypedAt (setting_in scene) at' x

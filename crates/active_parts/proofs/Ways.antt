@@ -1,7 +1,7 @@
 -- Paths to parts are in the order of the parts.
 use Rattle.std.proofs.Common.{◌≡◌, inl, inr, ℕ, zero, suc, ◌<◌, ◌-◌, refl, ap, arith}
 use Rattle.std.proofs.Common.{List, [], ◌∷◌, ◌++◌, replicate}
-use Rattle.typing_laws.specs.Paths.{IsEarlier, argument_path}
+use Rattle.chw_typing.specs.Paths.{IsEarlier, argument_path}
 use Rattle.active_parts.specs.Parts.{part_path, IsAmong}
 
 -- paths on from one are earlier than paths on from another

@@ -8,7 +8,7 @@ use Rattle.chw_terms.specs.declared.scene.Mode.TheVariants.{K}
 use Rattle.chw_terms.specs.declared.scene.Place.{Place}
 use Rattle.chw_terms.specs.TermTree.{TermTree, app, ty_app, letrec}
 use Rattle.chw_typing.specs.Scopes.{with_more, declared}
-use Rattle.typing_laws.specs.Paths.{argument_path}
+use Rattle.chw_typing.specs.Paths.{argument_path}
 use Rattle.rewriting.specs.Origins.{Origins}
 use Rattle.rewriting.specs.Active.{Below}
 use Rattle.rewriting.specs.Spots.{Spot, spot, HasLets}

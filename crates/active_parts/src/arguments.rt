@@ -6,7 +6,7 @@ ghost use Rattle.chw_terms.specs.TermView.{applied};
 ghost use Rattle.chw_typing.specs.HeadTypes.{con_type};
 ghost use Rattle.chw_typing.specs.Scopes.{setting_in, AreTermTypes};
 ghost use Rattle.con_places.specs.Constructing.{constructor_of};
-ghost use Rattle.typing_laws.specs.Paths.{argument_path};
+ghost use Rattle.chw_typing.specs.Paths.{argument_path};
 ghost use Rattle.rewriting.specs.Origins.{origins_of};
 ghost use Rattle.rewriting.specs.Spots.{spot_of, asked_for};
 ghost use Rattle.active_parts.specs.Grounds.{IsGround};

@@ -9,12 +9,12 @@ ghost use Rattle.active_parts.specs.Grounds.{IsGround};
 use crate::ground::Ground;
 use chw_base::NoMemory;
 use chw_terms::{Place, Term};
+use chw_typing::found_laws::found_is_type;
 use chw_typing::laws::{one_type, types_are_term_types};
 use rewriting::scene_laws::{names_of_modes, settings_of_scenes};
 use rule_parts::named::is_named;
 use std::alloc::Global;
 use term_types::type_of_in;
-use typing_laws::found_laws::found_is_type;
 
 /// Whether a term has a type, and none that is named at the place.
 pub(crate) fn is_unnamed(

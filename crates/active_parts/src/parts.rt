@@ -2,7 +2,7 @@
 ghost use Rattle.std.specs.Prelude.{◌≡◌, ◌≤◌, ◌<◌, [], ◌∷◌, length, reverse, IfOk};
 ghost use Rattle.chw_terms.specs.TermView.{tree_of, group_of, applied};
 ghost use Rattle.chw_typing.specs.Scopes.{setting_in, declared};
-ghost use Rattle.typing_laws.specs.Paths.{argument_path};
+ghost use Rattle.chw_typing.specs.Paths.{argument_path};
 ghost use Rattle.rewriting.specs.Origins.{origins_of};
 ghost use Rattle.rewriting.specs.Spots.{spot_of};
 ghost use Rattle.active_parts.specs.Grounds.{IsGround, IsTypedAt};

@@ -10,7 +10,7 @@ use Rattle.std.proofs.lemmas.List.Elements.{Contains-append_left}
 use Rattle.chw_base.specs.declared.index.VarIx.{VarIx}
 use Rattle.chw_terms.specs.FreeVariables.{free_in}
 use Rattle.chw_terms.specs.TermTree.{TermTree}
-use Rattle.typing_laws.specs.GroupLaws.{FreeAreOccurring}
+use Rattle.chw_typing.specs.GroupLaws.{FreeAreOccurring}
 use Rattle.blocked_places.specs.Cycles.{IsCounted, AddsCounted, AreOfVariables, AreNamedBy}
 
 -- nothing is put to the list where no binding counts

@@ -10,7 +10,7 @@ use Rattle.chw_terms.specs.declared.term.Binding.{Binding}
 use Rattle.chw_terms.specs.TermTree.{TermTree, size_of}
 use Rattle.chw_terms.specs.TermView.{group_of}
 use Rattle.graph_order.specs.Orders.{numbers}
-use Rattle.typing_laws.specs.Groups.{binding_at}
+use Rattle.chw_typing.specs.Groups.{binding_at}
 use Rattle.blocked_places.specs.Cycles.{AreRelated}
 
 pub related_more : {A B : Type 0} (R : A → B → Type 0) (xs : List A) (ys : List B) (x : A) (y : B)

@@ -13,7 +13,7 @@ use Rattle.chw_terms.specs.TermTree.{TermTree, size_of}
 use Rattle.chw_terms.specs.TermView.{group_of}
 use Rattle.graph_order.specs.Orders.{IsCycle}
 use Rattle.graph_order.specs.References.{Refers, Leads, step, step_and, HasNoCycle}
-use Rattle.typing_laws.specs.Groups.{binding_at}
+use Rattle.chw_typing.specs.Groups.{binding_at}
 use Rattle.normal_forms.specs.Blocked.{LeadsThrough}
 use Rattle.normal_forms.specs.Values.{BindingRefers}
 use Rattle.blocked_places.specs.Cycles.{Counts, CountsAt, IsCycleOf, AreCounted}

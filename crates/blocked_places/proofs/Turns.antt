@@ -16,8 +16,8 @@ use Rattle.chw_terms.specs.Unrolled.{at_types}
 use Rattle.chw_types.specs.TypeTree.{nat_lit}
 use Rattle.chw_base.specs.declared.limits.TheConstants.{SCALAR_BITS, VECTOR_LENGTH}
 use Rattle.chw_layout.specs.declared.outcome.NoLayout.{NoLayout}
-use Rattle.typing_laws.specs.FoundLaws.{OneFound}
-use Rattle.typing_laws.specs.Groups.{binding_at}
+use Rattle.chw_typing.specs.FoundLaws.{OneFound}
+use Rattle.chw_typing.specs.Groups.{binding_at}
 use Rattle.rewriting.specs.Lifted.{FindsAt}
 use Rattle.rewriting.specs.Origins.{Origins, setting_at}
 use Rattle.rewriting.specs.Spots.{Spot}

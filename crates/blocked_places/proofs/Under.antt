@@ -14,8 +14,8 @@ use Rattle.chw_terms.specs.TermView.{applied}
 use Rattle.chw_typing.specs.Scopes.{Setting, setting_in}
 use Rattle.chw_layout.specs.declared.outcome.NoLayout.{NoLayout}
 use Rattle.std.specs.List.{slice_get}
-use Rattle.typing_laws.specs.Given.{AsksForNone}
-use Rattle.typing_laws.specs.Paths.{part_at}
+use Rattle.chw_typing.specs.Given.{AsksForNone}
+use Rattle.chw_typing.specs.Paths.{part_at}
 use Rattle.rewriting.specs.Named.{mode_of, UnderLambdas, under_none, under_one}
 use Rattle.rewriting.specs.Origins.{MadeOf, Origins, made_of, origins_of}
 use Rattle.rewriting.specs.Active.{at_it, IsPlaceOf}

@@ -10,7 +10,7 @@ use Rattle.chw_terms.specs.declared.scene.Mode.TheVariants.{V, K}
 use Rattle.chw_terms.specs.declared.term.Binding.{Binding}
 use Rattle.chw_terms.specs.Occurs.{occurs}
 use Rattle.chw_terms.specs.TermTree.{TermTree, letrec, Group}
-use Rattle.typing_laws.specs.Groups.{binding_at}
+use Rattle.chw_typing.specs.Groups.{binding_at}
 use Rattle.rewriting.specs.Named.{IsNamed}
 use Rattle.normal_forms.specs.Blocked.{LeadsThrough}
 use Rattle.normal_forms.specs.Values.{BindingRefers}

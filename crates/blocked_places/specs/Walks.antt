@@ -7,7 +7,7 @@ use Rattle.chw_terms.specs.declared.scene.Mode.{Mode}
 use Rattle.chw_terms.specs.TermTree.{TermTree, lam}
 use Rattle.chw_typing.specs.Scopes.{Setting}
 use Rattle.chw_layout.specs.declared.outcome.NoLayout.{NoLayout}
-use Rattle.typing_laws.specs.Paths.{part_at, IsEarlier}
+use Rattle.chw_typing.specs.Paths.{part_at, IsEarlier}
 use Rattle.rewriting.specs.Named.{UnderLambdas}
 use Rattle.rewriting.specs.Origins.{MadeOf, Origins}
 use Rattle.rewriting.specs.Active.{Below, IsActive}

@@ -16,11 +16,11 @@ use active_parts::{Ground, enter, mode_of};
 use chw_base::{NoMemory, Seq};
 use chw_terms::{Head, Made, Place, Scene, Term};
 use chw_types::{Ty, TyNode};
+use chw_typing::named_laws::data_types_in_order;
 use rewriting::place_laws::place_of_scene_is_typed;
 use rewriting::scene_laws::settings_of_scenes;
 use std::alloc::Global;
 use term_types::Signature;
-use typing_laws::named_laws::data_types_in_order;
 
 /// A blocked place of a body: its path, and what blocks it.
 #[derive(Drop)]

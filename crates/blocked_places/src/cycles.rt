@@ -8,11 +8,11 @@ ghost use Rattle.blocked_places.specs.Cycles.{Counts, AreCounted, AddsCounted, A
 use chw_base::{NoMemory, VarIx, narrow};
 use chw_terms::{Binding, Head, Mode, Term};
 use chw_types::{Data, Ty};
+use chw_typing::group_laws::free_variables;
 use free_variables::free_in;
 use graph_order::{Ordering, order_of};
 use rule_parts::named::is_named;
 use std::alloc::Global;
-use typing_laws::group_laws::free_variables;
 
 // Whether bindings of this type count on a cycle.
 fn counts(alloc: Global, datas: &[Data], mode: Mode, ty: &Ty) -> Result<bool, NoMemory>

@@ -18,10 +18,10 @@ use chw_base::NoMemory;
 use chw_layout::NoLayout;
 use chw_prims::Prim;
 use chw_terms::{Arg, Head, Place, Scene, Term};
+use chw_typing::found_laws::{found_is_type, one_found};
 use rewriting::scene_laws::settings_of_scenes;
 use std::alloc::Global;
 use term_types::{Signature, type_of_in};
-use typing_laws::found_laws::{found_is_type, one_found};
 
 // The limit that the type of a term passes.
 fn type_limit(

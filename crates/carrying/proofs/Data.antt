@@ -14,7 +14,7 @@ use Rattle.chw_terms.specs.declared.program.Program.{Program}
 use Rattle.chw_terms.specs.TermTree.{TermTree, con}
 use Rattle.chw_terms.specs.TermView.{applied}
 use Rattle.chw_typing.specs.HeadTypes.{fields_at}
-use Rattle.typing_laws.specs.Given.{types_then}
+use Rattle.chw_typing.specs.Given.{types_then}
 use Rattle.chw_layout.specs.Encodes.{first_constructor, filled}
 use Rattle.chw_layout.specs.Measured.{fits, tag_width, MeasuredFields, HasWidth}
 use Rattle.chw_layout.proofs.Encodings.{BitsMean, same_tag}

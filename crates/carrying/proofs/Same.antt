@@ -9,9 +9,9 @@ use Rattle.type_laws.specs.SameKept.{FieldsKeepSame}
 use Rattle.type_laws.proofs.SameForms.{as_scalar, as_vector, as_data}
 use Rattle.chw_terms.specs.declared.program.Program.{Program}
 use Rattle.chw_typing.specs.Programs.{IsSound, setting_of}
-use Rattle.typing_laws.specs.Alike.{AreLike}
-use Rattle.typing_laws.proofs.FieldsPut.{AllLike, con_like, fields_like}
-use Rattle.typing_laws.proofs.SameNames.{element_like}
+use Rattle.chw_typing.specs.Alike.{AreLike}
+use Rattle.chw_typing.proofs.FieldsPut.{AllLike, con_like, fields_like}
+use Rattle.chw_typing.proofs.SameNames.{element_like}
 use Rattle.chw_layout.specs.Encodes.{first_constructor, filled}
 use Rattle.chw_layout.specs.Measured.{fits, Measured}
 use Rattle.layout_laws.proofs.SameLayout.{same_number, measured_same}

@@ -7,7 +7,7 @@ use Rattle.chw_terms.specs.declared.program.Program.{Program}
 use Rattle.chw_terms.specs.Evaluated.{evaluated}
 use Rattle.chw_terms.specs.TermTree.{TermTree, prim}
 use Rattle.chw_terms.specs.TermView.{applied as applied_to_all}
-use Rattle.typing_laws.specs.Given.{types_then}
+use Rattle.chw_typing.specs.Given.{types_then}
 use Rattle.chw_meaning.specs.Values.{History, Value, Thunk, closed, applied, sample, Thunks, closed_type}
 use Rattle.chw_meaning.specs.Steps.{samples, delays, in_domain}
 use Rattle.chw_meaning.specs.Eval.{dom, Forces, f_closed, f_applied, Runs, r_goes_to, r_samples, r_first, r_later}

@@ -12,7 +12,7 @@ use Rattle.chw_terms.specs.Evaluated.{evaluated}
 use Rattle.chw_terms.specs.TermTree.{TermTree, app, ty_app, con, prim}
 use Rattle.chw_terms.specs.TermView.{applied}
 use Rattle.chw_typing.proofs.Lists.{turned_onto}
-use Rattle.typing_laws.specs.Given.{types_then}
+use Rattle.chw_typing.specs.Given.{types_then}
 use Rattle.chw_meaning.specs.Values.{History, Head, con_head, prim_head, Value, partial, Thunk, closed, Thunks, none, thunk_and, count_of, closed_type}
 use Rattle.chw_meaning.specs.Steps.{gives, takes_types, takes_thunks, lacks, saturated, step}
 use Rattle.chw_meaning.specs.Eval.{plus, Evals, e_app, e_ty_app, e_con, e_prim, a_runs, t_runs, Runs, r_gives}

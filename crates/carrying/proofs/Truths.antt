@@ -16,7 +16,7 @@ use Rattle.chw_terms.specs.Constructors.{Constructor, con_at}
 use Rattle.chw_terms.specs.declared.program.Program.{Program}
 use Rattle.chw_terms.specs.TermTree.{TermTree, prim}
 use Rattle.chw_terms.specs.TermView.{applied}
-use Rattle.typing_laws.specs.Given.{types_then}
+use Rattle.chw_typing.specs.Given.{types_then}
 use Rattle.chw_layout.specs.Encodes.{filled}
 use Rattle.chw_layout.specs.Measured.{HasWidth, measured_data, con_measured, no_cons_measured, no_fields_measured}
 use Rattle.layout_laws.specs.SameLayout.{SameNumber}

@@ -11,7 +11,7 @@ use Rattle.chw_terms.specs.Evaluated.{evaluated}
 use Rattle.chw_terms.specs.TermTree.{TermTree, prim, vec_lit, Terms}
 use Rattle.chw_terms.specs.TermView.{applied}
 use Rattle.chw_typing.proofs.EvaluatedTypes.{same_evaluated}
-use Rattle.typing_laws.specs.Given.{types_then}
+use Rattle.chw_typing.specs.Given.{types_then}
 use Rattle.chw_layout.specs.Measured.{closed_value, HasWidth}
 use Rattle.chw_layout.proofs.Fitting.{element_width}
 use Rattle.layout_laws.specs.SameLayout.{SameNumber}

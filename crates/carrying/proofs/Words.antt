@@ -17,7 +17,7 @@ use Rattle.chw_terms.specs.TermTree.{TermTree, prim}
 use Rattle.chw_terms.specs.TermView.{applied}
 use Rattle.chw_typing.proofs.EvaluatedTypes.{same_evaluated}
 use Rattle.chw_typing.proofs.Lists.{turned_onto}
-use Rattle.typing_laws.specs.Given.{types_then}
+use Rattle.chw_typing.specs.Given.{types_then}
 use Rattle.chw_layout.specs.Measured.{closed_value, HasWidth}
 use Rattle.chw_layout.proofs.Fitting.{scalar_width}
 use Rattle.layout_laws.specs.SameLayout.{SameNumber}

@@ -10,7 +10,7 @@ use Rattle.chw_terms.specs.declared.term.Pattern.TheVariants.{OfCon, OfLit, Defa
 use Rattle.chw_terms.specs.TermTree.{TermTree, con, case_of, Alts, no_alts, alt}
 use Rattle.chw_terms.specs.TermView.{applied}
 use Rattle.chw_typing.specs.HeadTypes.{fields_at, PatternOf}
-use Rattle.typing_laws.specs.Given.{types_then}
+use Rattle.chw_typing.specs.Given.{types_then}
 use Rattle.chw_layout.specs.Encodes.{filled}
 use Rattle.chw_layout.specs.Measured.{tag_width, HasWidth}
 use Rattle.chw_meaning.specs.Zeros.{IsWide}

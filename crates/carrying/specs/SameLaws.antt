@@ -3,7 +3,7 @@ use Rattle.std.specs.Prelude.{Bool, List}
 use Rattle.chw_types.specs.TypeTree.{TypeTree}
 use Rattle.chw_terms.specs.declared.program.Program.{Program}
 use Rattle.chw_typing.specs.Programs.{IsSound, setting_of}
-use Rattle.typing_laws.specs.Alike.{AreLike}
+use Rattle.chw_typing.specs.Alike.{AreLike}
 use Rattle.chw_meaning.specs.Values.{History, Value, Thunk}
 use Rattle.carrying.specs.Carrying.{Holds, Shows}
 

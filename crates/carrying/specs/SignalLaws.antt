@@ -7,7 +7,7 @@ use Rattle.chw_prims.specs.declared.prim.Primitive.TheVariants.{UnsafeSynchroniz
 use Rattle.chw_terms.specs.declared.program.Program.{Program}
 use Rattle.chw_terms.specs.TermTree.{TermTree, prim}
 use Rattle.chw_terms.specs.TermView.{applied as applied_to_all}
-use Rattle.typing_laws.specs.Given.{types_then}
+use Rattle.chw_typing.specs.Given.{types_then}
 use Rattle.chw_meaning.specs.Values.{History, closed, applied, sample, Thunks, closed_type}
 use Rattle.chw_meaning.specs.Eval.{dom}
 use Rattle.carrying.specs.Carrying.{Shows}

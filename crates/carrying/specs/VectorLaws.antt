@@ -7,7 +7,7 @@ use Rattle.chw_prims.specs.declared.prim.Primitive.TheVariants.{VGet, VAt}
 use Rattle.chw_terms.specs.declared.program.Program.{Program}
 use Rattle.chw_terms.specs.TermTree.{TermTree, prim, vec_lit, Terms}
 use Rattle.chw_terms.specs.TermView.{applied}
-use Rattle.typing_laws.specs.Given.{types_then}
+use Rattle.chw_typing.specs.Given.{types_then}
 use Rattle.chw_layout.specs.Measured.{closed_value, HasWidth}
 use Rattle.chw_meaning.specs.Values.{History, Thunk, closed, element, Thunks, count_of}
 use Rattle.chw_meaning.specs.Values.{closed_type, closed_all}

@@ -12,7 +12,7 @@ use Rattle.prim_bits.specs.Values.{value_of as word_value}
 use Rattle.chw_terms.specs.declared.program.Program.{Program}
 use Rattle.chw_terms.specs.TermTree.{TermTree, prim}
 use Rattle.chw_terms.specs.TermView.{applied}
-use Rattle.typing_laws.specs.Given.{types_then}
+use Rattle.chw_typing.specs.Given.{types_then}
 use Rattle.chw_layout.specs.Measured.{closed_value, HasWidth}
 use Rattle.chw_meaning.specs.Values.{History, Thunk, closed, Thunks, closed_type}
 use Rattle.carrying.specs.Carrying.{Shows}

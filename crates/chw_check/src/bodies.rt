@@ -7,10 +7,10 @@ ghost use Rattle.chw_typing.specs.Programs.{HasItsType, IsSound, setting_of};
 use chw_base::NoMemory;
 use chw_terms::{Def, Program, Scene};
 use chw_types::same;
+use chw_typing::found_laws::found_is_type;
 use chw_typing::laws::one_type;
 use std::alloc::Global;
 use term_types::{Signature, type_of_in};
-use typing_laws::found_laws::found_is_type;
 
 /// The first definition of a program whose body has no type, or another than the declared one; nothing where there is none.
 pub(crate) fn first_untyped<'p>(

@@ -19,11 +19,11 @@ use crate::ports::leads_to_port;
 use chw_base::{Name, NoMemory, Or};
 use chw_terms::Program;
 use chw_types::type_text;
+use chw_typing::named_laws::data_types_in_order;
 use con_places::Constructors;
 use std::alloc::Global;
 use std::marker::Model;
 use term_types::Signature;
-use typing_laws::named_laws::data_types_in_order;
 
 /// A program that is tidy and typed. Contracts see the program.
 #[derive(Drop)]

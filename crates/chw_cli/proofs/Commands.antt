@@ -23,11 +23,11 @@ use Rattle.chw_grammar.specs.Text.{Text}
 use Rattle.chw_norm.specs.Laws.{NothingRefusesANormalRun, OneLastState}
 use Rattle.chw_words.specs.declared.command.Command.{Command}
 use Rattle.chw_words.specs.declared.command.Command.TheVariants.{Emit, Simulate, Check, Normalise, Run, Make}
-use Rattle.compiled.specs.Laws.{NothingRefusesACompile}
+use Rattle.answers.specs.Compilation.Laws.{NothingRefusesACompile}
 use Rattle.data_kinds.specs.Laws.{OneProgram}
-use Rattle.make_answer.specs.Events.{make_stimulus}
+use Rattle.answers.specs.MakeAnswer.Events.{make_stimulus}
 use Rattle.make_text.specs.MakeText.{make_text}
-use Rattle.sim_answer.specs.Laws.{NothingRefusesAStimulus}
+use Rattle.answers.specs.SimAnswer.Laws.{NothingRefusesAStimulus}
 
 -- the laws by which nothing refuses what breaks no restriction
 pub record Laws : Type 0 where

@@ -6,15 +6,15 @@ use Rattle.chw_cli.specs.Descriptions.{Compiles, HasProgram, IsTypedText}
 use Rattle.chw_cli.proofs.OneText.{OneDescription, one_program_for}
 use Rattle.chw_grammar.specs.declared.program.Tree.{Tree}
 use Rattle.chw_terms.specs.declared.program.Program.{Program}
-use Rattle.compiled.specs.Compiling.{CompilesTo, IsCompileFault}
-use Rattle.compiled.specs.Laws.{NothingRefusesACompile}
-use Rattle.compiled.specs.declared.fault.CompileFault.{CompileFault}
+use Rattle.answers.specs.Compilation.Compiling.{CompilesTo, IsCompileFault}
+use Rattle.answers.specs.Compilation.Laws.{NothingRefusesACompile}
+use Rattle.answers.specs.declared.compiled.fault.CompileFault.{CompileFault}
 use Rattle.data_kinds.specs.Laws.{OneProgram}
 use Rattle.netlist.specs.declared.net.Flat.{Flat}
 use Rattle.netlist.specs.declared.net.Net.{Net}
-use Rattle.sim_answer.specs.Laws.{NothingRefusesAStimulus}
-use Rattle.sim_answer.specs.Simulation.{IsSimFault, IsStimulus}
-use Rattle.sim_answer.specs.declared.fault.SimFault.{SimFault}
+use Rattle.answers.specs.SimAnswer.Laws.{NothingRefusesAStimulus}
+use Rattle.answers.specs.SimAnswer.Simulation.{IsSimFault, IsStimulus}
+use Rattle.answers.specs.declared.sim_answer.fault.SimFault.{SimFault}
 
 -- a text that is typed, and of which the program is compiled, compiles
 pub text_compiles : (text : List ℕ) (budget : ℕ) (tree : Tree) (p q : Program) (net : Net) (flat : Flat) → IsTypedText text tree → HasProgram tree p → q ≡ p

@@ -14,10 +14,10 @@ use Rattle.chw_cli.proofs.Normal.{run_status}
 use Rattle.chw_cli.proofs.OneText.{OneDescription}
 use Rattle.chw_grammar.specs.declared.program.Tree.{Tree}
 use Rattle.chw_terms.specs.declared.program.Program.{Program}
-use Rattle.compiled.specs.Compiling.{IsCompileFault}
-use Rattle.compiled.specs.Laws.{NothingRefusesACompile}
-use Rattle.compiled.specs.declared.fault.CompileFault.{CompileFault}
-use Rattle.compiled.specs.declared.fault.CompileFault.TheVariants as compile
+use Rattle.answers.specs.Compilation.Compiling.{IsCompileFault}
+use Rattle.answers.specs.Compilation.Laws.{NothingRefusesACompile}
+use Rattle.answers.specs.declared.compiled.fault.CompileFault.{CompileFault}
+use Rattle.answers.specs.declared.compiled.fault.CompileFault.TheVariants as compile
 use Rattle.data_kinds.specs.Laws.{OneProgram}
 
 -- the refusal of what is wrong with a program is the answer to it

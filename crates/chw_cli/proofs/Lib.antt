@@ -5,6 +5,8 @@ pub mod Descriptions
 pub mod Emitting
 pub mod Exactly
 pub mod Limits
+mod MakeEnds
+mod MakeRefusals
 pub mod Making
 pub mod Normal
 pub mod OneText

@@ -28,14 +28,14 @@ use Rattle.chw_cli.proofs.Simulating.{sim_status}
 use Rattle.chw_grammar.specs.declared.program.Tree.{Tree}
 use Rattle.chw_terms.specs.declared.program.Program.{Program}
 use Rattle.chw_words.specs.declared.budget.TheConstants.{MOST_BUDGET}
-use Rattle.compiled.specs.Compiling.{CompilesTo}
-use Rattle.compiled.specs.Laws.{NothingRefusesACompile}
+use Rattle.answers.specs.Compilation.Compiling.{CompilesTo}
+use Rattle.answers.specs.Compilation.Laws.{NothingRefusesACompile}
 use Rattle.data_kinds.specs.Laws.{OneProgram}
 use Rattle.netlist.specs.declared.net.Flat.{Flat}
 use Rattle.netlist.specs.declared.net.Net.{Net}
-use Rattle.sim_answer.specs.Laws.{NothingRefusesAStimulus}
-use Rattle.sim_answer.specs.Simulation.{IsSimFault, IsStimulus}
-use Rattle.sim_answer.specs.declared.fault.SimFault.{SimFault}
+use Rattle.answers.specs.SimAnswer.Laws.{NothingRefusesAStimulus}
+use Rattle.answers.specs.SimAnswer.Simulation.{IsSimFault, IsStimulus}
+use Rattle.answers.specs.declared.sim_answer.fault.SimFault.{SimFault}
 
 -- a text that compiles and a stimulus of values for its program aren't refused
 tally_is_right : OneDescription → OneProgram → NothingRefusesACompile → NothingRefusesAStimulus → (text stimulus : List ℕ) (tree : Tree) (p q : Program)

@@ -57,8 +57,8 @@ use Rattle.chw_words.specs.declared.taps.TheConstants.{MOST_TAPS}
 use Rattle.netlist.specs.declared.net.Flat.{Flat}
 use Rattle.run_answer.specs.Circuits.{CanRun, IsCircuitFault}
 use Rattle.run_answer.specs.declared.fault.CircuitFault.{CircuitFault}
-use Rattle.sim_answer.specs.Simulation.{IsSimFault}
-use Rattle.sim_answer.specs.declared.fault.SimFault.{SimFault}
+use Rattle.answers.specs.SimAnswer.Simulation.{IsSimFault}
+use Rattle.answers.specs.declared.sim_answer.fault.SimFault.{SimFault}
 use Rattle.stimulus.specs.Stimulus.{IsStimFault}
 use Rattle.stimulus.specs.declared.fault.StimFault.{StimFault}
 

@@ -23,12 +23,12 @@ use Rattle.chw_cli.proofs.TwoTexts.{AreOfTwo, two_are_answered}
 use Rattle.chw_cli.proofs.TwoTexts.IsOfTwo.{of_first, of_both}
 use Rattle.chw_terms.specs.declared.program.Program.{Program}
 use Rattle.chw_words.specs.declared.command.Command.{Command}
-use Rattle.compiled.specs.Laws.{NothingRefusesACompile}
+use Rattle.answers.specs.Compilation.Laws.{NothingRefusesACompile}
 use Rattle.data_kinds.specs.Laws.{OneProgram}
-use Rattle.sim_answer.specs.Laws.{NothingRefusesAStimulus}
-use Rattle.sim_answer.specs.Simulation.{IsStimulus}
-use Rattle.sim_answer.specs.declared.fault.SimFault.{SimFault}
-use Rattle.sim_answer.specs.declared.fault.SimFault.TheVariants as sim
+use Rattle.answers.specs.SimAnswer.Laws.{NothingRefusesAStimulus}
+use Rattle.answers.specs.SimAnswer.Simulation.{IsStimulus}
+use Rattle.answers.specs.declared.sim_answer.fault.SimFault.{SimFault}
+use Rattle.answers.specs.declared.sim_answer.fault.SimFault.TheVariants as sim
 
 pub simulations_are_of_two : (budget : ℕ) → AreOfTwo (SimulateAnswer budget)
 simulations_are_of_two budget _ _ (wrong_text text r w) = of_first text r (wrong_text text r w)

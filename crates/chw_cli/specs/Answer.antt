@@ -28,8 +28,8 @@ use Rattle.judge.specs.declared.states.StateFault.{StateFault}
 use Rattle.netlist.specs.declared.net.Flat.{Flat}
 use Rattle.norm_lines.specs.Lines.{normal_lines}
 use Rattle.rewriting.specs.Runs.{Step}
-use Rattle.compiled.specs.Compiling.{CompilesTo, IsCompileFault}
-use Rattle.compiled.specs.declared.fault.CompileFault.{CompileFault}
+use Rattle.answers.specs.Compilation.Compiling.{CompilesTo, IsCompileFault}
+use Rattle.answers.specs.declared.compiled.fault.CompileFault.{CompileFault}
 use Rattle.net_means.specs.Outputs.{NetMeans}
 use Rattle.net_rules.specs.WellFormed.{WellFormed}
 use Rattle.netlist.specs.Sound.{Sound}
@@ -38,8 +38,8 @@ use Rattle.netlist.specs.declared.net.Net.{Net}
 use Rattle.chw_norm.specs.Rules.{built}
 use Rattle.run_answer.specs.Circuits.{CanRun, IsCircuitFault, IsRunBy}
 use Rattle.run_answer.specs.declared.fault.CircuitFault.{CircuitFault}
-use Rattle.sim_answer.specs.Simulation.{IsSimFault, IsSimulation}
-use Rattle.sim_answer.specs.declared.fault.SimFault.{SimFault}
+use Rattle.answers.specs.SimAnswer.Simulation.{IsSimFault, IsSimulation}
+use Rattle.answers.specs.declared.sim_answer.fault.SimFault.{SimFault}
 use Rattle.stimulus.specs.Stimulus.{IsStimFault}
 use Rattle.stimulus.specs.declared.fault.StimFault.{StimFault}
 use Rattle.verilog_text.specs.Text.{net_text}

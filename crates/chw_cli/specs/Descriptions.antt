@@ -17,7 +17,7 @@ use Rattle.chw_resolve.specs.declared.fault.NameFault.{NameFault}
 use Rattle.chw_terms.specs.Tidy.{IsTidy}
 use Rattle.chw_terms.specs.declared.program.Program.{Program}
 use Rattle.chw_typing.specs.Programs.{IsTyped}
-use Rattle.compiled.specs.Compiling.{CompilesTo}
+use Rattle.answers.specs.Compilation.Compiling.{CompilesTo}
 use Rattle.netlist.specs.declared.net.Flat.{Flat}
 use Rattle.netlist.specs.declared.net.Net.{Net}
 use Rattle.chw_cli.specs.declared.refusal.Refusal.{Refusal}

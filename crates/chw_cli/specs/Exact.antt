@@ -16,14 +16,14 @@ use Rattle.chw_words.specs.declared.budget.TheConstants.{MOST_BUDGET}
 use Rattle.chw_words.specs.declared.command.Command.{Command}
 use Rattle.chw_words.specs.declared.command.Command.TheVariants.{Emit, Simulate, Check, Normalise, Run, Make}
 use Rattle.judge.specs.States.{IsFinished}
-use Rattle.make_answer.specs.Events.{make_stimulus}
+use Rattle.answers.specs.MakeAnswer.Events.{make_stimulus}
 use Rattle.make_text.specs.MakeText.{make_text}
 use Rattle.netlist.specs.declared.net.Flat.{Flat}
 use Rattle.rewriting.specs.Runs.{Step}
 use Rattle.rewriting.specs.Steps.{HasNoStep}
 use Rattle.chw_norm.specs.Rules.{built}
 use Rattle.run_answer.specs.Circuits.{CanRun}
-use Rattle.sim_answer.specs.Simulation.{IsStimulus}
+use Rattle.answers.specs.SimAnswer.Simulation.{IsStimulus}
 use Rattle.stimulus.specs.Stimulus.{Stim}
 
 -- the status is this one, or memory was wanting

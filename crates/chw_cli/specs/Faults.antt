@@ -6,13 +6,13 @@ use Rattle.chw_cli.specs.declared.refusal.Refusal.TheVariants.{Stimulus, Value, 
 use Rattle.chw_norm.specs.declared.running.RunFault.{RunFault}
 use Rattle.chw_norm.specs.declared.running.RunFault.TheVariants as run
 use Rattle.chw_terms.specs.declared.program.Program.{Program}
-use Rattle.compiled.specs.declared.fault.CompileFault.{CompileFault}
-use Rattle.compiled.specs.declared.fault.CompileFault.TheVariants as compile
+use Rattle.answers.specs.declared.compiled.fault.CompileFault.{CompileFault}
+use Rattle.answers.specs.declared.compiled.fault.CompileFault.TheVariants as compile
 use Rattle.judge.specs.Lines.{state_line}
 use Rattle.run_answer.specs.declared.fault.CircuitFault.{CircuitFault}
 use Rattle.run_answer.specs.declared.fault.CircuitFault.TheVariants as circuit
-use Rattle.sim_answer.specs.declared.fault.SimFault.{SimFault}
-use Rattle.sim_answer.specs.declared.fault.SimFault.TheVariants as sim
+use Rattle.answers.specs.declared.sim_answer.fault.SimFault.{SimFault}
+use Rattle.answers.specs.declared.sim_answer.fault.SimFault.TheVariants as sim
 
 -- the refusal of a run of rewriting
 abbrev pub refusal_of_run : RunFault → Refusal

@@ -5,6 +5,7 @@ pub mod Exact
 pub mod Faults
 pub mod Fetching
 pub mod Lines
+pub mod MakeLaws
 pub mod Making
 pub mod Outcome
 pub mod Reads

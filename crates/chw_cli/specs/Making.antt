@@ -7,17 +7,17 @@ use Rattle.chw_cli.specs.declared.refusal.Refusal.{Refusal}
 use Rattle.chw_grammar.specs.declared.program.Tree.{Tree}
 use Rattle.chw_terms.specs.declared.program.Program.{Program}
 use Rattle.chw_words.specs.declared.budget.TheConstants.{MOST_BUDGET}
-use Rattle.compiled.specs.Compiling.{CompilesTo, IsCompileFault}
-use Rattle.compiled.specs.declared.fault.CompileFault.{CompileFault}
-use Rattle.make_answer.specs.Events.{make_stimulus}
-use Rattle.make_answer.specs.Lines.{tally_lines}
-use Rattle.make_answer.specs.Tally.{IsTally}
-use Rattle.make_answer.specs.declared.tally.Tally.{Tally}
+use Rattle.answers.specs.Compilation.Compiling.{CompilesTo, IsCompileFault}
+use Rattle.answers.specs.declared.compiled.fault.CompileFault.{CompileFault}
+use Rattle.answers.specs.MakeAnswer.Events.{make_stimulus}
+use Rattle.answers.specs.MakeAnswer.Lines.{tally_lines}
+use Rattle.answers.specs.MakeAnswer.Tally.{IsTally}
+use Rattle.answers.specs.declared.make_answer.tally.Tally.{Tally}
 use Rattle.make_text.specs.MakeText.{make_text}
 use Rattle.netlist.specs.declared.net.Flat.{Flat}
 use Rattle.netlist.specs.declared.net.Net.{Net}
-use Rattle.sim_answer.specs.Simulation.{IsSimFault}
-use Rattle.sim_answer.specs.declared.fault.SimFault.{SimFault}
+use Rattle.answers.specs.SimAnswer.Simulation.{IsSimFault}
+use Rattle.answers.specs.declared.sim_answer.fault.SimFault.{SimFault}
 
 -- the answer to a program and a stimulus: why the program can't be compiled by so many steps as a
 -- budget has at most; or, where it can, why the text is no stimulus of values for it; or, where it is

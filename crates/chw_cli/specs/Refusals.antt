@@ -16,7 +16,7 @@ use Rattle.chw_grammar.specs.declared.program.Tree.{Tree}
 use Rattle.chw_norm.specs.declared.running.RunFault.{RunFault}
 use Rattle.chw_resolve.specs.declared.fault.NameFault.{NameFault}
 use Rattle.chw_words.specs.declared.command.WordsFault.{WordsFault}
-use Rattle.compiled.specs.declared.fault.CompileFault.{CompileFault}
+use Rattle.answers.specs.declared.compiled.fault.CompileFault.{CompileFault}
 use Rattle.chw_terms.specs.declared.program.Program.{Program}
 use Rattle.chw_terms.specs.declared.scene.Made.{Made}
 use Rattle.judge.specs.Lines.{state_line}
@@ -25,8 +25,8 @@ use Rattle.judge.specs.declared.states.StateFault.{StateFault}
 use Rattle.netlist.specs.declared.net.Flat.{Flat}
 use Rattle.run_answer.specs.Circuits.{IsCircuitFault}
 use Rattle.run_answer.specs.declared.fault.CircuitFault.{CircuitFault}
-use Rattle.sim_answer.specs.Simulation.{IsSimFault}
-use Rattle.sim_answer.specs.declared.fault.SimFault.{SimFault}
+use Rattle.answers.specs.SimAnswer.Simulation.{IsSimFault}
+use Rattle.answers.specs.declared.sim_answer.fault.SimFault.{SimFault}
 use Rattle.stimulus.specs.Stimulus.{IsStimFault}
 use Rattle.stimulus.specs.declared.fault.StimFault.{StimFault}
 

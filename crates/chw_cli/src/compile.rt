@@ -3,14 +3,14 @@ ghost use Rattle.std.specs.Prelude.{IfOk, IfErr};
 ghost use Rattle.chw_cli.specs.Refusals.{IsCompileRefusal, RefusesCompile};
 ghost use Rattle.chw_terms.specs.Tidy.{IsTidy};
 ghost use Rattle.chw_typing.specs.Programs.{IsTyped};
-ghost use Rattle.compiled.specs.Compiling.{IsCompiled};
+ghost use Rattle.answers.specs.Compilation.Compiling.{IsCompiled};
 
 use crate::normalise::refusal_of_state;
 use crate::refusal::Refusal;
+use answers::compiled::{CompileFault, Compiled, compile};
 use chw_base::Or;
 use chw_norm::RunFault;
 use chw_terms::Program;
-use compiled::{CompileFault, Compiled, compile};
 use std::alloc::Global;
 
 /// A program, compiled by so many steps of rewriting at most, or why it can't be.

@@ -7,6 +7,7 @@ mod deliver;
 mod describe;
 mod emit;
 mod fetch;
+pub mod laws;
 mod lines;
 mod make;
 mod normalise;

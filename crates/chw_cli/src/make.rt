@@ -6,15 +6,15 @@ ghost use Rattle.chw_cli.specs.Refusals.{RefusesMade, RefusesTally};
 ghost use Rattle.chw_terms.specs.Tidy.{IsTidy};
 ghost use Rattle.chw_typing.specs.Programs.{IsTyped};
 ghost use Rattle.chw_words.specs.declared.taps.TheConstants.{MOST_TAPS};
-ghost use Rattle.make_answer.specs.Events.{make_stimulus};
+ghost use Rattle.answers.specs.MakeAnswer.Events.{make_stimulus};
 ghost use Rattle.make_text.specs.MakeText.{make_text};
 
 use crate::compile::compiled_of;
 use crate::describe::typed_tree;
 use crate::refusal::Refusal;
+use answers::make_answer::{lines, make_stimulus, tally_of};
 use chw_terms::Program;
 use chw_words::budget::MOST_BUDGET;
-use make_answer::{lines, make_stimulus, tally_of};
 use make_text::laws::made_texts_are_short;
 use make_text::make_text;
 use std::alloc::Global;

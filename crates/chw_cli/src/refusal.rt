@@ -3,6 +3,7 @@ ghost use Rattle.std.specs.Prelude.{◌≡◌};
 ghost use Rattle.chw_cli.specs.Refusals.{of_circuit_fault, of_lex_fault, of_name_fault, of_parse_fault, of_run_fault, of_sim_fault, of_stim_fault, of_type_fault, of_words_fault};
 ghost use Rattle.chw_cli.specs.declared.refusal.Refusal.TheVariants.{Memory};
 
+use answers::sim_answer::SimFault;
 use chw_base::{Name, NoMemory, Or, Seq, WireId};
 use chw_check::TypeFault;
 use chw_lexer::LexFault;
@@ -11,7 +12,6 @@ use chw_parser::ParseFault;
 use chw_resolve::NameFault;
 use chw_words::WordsFault;
 use run_answer::CircuitFault;
-use sim_answer::SimFault;
 use stimulus::StimFault;
 use verilog_rules::VFault;
 

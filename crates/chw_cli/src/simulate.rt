@@ -7,15 +7,15 @@ ghost use Rattle.chw_cli.specs.Fetching.{RefusesFile};
 ghost use Rattle.chw_cli.specs.Reads.{Gets, stimulus_in};
 ghost use Rattle.chw_cli.specs.Refusals.{RefusesSimulation};
 ghost use Rattle.chw_terms.specs.Tidy.{IsTidy};
-ghost use Rattle.compiled.specs.Compiling.{IsCompiled};
-ghost use Rattle.sim_answer.specs.Simulation.{IsSimulation};
+ghost use Rattle.answers.specs.Compilation.Compiling.{IsCompiled};
+ghost use Rattle.answers.specs.SimAnswer.Simulation.{IsSimulation};
 
 use crate::fetch::stimulus_text;
 use crate::refusal::Refusal;
+use answers::compiled::Compiled;
+use answers::sim_answer::lines_of;
 use chw_base::{Name, Shelf};
 use chw_terms::Program;
-use compiled::Compiled;
-use sim_answer::lines_of;
 use std::alloc::Global;
 
 /// The lines of what a program means at the events of the stimulus in a file, or why there are none.

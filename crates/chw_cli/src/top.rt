@@ -11,6 +11,8 @@ use crate::deliver::deliver;
 use crate::refusal::Refusal;
 use crate::status::Status;
 use crate::tell::tell;
+use answers::compiled::laws::nothing_refuses_a_compile;
+use answers::sim_answer::laws::refusals;
 use chw_base::{Name, Or, Shelf, Sink};
 use chw_check::laws::typed_has_no_fault;
 use chw_lexer::laws::{no_fault, one_splitting};
@@ -18,10 +20,8 @@ use chw_norm::laws::{nothing_refuses_a_normal_run, one_last_state};
 use chw_parser::laws::one_tree;
 use chw_resolve::laws::well_named_has_no_fault;
 use chw_words::laws::words_are_one_command;
-use compiled::laws::nothing_refuses_a_compile;
 use data_kinds::kind_laws::one_program;
 use run_answer::laws::nothing_refuses_a_run;
-use sim_answer::laws::refusals;
 use std::alloc::Global;
 
 /// Does what the words ask for: reads the files from the shelf, and writes the answer to `out`, or one line to `err`.

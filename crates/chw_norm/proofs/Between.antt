@@ -12,7 +12,7 @@ use Rattle.chw_terms.specs.Tidy.{IsTidy}
 use Rattle.chw_typing.specs.Programs.{IsTyped}
 use Rattle.rewriting.specs.Origins.{made_of}
 use Rattle.rewriting.specs.Typed.{IsTypedScene}
-use Rattle.typing_laws.specs.Paths.{IsEarlier}
+use Rattle.chw_typing.specs.Paths.{IsEarlier}
 use Rattle.term_types.specs.Signatures.{IsSignature}
 use Rattle.rewriting.specs.Runs.{IsOpening, StepsTo}
 use Rattle.rewriting.specs.Steps.{IsFirst, origins_in, Where}

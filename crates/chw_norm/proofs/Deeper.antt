@@ -7,9 +7,9 @@ use Rattle.chw_terms.specs.Depth.{alts_depth}
 use Rattle.chw_terms.specs.TermTree.{TermTree, var, global, made, lam, app, ty_lam, ty_app, letrec}
 use Rattle.chw_terms.specs.TermTree.{con, prim, lit, vec_lit, case_of, Terms, no_terms, term_and}
 use Rattle.chw_terms.specs.TermTree.{Group, no_bindings, bind, Alts, no_alts, alt}
-use Rattle.typing_laws.specs.Paths.{child, with_child, with_part, part_of_group, with_side}
-use Rattle.typing_laws.specs.Paths.{with_body, element_at, with_element, Branch, branch_at}
-use Rattle.typing_laws.specs.Paths.{with_branch}
+use Rattle.chw_typing.specs.Paths.{child, with_child, with_part, part_of_group, with_side}
+use Rattle.chw_typing.specs.Paths.{with_body, element_at, with_element, Branch, branch_at}
+use Rattle.chw_typing.specs.Paths.{with_branch}
 
 -- a child in another one's place, of which the parts are so deep, and what it adds as a function
 record IsChanged (c c' : TermTree) (most : ℕ) : Type 0 where

@@ -3,8 +3,8 @@ use Rattle.std.proofs.Common.{◌≡◌, ◌⊎◌, inl, inr, ℕ, sym, subst, L
 use Rattle.chw_terms.specs.declared.rule.Rule.{Rule}
 use Rattle.chw_terms.specs.declared.scene.Made.{Made}
 use Rattle.chw_terms.specs.TermTree.{TermTree}
-use Rattle.typing_laws.specs.Paths.{IsEarlier}
-use Rattle.typing_laws.proofs.Order.{never_earlier, earlier_through}
+use Rattle.chw_typing.specs.Paths.{IsEarlier}
+use Rattle.chw_typing.proofs.Order.{never_earlier, earlier_through}
 use Rattle.rewriting.specs.Origins.{Origins}
 use Rattle.rewriting.specs.Spots.{Spot}
 use Rattle.active_parts.proofs.Ways.{AreInOrder}

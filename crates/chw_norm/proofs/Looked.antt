@@ -4,8 +4,8 @@ use Rattle.std.proofs.Common.{List, [], ◌++◌, length}
 use Rattle.std.proofs.lemmas.Bool.{cases_lt}
 use Rattle.chw_terms.specs.declared.rule.Rule.{Rule}
 use Rattle.chw_terms.specs.TermTree.{TermTree}
-use Rattle.typing_laws.specs.Paths.{IsEarlier}
-use Rattle.typing_laws.proofs.Order.{never_earlier, earlier_through}
+use Rattle.chw_typing.specs.Paths.{IsEarlier}
+use Rattle.chw_typing.proofs.Order.{never_earlier, earlier_through}
 use Rattle.rewriting.specs.Origins.{Origins}
 use Rattle.rewriting.specs.Active.{Below, IsActive, at_it}
 use Rattle.rewriting.specs.Spots.{Spot}

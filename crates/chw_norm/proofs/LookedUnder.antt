@@ -7,7 +7,7 @@ use Rattle.chw_terms.specs.declared.term.Arg.{Arg}
 use Rattle.chw_terms.specs.TermTree.{TermTree, lam}
 use Rattle.chw_terms.specs.TermView.{applied}
 use Rattle.chw_typing.specs.Scopes.{Setting}
-use Rattle.typing_laws.specs.Paths.{IsEarlier}
+use Rattle.chw_typing.specs.Paths.{IsEarlier}
 use Rattle.rewriting.specs.Origins.{Origins}
 use Rattle.rewriting.specs.Active.{IsActive}
 use Rattle.rewriting.specs.Spots.{spot}

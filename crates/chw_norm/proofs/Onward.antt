@@ -4,7 +4,7 @@ use Rattle.chw_terms.specs.declared.rule.Rule.{Rule}
 use Rattle.chw_terms.specs.declared.program.Program.{Program}
 use Rattle.chw_terms.specs.declared.scene.Made.{Made}
 use Rattle.chw_terms.specs.TermTree.{TermTree}
-use Rattle.typing_laws.specs.Paths.{IsEarlier}
+use Rattle.chw_typing.specs.Paths.{IsEarlier}
 use Rattle.rewriting.specs.Origins.{Origins}
 use Rattle.rewriting.specs.Active.{Below, IsActive, at_it, below}
 use Rattle.rewriting.specs.Spots.{Spot}

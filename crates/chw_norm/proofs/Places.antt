@@ -4,10 +4,10 @@ use Rattle.std.specs.Prelude.{Option, option_map}
 use Rattle.std.proofs.lemmas.List.{append-nil}
 use Rattle.chw_types.specs.TypeTree.{TypeTree}
 use Rattle.chw_terms.specs.TermTree.{TermTree, lam, con, prim, Group, no_bindings, bind, size_of}
-use Rattle.typing_laws.specs.Groups.{binding_at}
-use Rattle.typing_laws.specs.Paths.{part_of_group, Branch}
-use Rattle.typing_laws.specs.PartLaws.{SpineIsPart, SpineBehind, ArgumentIsSpine}
-use Rattle.typing_laws.specs.PartSpines.{spine_at}
+use Rattle.chw_typing.specs.Groups.{binding_at}
+use Rattle.chw_typing.specs.Paths.{part_of_group, Branch}
+use Rattle.chw_typing.specs.PartLaws.{SpineIsPart, SpineBehind, ArgumentIsSpine}
+use Rattle.chw_typing.specs.PartSpines.{spine_at}
 use Rattle.rewriting.specs.Named.{UnderLambdas, under_none, under_one}
 use Rattle.rewriting.specs.Origins.{MadeOf, Origins}
 use Rattle.rewriting.specs.Active.{Below, right_side, let_body, constant_body, scrutinee}

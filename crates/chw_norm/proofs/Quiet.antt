@@ -10,8 +10,8 @@ use Rattle.chw_terms.specs.TermTree.{TermTree, letrec, con, prim, Group, no_bind
 use Rattle.chw_terms.specs.TermView.{applied, group_of}
 use Rattle.chw_typing.specs.Programs.{IsSound}
 use Rattle.chw_typing.specs.Scopes.{with_more, declared, setting_in, AreTermTypes}
-use Rattle.typing_laws.specs.Groups.{binding_at}
-use Rattle.typing_laws.proofs.Typed.{PartTyped, part_typed}
+use Rattle.chw_typing.specs.Groups.{binding_at}
+use Rattle.chw_typing.proofs.Typed.{PartTyped, part_typed}
 use Rattle.rewriting.specs.Origins.{Origins, origins_of, setting_at}
 use Rattle.rewriting.proofs.Settings.{setting_of_scene}
 use Rattle.rewriting.specs.Active.{Below, right_side, let_body, constant_body, scrutinee, branch}

@@ -9,7 +9,7 @@ use Rattle.chw_terms.specs.declared.program.Program.{Program}
 use Rattle.chw_terms.specs.declared.rule.Rule.{Rule}
 use Rattle.chw_terms.specs.declared.scene.Made.{Made}
 use Rattle.chw_terms.specs.TermTree.{TermTree}
-use Rattle.typing_laws.specs.Paths.{with_part}
+use Rattle.chw_typing.specs.Paths.{with_part}
 use Rattle.rewriting.specs.Runs.{Step, StepsTo}
 use Rattle.rewriting.specs.Steps.{Where}
 use Rattle.rule_trials.specs.Trials.{built, with_new}

@@ -10,8 +10,8 @@ use Rattle.chw_terms.specs.declared.program.Program.{Program}
 use Rattle.chw_terms.specs.declared.scene.Made.{Made}
 use Rattle.chw_terms.specs.Depth.{depth}
 use Rattle.chw_terms.specs.TermTree.{TermTree}
-use Rattle.typing_laws.specs.Paths.{with_part}
-use Rattle.typing_laws.specs.PartSpines.{spine_at}
+use Rattle.chw_typing.specs.Paths.{with_part}
+use Rattle.chw_typing.specs.PartSpines.{spine_at}
 use Rattle.term_types.specs.Signatures.{IsSignature}
 use Rattle.rewriting.specs.Runs.{Step, StepsTo}
 use Rattle.rule_types.specs.States.{IsTypedState}

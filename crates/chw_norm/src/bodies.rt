@@ -3,7 +3,7 @@ ghost use Rattle.std.specs.Prelude.{◌<◌, IfOk};
 ghost use Rattle.chw_base.specs.declared.limits.TheConstants.{MADE_DEPTH};
 ghost use Rattle.chw_terms.specs.Depth.{depth};
 ghost use Rattle.chw_terms.specs.TermTree.{TermTree};
-ghost use Rattle.typing_laws.specs.Paths.{with_part};
+ghost use Rattle.chw_typing.specs.Paths.{with_part};
 ghost use Rattle.chw_norm.specs.Bounds.{AreBounds, IsBound};
 
 use chw_base::NoMemory;

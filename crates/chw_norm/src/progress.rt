@@ -17,6 +17,7 @@ use crate::running::RunFault;
 use chw_base::limits::MADE_DEPTH;
 use chw_base::{NoMemory, Or};
 use chw_terms::{Made, Program, Scene, Term, depth};
+use chw_typing::part_laws::{spines_are_parts, spines_below_spines, spines_of_parts};
 use looks::Looks;
 use made_states::laws::states_stay_typed;
 use made_table::Table;
@@ -24,7 +25,6 @@ use norm_lines::StepAt;
 use opening::laws::opening_is_typed;
 use std::alloc::Global;
 use term_types::Signature;
-use typing_laws::part_laws::{spines_are_parts, spines_below_spines, spines_of_parts};
 
 /// What a run holds between two steps.
 #[derive(Drop)]

@@ -16,6 +16,7 @@ use crate::trail::Trail;
 use active_parts::Ground;
 use chw_base::{MadeId, NoMemory, narrow};
 use chw_terms::{Made, Scene};
+use chw_typing::named_laws::data_types_in_order;
 use looks::Looks;
 use made_table::Table;
 use norm_lines::StepAt;
@@ -23,7 +24,6 @@ use rewriting::place_laws::place_of_scene_is_typed;
 use rewriting::scene_laws::settings_of_scenes;
 use std::alloc::Global;
 use term_types::Signature;
-use typing_laws::named_laws::data_types_in_order;
 
 // The step with the number of its made definition, and its path with the first number first.
 fn found_in(number: usize, found: Option<Trail>) -> Result<Option<Found>, NoMemory>

@@ -8,8 +8,8 @@ use Rattle.chw_terms.specs.TermTree.{TermTree, case_of, Alts, no_alts, alt, bind
 use Rattle.chw_terms.specs.TermView.{alts_of}
 use Rattle.chw_terms.proofs.ShiftLaws.{raised_is}
 use Rattle.chw_typing.specs.Alternatives.{Hides, HasDefault}
-use Rattle.typing_laws.specs.Groups.{each_body}
-use Rattle.typing_laws.specs.Paths.{Branch}
+use Rattle.chw_typing.specs.Groups.{each_body}
+use Rattle.chw_typing.specs.Paths.{Branch}
 use Rattle.rewriting.specs.Shapes.{IsTakenBy, by_first, by_later, shift_alts, IsDefaultOrNone}
 use Rattle.flow_cases.specs.Moves.{alt_under, looked_at}
 use Rattle.flow_cases.specs.Taken.{branch_of}

@@ -8,7 +8,7 @@ use Rattle.chw_terms.specs.declared.term.Head.{Head}
 use Rattle.chw_terms.specs.TermTree.{TermTree, var, con, lit, letrec, case_of, Alts, alt, no_alts}
 use Rattle.chw_terms.specs.declared.term.Pattern.TheVariants.{OfCon, Default}
 use Rattle.chw_terms.specs.TermView.{tree_of, applied}
-use Rattle.typing_laws.specs.Given.{types_then}
+use Rattle.chw_typing.specs.Given.{types_then}
 use Rattle.rewriting.specs.Origins.{Origins}
 use Rattle.rewriting.specs.Spots.{Spot}
 use Rattle.rewriting.specs.Cases.{OfCases, case_con, case_lit, case_any, case_let, case_case, proj}

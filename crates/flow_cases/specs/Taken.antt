@@ -5,7 +5,7 @@ use Rattle.chw_terms.specs.declared.term.Pattern.{Pattern}
 use Rattle.chw_terms.specs.declared.term.Pattern.TheVariants.{OfCon, OfLit, Default}
 use Rattle.chw_terms.specs.TermTree.{TermTree, no_alts, alt}
 use Rattle.chw_terms.specs.TermView.{alts_of}
-use Rattle.typing_laws.specs.Paths.{Branch}
+use Rattle.chw_typing.specs.Paths.{Branch}
 use Rattle.rewriting.specs.Shapes.{IsTakenBy}
 use Rattle.flow_cases.specs.declared.alternatives.Known.{Known}
 use Rattle.flow_cases.specs.declared.alternatives.Known.TheVariants.{Constructor, Literal}

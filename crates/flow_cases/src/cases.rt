@@ -5,7 +5,7 @@ ghost use Rattle.chw_terms.specs.declared.rule.Rule.TheVariants.{CaseCase};
 ghost use Rattle.chw_terms.specs.TermTree.{case_of, binders};
 ghost use Rattle.chw_terms.specs.TermView.{alts_of};
 ghost use Rattle.chw_typing.specs.Scopes.{setting_in};
-ghost use Rattle.typing_laws.specs.Groups.{each_body};
+ghost use Rattle.chw_typing.specs.Groups.{each_body};
 ghost use Rattle.rewriting.specs.Named.{IsNamed};
 ghost use Rattle.rewriting.specs.Origins.{origins_of};
 ghost use Rattle.rewriting.specs.Spots.{spot_of};
@@ -20,12 +20,12 @@ use crate::parts::bare_head;
 use chw_base::NoMemory;
 use chw_terms::{Alt, Head, Mode, Place, Scene, Term};
 use chw_types::{Data, Ty};
+use chw_typing::found_laws::found_is_type;
 use chw_typing::laws::{one_type, types_are_term_types};
 use rewriting::scene_laws::{names_of_modes, settings_of_scenes};
 use rule_parts::named::is_named;
 use std::alloc::Global;
 use term_types::{Signature, type_of_in};
-use typing_laws::found_laws::found_is_type;
 
 // The body of an alternative, which is looked at by a case with these alternatives.
 fn body_looked_at(alloc: Global, alt: &Alt, outer: &[Alt]) -> Result<Term, NoMemory>

@@ -9,7 +9,7 @@ use Rattle.chw_terms.specs.declared.term.Arg.TheVariants.{OfTerm}
 use Rattle.chw_terms.specs.declared.term.Binding.{Binding}
 use Rattle.chw_terms.specs.TermTree.{TermTree, size_of, alt, binders}
 use Rattle.chw_terms.specs.TermView.{group_of, alts_of}
-use Rattle.typing_laws.specs.Groups.{each_body, rename_arg}
+use Rattle.chw_typing.specs.Groups.{each_body, rename_arg}
 use Rattle.rewriting.specs.Shapes.{shift_args}
 use Rattle.flow_demanded.specs.Moves.{on_arg, alt_on_arg}
 

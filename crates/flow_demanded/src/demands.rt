@@ -16,12 +16,12 @@ use crate::looks::looks_at;
 use chw_base::NoMemory;
 use chw_prims::Prim;
 use chw_terms::{Arg, Mode, Place, Scene, Term};
+use chw_typing::found_laws::found_is_type;
 use chw_typing::laws::{one_type, types_are_term_types};
 use rewriting::scene_laws::{names_of_modes, settings_of_scenes};
 use rule_parts::named::is_named;
 use std::alloc::Global;
 use term_types::{Signature, type_of_in};
-use typing_laws::found_laws::found_is_type;
 
 // Whether a term at a place that isn't one of a constant has a type, and none that is named there.
 fn is_unnamed(

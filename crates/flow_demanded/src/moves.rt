@@ -2,7 +2,7 @@
 ghost use Rattle.std.specs.Prelude.{◌≡◌, ◌<◌, ◌++◌, length, IfOk};
 ghost use Rattle.chw_terms.specs.TermTree.{letrec, case_of, size_of};
 ghost use Rattle.chw_terms.specs.TermView.{group_of, alts_of};
-ghost use Rattle.typing_laws.specs.Groups.{each_body};
+ghost use Rattle.chw_typing.specs.Groups.{each_body};
 ghost use Rattle.rewriting.specs.Shapes.{shift_args};
 ghost use Rattle.flow_demanded.specs.Moves.{on_arg, alt_on_arg};
 

@@ -11,7 +11,7 @@ use Rattle.chw_terms.specs.TermMoves.{rename, rename_alts}
 use Rattle.chw_terms.specs.TermTree.{TermTree, var, app, ty_app, letrec, Group, size_of, alt, binders}
 use Rattle.chw_terms.specs.TermView.{alts_of, group_of, applied_to}
 use Rattle.chw_terms.proofs.ShiftLaws.{raised_is}
-use Rattle.typing_laws.specs.Groups.{each_body, rename_arg}
+use Rattle.chw_typing.specs.Groups.{each_body, rename_arg}
 use Rattle.rewriting.specs.Origins.{Origins}
 use Rattle.rewriting.specs.Spots.{Spot}
 use Rattle.rewriting.specs.Functions.{OfFunctions, app_let, app_let_type}

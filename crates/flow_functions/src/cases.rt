@@ -5,7 +5,7 @@ ghost use Rattle.chw_terms.specs.TermMoves.{shift};
 ghost use Rattle.chw_terms.specs.TermTree.{var, app, ty_app, case_of};
 ghost use Rattle.chw_terms.specs.TermView.{alts_of};
 ghost use Rattle.chw_typing.specs.Scopes.{setting_in};
-ghost use Rattle.typing_laws.specs.Groups.{each_body};
+ghost use Rattle.chw_typing.specs.Groups.{each_body};
 ghost use Rattle.rewriting.specs.Origins.{origins_of};
 ghost use Rattle.rewriting.specs.Spots.{spot_of};
 ghost use Rattle.rewriting.specs.Shapes.{shift_alts};
@@ -17,11 +17,11 @@ ghost use Rattle.flow_functions.specs.Moves.{at_type, at_name};
 use chw_base::{NoMemory, VarIx};
 use chw_terms::{Alt, Arg, Head, Place, Scene, Term, shift};
 use chw_types::Ty;
+use chw_typing::found_laws::found_is_type;
 use rewriting::scene_laws::settings_of_scenes;
 use rule_parts::copies::let_one;
 use std::alloc::Global;
 use term_types::{Signature, type_of_in};
-use typing_laws::found_laws::found_is_type;
 
 // An alternative whose body gets the type.
 fn alt_at_type(alloc: Global, alt: &Alt, ty: &Ty) -> Result<Alt, NoMemory>

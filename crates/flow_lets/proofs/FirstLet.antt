@@ -8,7 +8,7 @@ use Rattle.chw_terms.specs.declared.term.Head.TheVariants.{Var, Global, Made, La
 use Rattle.chw_terms.specs.TermTree.{TermTree, var, global, made, lam, app, ty_lam, ty_app, letrec, con, prim, lit, vec_lit, case_of, Group, bind}
 use Rattle.chw_terms.specs.TermView.{tree_of, applied, group_of}
 use Rattle.chw_terms.proofs.Spines.{left_with_next}
-use Rattle.typing_laws.specs.Groups.{joined}
+use Rattle.chw_typing.specs.Groups.{joined}
 use Rattle.rewriting.specs.Shapes.{IsLet, NoLetIn}
 use Rattle.rewriting.proofs.Spines.{args_are}
 use Rattle.rule_parts.proofs.Heads.{bare}

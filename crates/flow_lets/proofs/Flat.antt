@@ -9,7 +9,7 @@ use Rattle.chw_terms.specs.declared.term.Head.{Head}
 use Rattle.chw_terms.specs.TermMoves.{shift}
 use Rattle.chw_terms.specs.TermTree.{TermTree, letrec, Group, no_bindings, bind, size_of}
 use Rattle.chw_terms.specs.TermView.{tree_of, applied}
-use Rattle.typing_laws.specs.Groups.{joined}
+use Rattle.chw_typing.specs.Groups.{joined}
 use Rattle.rewriting.specs.Origins.{Origins}
 use Rattle.rewriting.specs.Spots.{Spot}
 use Rattle.rewriting.specs.Lets.{OfLets, flat_side, flat_body, dead, inline, side_joined}

@@ -6,7 +6,7 @@ use Rattle.chw_terms.specs.declared.term.Binding.{Binding}
 use Rattle.chw_terms.specs.TermMoves.{rename, rename_group, exchanged, shift}
 use Rattle.chw_terms.specs.TermTree.{TermTree, Group, no_bindings, bind, size_of}
 use Rattle.chw_terms.specs.TermView.{group_of}
-use Rattle.typing_laws.specs.Groups.{joined}
+use Rattle.chw_typing.specs.Groups.{joined}
 use Rattle.rewriting.specs.Lets.{side_joined}
 use Rattle.rewriting.specs.Shapes.{shift_group}
 use Rattle.flow_lets.specs.Moves.{raised_side, exchanged_side}

@@ -3,7 +3,7 @@ ghost use Rattle.std.specs.Prelude.{◌≡◌, suc, IfOk};
 ghost use Rattle.chw_terms.specs.TermMoves.{exchanged, rename_group, shift};
 ghost use Rattle.chw_terms.specs.TermTree.{letrec, size_of};
 ghost use Rattle.chw_terms.specs.TermView.{group_of};
-ghost use Rattle.typing_laws.specs.Groups.{joined};
+ghost use Rattle.chw_typing.specs.Groups.{joined};
 ghost use Rattle.rewriting.specs.Lets.{side_joined};
 ghost use Rattle.rewriting.specs.Shapes.{shift_group};
 ghost use Rattle.flow_lets.specs.Moves.{raised_side, exchanged_side};

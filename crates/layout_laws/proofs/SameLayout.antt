@@ -17,9 +17,9 @@ use Rattle.chw_layout.specs.Datum.{Datum, word, elements, Datums}
 use Rattle.chw_layout.specs.Measured.{Measure, fits, closed_value, tag_width, scalar_measure, vector_measure, Measured, measured_scalar, measured_vector, measured_data, MeasuredCons, no_cons_measured, con_measured, MeasuredFields, no_fields_measured, field_measured}
 use Rattle.chw_layout.specs.Encodes.{filled, IsValueOf, scalar_value, vector_value, data_value, AreElements, no_elements, element_and, AreFields, no_fields, field_and, Encodes, scalar_bits, vector_bits, data_bits, EncodesElements, no_element_bits, element_bits, EncodesFields, no_field_bits, field_bits}
 use Rattle.chw_meaning.specs.Zeros.{IsZero, zero_scalar, zero_vector, zero_data, AreZeros, no_zeros, zeros_and, AreZeroFields, no_zero_field, zero_field_and}
-use Rattle.typing_laws.specs.Alike.{AreLike}
-use Rattle.typing_laws.proofs.FieldsPut.{same_count, AllLike, ConsLike, con_like, fields_like}
-use Rattle.typing_laws.proofs.SameNames.{element_like}
+use Rattle.chw_typing.specs.Alike.{AreLike}
+use Rattle.chw_typing.proofs.FieldsPut.{same_count, AllLike, ConsLike, con_like, fields_like}
+use Rattle.chw_typing.proofs.SameNames.{element_like}
 
 -- types that are the same have one value as naturals, whatever their variables stand for
 same_value : SameValues → (ρ : ℕ → ℕ) → ((x : ℕ) → ρ x ≤ greatest) → {t u : TypeTree} → SameTypes t u → natural_value ρ t ≡ natural_value ρ u

@@ -2,7 +2,7 @@
 use Rattle.std.specs.Prelude.{◌≡◌, Bool, List}
 use Rattle.chw_types.specs.TypeTree.{TypeTree}
 use Rattle.chw_types.specs.SameTypes.{SameTypes}
-use Rattle.typing_laws.specs.Alike.{IsKept}
+use Rattle.chw_typing.specs.Alike.{IsKept}
 use Rattle.chw_layout.specs.Datum.{Datum}
 use Rattle.chw_layout.specs.Measured.{Measure, closed_value, Measured}
 use Rattle.chw_layout.specs.Encodes.{IsValueOf, Encodes}

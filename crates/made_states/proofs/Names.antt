@@ -15,11 +15,11 @@ use Rattle.chw_terms.specs.declared.term.Pattern.{Pattern}
 use Rattle.chw_typing.proofs.Lists.{found_in_map}
 use Rattle.chw_typing.specs.Scopes.{AreTermTypes, IsTermType, Setting}
 use Rattle.chw_typing.specs.Typing.{AllGive, AllHave, AreBound, Binds, HasType, bound_and, give_and, h_app, h_case, h_con, h_global, h_lam, h_letrec, h_lit, h_made, h_prim, h_ty_app, h_ty_lam, h_var, h_vec, have_and, none_bound, none_give, none_have}
-use Rattle.typing_laws.specs.Given.{types_then}
-use Rattle.typing_laws.specs.Finding.{Finds, f_app, f_case, f_con, f_global, f_lam, f_letrec, f_lit, f_made, f_prim, f_ty_app, f_ty_lam, f_var, f_vec}
-use Rattle.typing_laws.proofs.PathParts.{way_to}
-use Rattle.typing_laws.proofs.PathSpines.{spine_argument}
-use Rattle.typing_laws.specs.Paths.{branch_at, child, element_at, part_at, part_of_group}
+use Rattle.chw_typing.specs.Given.{types_then}
+use Rattle.chw_typing.specs.Finding.{Finds, f_app, f_case, f_con, f_global, f_lam, f_letrec, f_lit, f_made, f_prim, f_ty_app, f_ty_lam, f_var, f_vec}
+use Rattle.chw_typing.proofs.PathParts.{way_to}
+use Rattle.chw_typing.proofs.PathSpines.{spine_argument}
+use Rattle.chw_typing.specs.Paths.{branch_at, child, element_at, part_at, part_of_group}
 use Rattle.rewriting.specs.Origins.{under_each, with_origins, with_origins_all, with_origins_alts, with_origins_group}
 
 abbrev mutual

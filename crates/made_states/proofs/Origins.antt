@@ -8,7 +8,7 @@ use Rattle.chw_terms.specs.TermTree.{TermTree}
 use Rattle.chw_terms.specs.declared.program.Program.{Program}
 use Rattle.chw_terms.specs.declared.rule.Rule.{Rule}
 use Rattle.chw_terms.specs.declared.scene.Made.{Made}
-use Rattle.typing_laws.specs.Paths.{with_part}
+use Rattle.chw_typing.specs.Paths.{with_part}
 use Rattle.rewriting.specs.Origins.{MadeOf, Origins, made_of}
 use Rattle.rewriting.specs.Spots.{Spot}
 use Rattle.rewriting.specs.Numbers.{HasOrigin}

@@ -9,8 +9,8 @@ use Rattle.chw_terms.specs.declared.rule.Rule.{Rule}
 use Rattle.chw_terms.specs.declared.term.Arg.{Arg}
 use Rattle.chw_terms.specs.declared.term.Arg.TheVariants.{OfTerm}
 use Rattle.chw_types.specs.TypeTree.{TypeTree}
-use Rattle.typing_laws.specs.Given.{types_then}
-use Rattle.typing_laws.proofs.PathParts.{part_below}
+use Rattle.chw_typing.specs.Given.{types_then}
+use Rattle.chw_typing.proofs.PathParts.{part_below}
 use Rattle.rewriting.specs.Origins.{MadeOf, Origins}
 use Rattle.rewriting.specs.Spots.{Spot}
 use Rattle.rewriting.specs.Calls.{IsCall}

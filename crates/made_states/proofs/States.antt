@@ -8,9 +8,9 @@ use Rattle.chw_terms.specs.declared.rule.Rule.TheVariants.{Spec}
 use Rattle.chw_terms.specs.declared.scene.Made.{Made}
 use Rattle.chw_typing.specs.Laws.{TypedIsSound}
 use Rattle.chw_typing.specs.Programs.{IsTyped}
-use Rattle.typing_laws.proofs.Complete.{part_complete}
-use Rattle.typing_laws.proofs.ContextPlaces.{around_is_part}
-use Rattle.typing_laws.specs.Paths.{with_part}
+use Rattle.chw_typing.proofs.Complete.{part_complete}
+use Rattle.chw_typing.proofs.ContextPlaces.{around_is_part}
+use Rattle.chw_typing.specs.Paths.{with_part}
 use Rattle.rewriting.specs.SceneLaws.{NamedIsTermKind}
 use Rattle.rewriting.specs.Origins.{made_of}
 use Rattle.rewriting.proofs.Around.{place_around}

@@ -21,8 +21,8 @@ use Rattle.chw_typing.specs.Laws.{TypedIsSound}
 use Rattle.chw_typing.specs.Programs.{IsComplete, IsSound}
 use Rattle.chw_typing.specs.Scopes.{AreTermTypes, Setting}
 use Rattle.chw_typing.specs.Typing.{HasType, HasTypeUpTo, h_made}
-use Rattle.typing_laws.proofs.FoundTyped.{found_is_type}
-use Rattle.typing_laws.proofs.TypedSpines.{head_changed}
+use Rattle.chw_typing.proofs.FoundTyped.{found_is_type}
+use Rattle.chw_typing.proofs.TypedSpines.{head_changed}
 use Rattle.rewriting.specs.SceneLaws.{NamedIsTermKind}
 use Rattle.rewriting.specs.Origins.{MadeOf, made_of, origin_of, setting_at}
 use Rattle.rewriting.specs.Spots.{Spot}

@@ -6,7 +6,7 @@ use Rattle.chw_terms.specs.declared.scene.Made.{Made}
 use Rattle.chw_terms.specs.Evaluated.{evaluated_in}
 use Rattle.chw_terms.specs.TermTree.{TermTree}
 use Rattle.rewriting.specs.Origins.{MadeOf, made_of}
-use Rattle.typing_laws.specs.PartSpines.{IsPut}
+use Rattle.chw_typing.specs.PartSpines.{IsPut}
 use Rattle.term_signs.specs.declared.alphabet.Sign.{Sign}
 use Rattle.term_signs.specs.Written.{written}
 

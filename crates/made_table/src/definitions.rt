@@ -10,12 +10,12 @@ ghost use Rattle.made_table.specs.Held.{HoldsNone, IsFirstOf, IsPartSet};
 use chw_base::limits::MADE_DEFINITIONS;
 use chw_base::{MadeId, NoMemory, Or};
 use chw_terms::{Made, Program, Term};
+use chw_typing::set_part;
 use indexmap::IndexSet;
 use opening::open;
 use std::alloc::Global;
 use std::marker::Model;
 use term_signs::{Sign, signs_of};
-use typing_laws::set_part;
 
 /// There are as many made definitions as there may be.
 #[derive(Clone, Copy, Debug, PartialEq, Eq)]

@@ -13,8 +13,8 @@ use Rattle.chw_terms.specs.Occurs.{occurs}
 use Rattle.chw_terms.specs.TermTree.{TermTree, var, made, app, ty_app, con, prim, Group, no_bindings, bind, Alts, size_of}
 use Rattle.chw_terms.specs.TermView.{applied}
 use Rattle.graph_order.specs.References.{Leads, step, step_and}
-use Rattle.typing_laws.specs.Groups.{binding_at}
-use Rattle.typing_laws.specs.Given.{types_then}
+use Rattle.chw_typing.specs.Groups.{binding_at}
+use Rattle.chw_typing.specs.Given.{types_then}
 use Rattle.rewriting.specs.Named.{UnderLambdas, under_none, under_one}
 use Rattle.rewriting.specs.Origins.{Origins}
 use Rattle.rewriting.specs.Steps.{origins_in}

@@ -16,7 +16,7 @@ use Rattle.chw_terms.specs.Occurs.{occurs, occurs_group, occurs_alts}
 use Rattle.chw_terms.specs.TermTree.{TermTree, var, Group, no_bindings, bind, Alts, binders, size_of}
 use Rattle.chw_typing.specs.HeadTypes.{PatternOf, of_con, of_lit, of_any}
 use Rattle.graph_order.specs.References.{HasNoCycle}
-use Rattle.typing_laws.proofs.Reaching.{place_of, place_earlier}
+use Rattle.chw_typing.proofs.Reaching.{place_of, place_earlier}
 use Rattle.net_built.specs.Bodies.{ValueCells, BlockBuilt, block_variable, block_letrec, GroupBuilt, group_none, group_and, SideBuilt, side_of_value, side_of_case, AltsBuilt, alts_none, alts_and}
 use Rattle.net_built.specs.Circuits.{Ground}
 use Rattle.net_built.specs.Data.{HaveWidths, Tested, variables_from, tests, test_wires, words_of, chosen, chosen_wires, case_wires, last_of}

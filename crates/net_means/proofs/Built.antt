@@ -36,9 +36,9 @@ use Rattle.use_laws.specs.ValueIn.{BeginsAt, IsModuleAt, ValueIn}
 use Rattle.use_laws.specs.ValueIn.BeginsAt.{top as begins_at_top}
 use Rattle.use_laws.specs.ValueIn.IsModuleAt.{top as module_at_top}
 use Rattle.net_built.specs.Built.{Built}
-use Rattle.net_fits.specs.Laws.{BeginsWithTop, RunsBeginWithTop}
-use Rattle.circuit_bits.specs.Instances.{Design}
-use Rattle.net_bits.specs.Whole.{AllHaveBits}
+use Rattle.net_means.specs.NetFits.Laws.{BeginsWithTop, RunsBeginWithTop}
+use Rattle.net_means.specs.CircuitBits.Instances.{Design}
+use Rattle.net_means.specs.NetBits.Whole.{AllHaveBits}
 use Rattle.net_means.specs.Outputs.{NetMeans, OutputMeans}
 use Rattle.net_means.proofs.Means.{output_means}
 use Rattle.net_means.proofs.Tops.{design, TopModule, top_module}

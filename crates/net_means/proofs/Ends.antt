@@ -19,13 +19,13 @@ use Rattle.net_built.specs.Circuits.{Ground}
 use Rattle.net_built.specs.Data.{HasParts}
 use Rattle.net_built.specs.Terms.{Variable, variable, wires_at}
 use Rattle.net_built.specs.Wires.{Piece, new_wires, wire_count}
-use Rattle.net_fits.proofs.Pieces.{count_from}
+use Rattle.net_means.proofs.NetFits.Pieces.{count_from}
 use Rattle.cell_bits.specs.Bearing.{HasCells}
-use Rattle.side_bits.specs.Sides.{types_in}
-use Rattle.circuit_bits.specs.Instances.{Design, Block, HasBlock, Inside, inside_variable, inside_letrec, Parameters, no_parameter, parameter_and, BlockAt, the_body, an_alternative, unseen_alternative, NoLambda}
-use Rattle.circuit_bits.specs.Leaves.{HasAllOf, AreHeld}
-use Rattle.circuit_bits.specs.Memories.{HasWidths}
-use Rattle.circuit_bits.proofs.Follow.{group_follows}
+use Rattle.net_means.specs.SideBits.Sides.{types_in}
+use Rattle.net_means.specs.CircuitBits.Instances.{Design, Block, HasBlock, Inside, inside_variable, inside_letrec, Parameters, no_parameter, parameter_and, BlockAt, the_body, an_alternative, unseen_alternative, NoLambda}
+use Rattle.net_means.specs.CircuitBits.Leaves.{HasAllOf, AreHeld}
+use Rattle.net_means.specs.CircuitBits.Memories.{HasWidths}
+use Rattle.net_means.proofs.CircuitBits.Follow.{group_follows}
 
 -- a variable with the wires of its parts
 abbrev IsHeld : List Data → Variable → Type 0

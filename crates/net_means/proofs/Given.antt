@@ -25,7 +25,7 @@ use Rattle.carrying.specs.Carrying.{Shows}
 use Rattle.carrying.proofs.Terms.{shows_through}
 use Rattle.netlist.specs.declared.net.Net.{Net}
 use Rattle.use_laws.specs.ValueIn.{ValueIn}
-use Rattle.circuit_bits.specs.Leaves.{HasAllOf}
+use Rattle.net_means.specs.CircuitBits.Leaves.{HasAllOf}
 use Rattle.net_means.proofs.Products.{none_further, Reaches, head_given, with_field, fields_made, field_follows}
 use Rattle.net_means.proofs.Streams.{Shown, no_bits_shown, bits_shown}
 

@@ -30,9 +30,9 @@ use Rattle.chw_meaning.proofs.Once.{same_some}
 use Rattle.chw_meaning.proofs.ZerosEncoded.{zero_bits}
 use Rattle.carrying.specs.TermLaws.{onto, under_lambdas}
 use Rattle.net_built.specs.Terms.{Variable}
-use Rattle.net_fits.specs.Laws.{BeginsWithTop}
-use Rattle.circuit_bits.specs.Instances.{Design, HaveBits, NoLambda, Parameters}
-use Rattle.net_bits.specs.Whole.{InputsHaveBits}
+use Rattle.net_means.specs.NetFits.Laws.{BeginsWithTop}
+use Rattle.net_means.specs.CircuitBits.Instances.{Design, HaveBits, NoLambda, Parameters}
+use Rattle.net_means.specs.NetBits.Whole.{InputsHaveBits}
 use Rattle.net_means.specs.Inputs.{TopGiven}
 use Rattle.net_means.proofs.Parameters.{InputsGiven, no_inputs, input_and, on_inputs, result_leaves, ScopeHas, parameters_have}
 use Rattle.net_means.proofs.Streams.{streams_show}

@@ -16,8 +16,8 @@ use Rattle.use_laws.specs.ValueIn.{ValueIn}
 use Rattle.net_built.specs.Data.{HaveWidths, HasParts, port_parts}
 use Rattle.net_built.specs.Wires.{wire, wires_from, wire_count}
 use Rattle.cell_bits.specs.Bearing.{Bears, bears_nothing, bears_bits}
-use Rattle.circuit_bits.specs.Leaves.{part_wires, LeafHas}
-use Rattle.circuit_bits.proofs.FieldLeaves.{as_many_leaves}
+use Rattle.net_means.specs.CircuitBits.Leaves.{part_wires, LeafHas}
+use Rattle.net_means.proofs.CircuitBits.FieldLeaves.{as_many_leaves}
 use Rattle.net_means.proofs.Given.{LeavesShow, no_leaves_show, empty_leaf_shows, wide_leaf_shows, PortShown}
 
 -- what stands below the length of a list is there

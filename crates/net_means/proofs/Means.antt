@@ -21,7 +21,7 @@ use Rattle.chw_typing.specs.Scopes.{Setting, HasKind, IsTermType}
 use Rattle.chw_typing.specs.Typing.{HasType}
 use Rattle.chw_typing.proofs.Kinded.{type_kinded}
 use Rattle.chw_typing.proofs.Lists.{found_in_map, found_before_map}
-use Rattle.typing_laws.specs.Alike.{AreLike}
+use Rattle.chw_typing.specs.Alike.{AreLike}
 use Rattle.rewriting.specs.Named.{UnderLambdas}
 use Rattle.rewriting.specs.Origins.{setting_at, with_origins}
 use Rattle.rewriting.specs.Steps.{origins_in}
@@ -52,18 +52,18 @@ use Rattle.net_built.specs.Data.{HaveWidths, HasParts, port_parts}
 use Rattle.net_built.specs.Terms.{Variable}
 use Rattle.net_built.specs.Wires.{wire_count}
 use Rattle.net_built.proofs.Parts.{parts_once}
-use Rattle.net_fits.specs.Laws.{BeginsWithTop}
+use Rattle.net_means.specs.NetFits.Laws.{BeginsWithTop}
 use Rattle.cell_bits.specs.Bearing.{Bears, bears_bits}
-use Rattle.side_bits.proofs.Operands.{sound_alone, var_at}
-use Rattle.circuit_bits.specs.Blocks.{BodyStands}
-use Rattle.circuit_bits.specs.Instances.{Block, BlockAt, Design, HasBlock, Parameters, the_top}
-use Rattle.circuit_bits.specs.Leaves.{HasAllOf, part_wires, LeafHas, VariableLeaf}
-use Rattle.circuit_bits.proofs.Instances.{body_stands}
-use Rattle.circuit_bits.proofs.Names.{variable_has_all}
-use Rattle.circuit_bits.proofs.Ports.{parts_along}
-use Rattle.circuit_bits.proofs.Signals.{wires_there}
-use Rattle.circuit_bits.proofs.Uses.{follower_has}
-use Rattle.net_bits.specs.Whole.{AllHaveBits}
+use Rattle.net_means.proofs.SideBits.Operands.{sound_alone, var_at}
+use Rattle.net_means.specs.CircuitBits.Blocks.{BodyStands}
+use Rattle.net_means.specs.CircuitBits.Instances.{Block, BlockAt, Design, HasBlock, Parameters, the_top}
+use Rattle.net_means.specs.CircuitBits.Leaves.{HasAllOf, part_wires, LeafHas, VariableLeaf}
+use Rattle.net_means.proofs.CircuitBits.Instances.{body_stands}
+use Rattle.net_means.proofs.CircuitBits.Names.{variable_has_all}
+use Rattle.net_means.proofs.CircuitBits.Ports.{parts_along}
+use Rattle.net_means.proofs.CircuitBits.Signals.{wires_there}
+use Rattle.net_means.proofs.CircuitBits.Uses.{follower_has}
+use Rattle.net_means.specs.NetBits.Whole.{AllHaveBits}
 use Rattle.net_means.specs.Outputs.{OutputMeans}
 use Rattle.net_means.proofs.Ends.{Ending, block_ends, stands_built, block_plain, parameters_held}
 use Rattle.net_means.proofs.Inputs.{Inputs, inputs, have}

@@ -7,7 +7,7 @@ use Rattle.chw_types.specs.declared.ports.Leaf.{Leaf}
 use Rattle.chw_meaning.specs.Means.{IsPortAt, port_here, port_later, port_past}
 use Rattle.net_built.specs.Data.{HaveWidths}
 use Rattle.net_built.specs.Wires.{wire_count}
-use Rattle.circuit_bits.specs.Leaves.{part_wires}
+use Rattle.net_means.specs.CircuitBits.Leaves.{part_wires}
 
 -- the output of this number is that of a leaf, and its wire is the leaf's part
 pub record OutputAt (datas : List Data) (leaves : List Leaf) (widths : List ℕ) (wires : List WireId) (k : ℕ) : Type 0 where

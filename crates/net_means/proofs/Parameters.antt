@@ -18,7 +18,7 @@ use Rattle.chw_typing.specs.Programs.{IsSound, setting_of}
 use Rattle.chw_typing.specs.Scopes.{Setting, HasKind, IsTermType, AreTermTypes}
 use Rattle.chw_typing.specs.Typing.{HasType, h_lam}
 use Rattle.chw_typing.proofs.Kinded.{function_takes, function_gives}
-use Rattle.typing_laws.specs.Alike.{AreLike}
+use Rattle.chw_typing.specs.Alike.{AreLike}
 use Rattle.rewriting.specs.Named.{UnderLambdas, under_none, under_one}
 use Rattle.rewriting.specs.Origins.{Origins, setting_at}
 use Rattle.chw_meaning.specs.Gives.{Input, PortGiven, given_port, OnInputs, on_all, on_next}
@@ -29,12 +29,12 @@ use Rattle.net_built.specs.Data.{HasParts}
 use Rattle.net_built.specs.Terms.{Variable, variable}
 use Rattle.net_built.specs.Wires.{new_wires, wire_count}
 use Rattle.net_built.proofs.Parts.{parts_once}
-use Rattle.side_bits.specs.Sides.{types_in}
-use Rattle.side_bits.proofs.Operands.{sound_alone}
-use Rattle.circuit_bits.specs.Instances.{NoLambda, Parameters, no_parameter, parameter_and}
-use Rattle.circuit_bits.specs.Leaves.{LeafHas, VariableLeaf}
-use Rattle.circuit_bits.proofs.Ports.{parts_along}
-use Rattle.circuit_bits.proofs.Uses.{follower_has}
+use Rattle.net_means.specs.SideBits.Sides.{types_in}
+use Rattle.net_means.proofs.SideBits.Operands.{sound_alone}
+use Rattle.net_means.specs.CircuitBits.Instances.{NoLambda, Parameters, no_parameter, parameter_and}
+use Rattle.net_means.specs.CircuitBits.Leaves.{LeafHas, VariableLeaf}
+use Rattle.net_means.proofs.CircuitBits.Ports.{parts_along}
+use Rattle.net_means.proofs.CircuitBits.Uses.{follower_has}
 use Rattle.net_means.proofs.Given.{PortShown, port_shown}
 use Rattle.net_means.proofs.LeafBits.{last_counted, parts_shown, port_leaf}
 use Rattle.net_means.proofs.Streams.{Shown}

@@ -12,7 +12,7 @@ use Rattle.chw_meaning.specs.Values.{History, con_head, Value, con_of, partial, 
 use Rattle.chw_meaning.specs.Steps.{gives, takes_types, takes_thunks, lacks, saturated, step}
 use Rattle.chw_meaning.specs.Eval.{plus, Evals, e_ty_app, e_con, Forces, f_closed, f_applied, f_field, a_runs, t_runs, Runs, r_gives}
 use Rattle.chw_meaning.specs.Gives.{Input, at_types, FieldsGiven, given_no_field, given_field}
-use Rattle.circuit_bits.specs.Leaves.{HasAllOf}
+use Rattle.net_means.specs.CircuitBits.Leaves.{HasAllOf}
 
 or_true : (b : Bool) → (b || true) ≡ true
 or_true true = refl

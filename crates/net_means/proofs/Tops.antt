@@ -14,8 +14,8 @@ use Rattle.netlist.specs.declared.net.Net.{Net}
 use Rattle.net_flat.specs.Flattened.{IsTop}
 use Rattle.net_built.specs.Built.{Built, ground_of}
 use Rattle.net_built.specs.Modules.{IsModuleOf}
-use Rattle.net_fits.proofs.Drivers.{module_at, as_many}
-use Rattle.circuit_bits.specs.Instances.{Design}
+use Rattle.net_means.proofs.NetFits.Drivers.{module_at, as_many}
+use Rattle.net_means.specs.CircuitBits.Instances.{Design}
 use Rattle.net_means.proofs.Wholes.{AreWholes, whole, wholes_are}
 
 abbrev pub design : OneWhole → (p : Program) (state : List Made) (net : Net) → IsSound (setting_at (origins_in p state)) → HaveConstructors p.datas → IsNormal p state → Built p state net → AreWholes state → Design

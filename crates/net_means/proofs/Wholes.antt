@@ -13,7 +13,7 @@ use Rattle.chw_meaning.specs.Values.{History, Value, closure, Thunk, closed, app
 use Rattle.chw_meaning.specs.Eval.{plus, Evals, e_lam, Forces, f_closed, f_applied, a_closure}
 use Rattle.carrying.specs.TermLaws.{onto, on_thunks, under_lambdas}
 use Rattle.carrying.proofs.Terms.{opened}
-use Rattle.circuit_bits.specs.Leaves.{HasAllOf}
+use Rattle.net_means.specs.CircuitBits.Leaves.{HasAllOf}
 
 -- what stands in the state is a whole
 abbrev pub AreWholes : List Made → Type 0

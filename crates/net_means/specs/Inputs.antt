@@ -6,8 +6,8 @@ use Rattle.chw_types.specs.declared.ports.Leaf.{Leaf}
 use Rattle.chw_meaning.specs.Gives.{Input, OnInputs}
 use Rattle.chw_meaning.specs.Values.{History, Thunk}
 use Rattle.carrying.specs.TermLaws.{on_thunks}
-use Rattle.circuit_bits.specs.Instances.{Design}
-use Rattle.net_bits.specs.Whole.{InputsHaveBits}
+use Rattle.net_means.specs.CircuitBits.Instances.{Design}
+use Rattle.net_means.specs.NetBits.Whole.{InputsHaveBits}
 
 -- thunks for the parameters of a type that leads to a port with these leaves: each term of the type
 -- is applied to them where it is applied to the streams of a history, and the top's inputs have

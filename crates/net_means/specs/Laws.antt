@@ -21,8 +21,8 @@ use Rattle.netlist.specs.declared.net.Net.{Net}
 use Rattle.net_flat.specs.Flattened.{IsFlatOf}
 use Rattle.net_rules.specs.WellFormed.{WellFormed}
 use Rattle.net_built.specs.Built.{Built}
-use Rattle.net_fits.specs.Laws.{BeginsWithTop}
-use Rattle.circuit_bits.specs.Instances.{Design}
+use Rattle.net_means.specs.NetFits.Laws.{BeginsWithTop}
+use Rattle.net_means.specs.CircuitBits.Instances.{Design}
 use Rattle.net_means.specs.Inputs.{TopGiven}
 use Rattle.net_means.specs.Outputs.{NetMeans, OutputMeans}
 

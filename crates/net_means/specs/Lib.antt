@@ -1,3 +1,9 @@
+pub mod CircuitBits
 pub mod Inputs
 pub mod Laws
+pub mod NetBits
+pub mod NetFits
+pub mod NetWidths
 pub mod Outputs
+pub mod SideBits
+pub mod WireOrder

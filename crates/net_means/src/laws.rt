@@ -1,13 +1,13 @@
 //! Laws of the outputs of built nets, each as the contract of a call that does nothing.
 ghost use Rattle.net_means.specs.Laws.{InputsAreGiven, BuiltNetsMean, OutputsHaveOneMeaning};
 
+use crate::net_bits::laws::all_have_bits;
+use crate::net_fits::laws::runs_begin_with_top;
 use act_runs::laws::run_gives;
 use carrying::laws::what_is_shown_is_yielded;
 use chw_layout::laws::encoding_width;
 use chw_meaning::laws::at_most_one_meaning;
 use chw_types::laws::same_values;
-use net_bits::laws::all_have_bits;
-use net_fits::laws::runs_begin_with_top;
 use netlist::laws::a_wire_has_one_value;
 use normal_forms::laws::one_whole;
 use rule_types::laws::steps_keep;

@@ -6,7 +6,7 @@ use Rattle.chw_terms.specs.declared.term.Arg.{Arg}
 use Rattle.chw_terms.specs.declared.term.Arg.TheVariants.{OfTerm, OfType}
 use Rattle.chw_terms.specs.TermSize.{args_size}
 use Rattle.chw_terms.specs.TermTree.{TermTree, var}
-use Rattle.typing_laws.specs.Given.{types_then}
+use Rattle.chw_typing.specs.Given.{types_then}
 use Rattle.normal_forms.specs.Circuits.{AreConstants, no_constants, constant_and}
 use Rattle.normal_bodies.specs.Arguments.{behind_types, AreNames, AreVariables, AreConstantArguments, EachConstant}
 

@@ -15,7 +15,7 @@ use Rattle.chw_terms.specs.declared.term.Pattern.{Pattern}
 use Rattle.chw_terms.specs.declared.term.Pattern.TheVariants.{OfCon}
 use Rattle.chw_terms.specs.TermTree.{TermTree, var, made, letrec, con, prim, case_of, Group, Alts, no_alts, alt}
 use Rattle.chw_terms.specs.TermView.{tree_of, applied, group_of, alts_of}
-use Rattle.typing_laws.specs.Given.{types_then}
+use Rattle.chw_typing.specs.Given.{types_then}
 use Rattle.rewriting.specs.Origins.{Origins}
 use Rattle.rewriting.specs.Shapes.{IsVariable, fmap_of}
 use Rattle.rewriting.proofs.Spines.{IsBare, head_of, args_of}

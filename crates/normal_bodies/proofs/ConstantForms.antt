@@ -6,7 +6,7 @@ use Rattle.chw_terms.specs.declared.term.Head.{Head}
 use Rattle.chw_terms.specs.declared.term.Head.TheVariants.{Var, Global, Made, Lam, TyLam, LetRec, Con, PrimOf, Lit, VecLit, Case}
 use Rattle.chw_terms.specs.TermTree.{TermTree, con, lit, vec_lit, Terms, no_terms, term_and}
 use Rattle.chw_terms.specs.TermView.{tree_of, applied, terms_of}
-use Rattle.typing_laws.specs.Given.{types_then}
+use Rattle.chw_typing.specs.Given.{types_then}
 use Rattle.rewriting.proofs.Spines.{IsBare, head_of, args_of}
 use Rattle.rule_parts.proofs.Heads.{bare}
 use Rattle.normal_forms.specs.Circuits.{IsConstant, constant_literal, constant_constructor, constant_vector}

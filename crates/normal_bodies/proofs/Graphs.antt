@@ -14,8 +14,8 @@ use Rattle.std.specs.Prelude.{Vec}
 use Rattle.std.specs.declared.alloc.Global.{Global}
 use Rattle.graph_order.specs.Orders.{numbers}
 use Rattle.graph_order.specs.References.{Refers, Leads, step, step_and, HasNoCycle}
-use Rattle.typing_laws.specs.Groups.{binding_at}
-use Rattle.typing_laws.specs.GroupLaws.{FreeAreOccurring}
+use Rattle.chw_typing.specs.Groups.{binding_at}
+use Rattle.chw_typing.specs.GroupLaws.{FreeAreOccurring}
 use Rattle.normal_forms.specs.Values.{BindingRefers}
 use Rattle.normal_bodies.specs.Cycles.{AreNamedBy, AreReferences, bindings_of}
 

@@ -9,7 +9,7 @@ use Rattle.chw_terms.specs.declared.term.Head.{Head}
 use Rattle.chw_terms.specs.declared.term.Head.TheVariants.{Var, Global, Made, Lam, TyLam, LetRec, Con, PrimOf, Lit, VecLit, Case}
 use Rattle.chw_terms.specs.TermTree.{TermTree, var, made, app, prim}
 use Rattle.chw_terms.specs.TermView.{tree_of, applied}
-use Rattle.typing_laws.specs.Given.{types_then}
+use Rattle.chw_typing.specs.Given.{types_then}
 use Rattle.rewriting.specs.Origins.{Origins}
 use Rattle.rewriting.specs.Shapes.{IsVariable, ap_of}
 use Rattle.rewriting.proofs.Spines.{IsBare}

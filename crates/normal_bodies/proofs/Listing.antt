@@ -12,7 +12,7 @@ use Rattle.chw_terms.specs.declared.term.Binding.{Binding}
 use Rattle.chw_terms.specs.TermTree.{TermTree, var, global, made, lam, app, ty_lam, ty_app, letrec, con, prim, lit, vec_lit, case_of, Terms, no_terms, term_and, Group, no_bindings, bind, Alts, no_alts, alt, size_of}
 use Rattle.chw_terms.specs.TermView.{applied, terms_of, group_of, alts_of}
 use Rattle.chw_typing.specs.Scopes.{declared}
-use Rattle.typing_laws.specs.Paths.{child, Branch, element_at, part_of_group, branch_at, part_at}
+use Rattle.chw_typing.specs.Paths.{child, Branch, element_at, part_of_group, branch_at, part_at}
 use Rattle.rewriting.proofs.Parts.{body_at}
 use Rattle.normal_forms.specs.Parts.{declared_by, EachDeclared}
 use Rattle.normal_forms.proofs.Plain.{AllParts, AllOfTerms, AllOfGroup, AllOfAlts, part_holds}

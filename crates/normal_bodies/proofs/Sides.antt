@@ -15,7 +15,7 @@ use Rattle.chw_terms.specs.TermView.{tree_of, applied, terms_of, group_of, alts_
 use Rattle.chw_typing.specs.HeadTypes.{PatternOf}
 use Rattle.chw_typing.specs.Scopes.{with_more, declared}
 use Rattle.graph_order.specs.References.{HasNoCycle}
-use Rattle.typing_laws.specs.Given.{types_then}
+use Rattle.chw_typing.specs.Given.{types_then}
 use Rattle.rewriting.specs.Origins.{Origins}
 use Rattle.rewriting.specs.Shapes.{IsVariable}
 use Rattle.rewriting.proofs.Spines.{IsBare, head_of, args_of}

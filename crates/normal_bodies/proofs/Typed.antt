@@ -19,10 +19,10 @@ use Rattle.chw_typing.specs.Typing.{Binds, HasType, h_var, h_letrec, h_case, Are
 use Rattle.chw_typing.proofs.Kinded.{typed_at, typed_more, bound_typed}
 use Rattle.chw_typing.proofs.Patterns.{fields_typed, constructor_arguments}
 use Rattle.chw_typing.proofs.SameScopes.{are_same_self}
-use Rattle.typing_laws.proofs.FieldKinds.{closed_put}
-use Rattle.typing_laws.specs.Paths.{Branch, branch_at}
-use Rattle.typing_laws.specs.Around.{here, in_branch}
-use Rattle.typing_laws.proofs.Typed.{part_typed}
+use Rattle.chw_typing.proofs.FieldKinds.{closed_put}
+use Rattle.chw_typing.specs.Paths.{Branch, branch_at}
+use Rattle.chw_typing.specs.Around.{here, in_branch}
+use Rattle.chw_typing.proofs.Typed.{part_typed}
 use Rattle.rewriting.specs.Origins.{Origins, setting_at}
 use Rattle.rewriting.specs.Shapes.{IsVariable}
 use Rattle.normal_bodies.specs.Told.{IsTypedIn, AreTypedSides, IsTypedAlt, AreTypedAlts}

@@ -21,9 +21,9 @@ use Rattle.chw_typing.specs.Programs.{IsSound}
 use Rattle.chw_typing.specs.Scopes.{IsTermType}
 use Rattle.chw_typing.specs.Typing.{HasTypeUpTo}
 use Rattle.chw_typing.proofs.Kinded.{function_parts}
-use Rattle.typing_laws.specs.Given.{AsksForNone}
-use Rattle.typing_laws.specs.Around.{Around, here, in_lam}
-use Rattle.typing_laws.proofs.Typed.{part_typed}
+use Rattle.chw_typing.specs.Given.{AsksForNone}
+use Rattle.chw_typing.specs.Around.{Around, here, in_lam}
+use Rattle.chw_typing.proofs.Typed.{part_typed}
 use Rattle.rewriting.specs.SceneLaws.{SameKeepsNamed}
 use Rattle.rewriting.specs.Named.{IsNamed, mode_of, LeadsToNamed, to_named, from_named, UnderLambdas, under_none, under_one}
 use Rattle.rewriting.specs.Origins.{MadeOf, Origins, setting_at}

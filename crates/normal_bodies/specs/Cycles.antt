@@ -4,7 +4,7 @@ use Rattle.std.specs.Prelude.{Contains, slice_get, nat_lt, if◌then◌else◌}
 use Rattle.chw_types.specs.TypeTree.{TypeTree}
 use Rattle.chw_terms.specs.Occurs.{occurs}
 use Rattle.chw_terms.specs.TermTree.{TermTree, Group, size_of}
-use Rattle.typing_laws.specs.Groups.{binding_at}
+use Rattle.chw_typing.specs.Groups.{binding_at}
 
 -- of n bindings those with these variables
 abbrev pub bindings_of : ℕ → List ℕ → List ℕ

@@ -17,10 +17,10 @@ use chw_base::NoMemory;
 use chw_terms::{Head, Made, Scene, Sort, Term};
 use chw_types::laws::same_both_ways;
 use chw_types::{Ty, TyNode};
+use chw_typing::named_laws::data_types_in_order;
 use rewriting::scene_laws::{names_of_modes, settings_of_scenes};
 use std::alloc::Global;
 use term_types::Signature;
-use typing_laws::named_laws::data_types_in_order;
 
 // What a function of this type gives after all of its arguments.
 fn result_of(ty: &Ty) -> &Ty

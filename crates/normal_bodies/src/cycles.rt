@@ -8,10 +8,10 @@ ghost use Rattle.normal_bodies.specs.Cycles.{AreNamedBy, AreReferences, bindings
 
 use chw_base::{NoMemory, VarIx, narrow};
 use chw_terms::{Binding, Term};
+use chw_typing::group_laws::free_variables;
 use free_variables::free_in;
 use graph_order::{Ordering, order_of};
 use std::alloc::Global;
-use typing_laws::group_laws::free_variables;
 
 /// Whether no bindings lead back to themselves.
 pub(crate) fn has_no_cycle(alloc: Global, bindings: &[Binding]) -> Result<bool, NoMemory>

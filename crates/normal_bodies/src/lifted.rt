@@ -4,7 +4,7 @@ ghost use Rattle.chw_types.specs.TypeTree.{TypeTree};
 ghost use Rattle.chw_prims.specs.declared.prim.Primitive.TheVariants.{Fmap, Ap};
 ghost use Rattle.chw_terms.specs.TermTree.{TermTree, prim, made};
 ghost use Rattle.chw_terms.specs.TermView.{applied};
-ghost use Rattle.typing_laws.specs.Given.{types_then};
+ghost use Rattle.chw_typing.specs.Given.{types_then};
 ghost use Rattle.rewriting.specs.Origins.{origins_of};
 ghost use Rattle.normal_forms.specs.Circuits.{IsLiftedCall};
 ghost use Rattle.normal_bodies.specs.Signals.{IsLiftedSide};

@@ -11,9 +11,9 @@ use Rattle.chw_terms.specs.declared.scene.Sort.TheVariants.{Value, Circuit}
 use Rattle.chw_terms.specs.declared.term.Arg.TheVariants.{OfTerm}
 use Rattle.chw_terms.specs.TermTree.{TermTree, var, made, lam, app, ty_app, letrec, con, prim, lit, vec_lit, case_of, Group, no_bindings, bind, Alts, no_alts, alt}
 use Rattle.chw_terms.specs.TermView.{applied, terms_of}
-use Rattle.typing_laws.specs.Given.{types_then}
-use Rattle.typing_laws.specs.Paths.{child, element_at, part_of_group, branch_at, part_at}
-use Rattle.typing_laws.proofs.PathParts.{way_to, part_below}
+use Rattle.chw_typing.specs.Given.{types_then}
+use Rattle.chw_typing.specs.Paths.{child, element_at, part_of_group, branch_at, part_at}
+use Rattle.chw_typing.proofs.PathParts.{way_to, part_below}
 use Rattle.rewriting.specs.Named.{UnderLambdas, under_none, under_one}
 use Rattle.rewriting.specs.Origins.{MadeOf, Origins}
 use Rattle.rewriting.specs.Spots.{asked_for}

@@ -1,8 +1,8 @@
 -- The first blocked place of a state is one.
 use Rattle.std.proofs.Common.{◌≡◌, ◌⊎◌, inl, inr, ◌<◌, sym}
 use Rattle.std.proofs.lemmas.Bool.{cases_order}
-use Rattle.typing_laws.specs.Paths.{IsEarlier}
-use Rattle.typing_laws.proofs.Order.{one_is_earlier}
+use Rattle.chw_typing.specs.Paths.{IsEarlier}
+use Rattle.chw_typing.proofs.Order.{one_is_earlier}
 use Rattle.normal_forms.specs.Blocked.{BlockedPlace, IsBlockedBefore, rank_of}
 use Rattle.normal_forms.specs.Laws.{OneFirstBlocked}
 

@@ -20,10 +20,10 @@ use Rattle.chw_typing.specs.Typing.{HasType, h_var}
 use Rattle.chw_typing.proofs.Heads.{is_constructor}
 use Rattle.chw_typing.proofs.Kinded.{typed_at}
 use Rattle.chw_typing.proofs.Patterns.{constructor_arguments}
-use Rattle.typing_laws.proofs.FieldKinds.{field_kind}
-use Rattle.typing_laws.proofs.NamedParts.{fields_representable, fields_ports}
-use Rattle.typing_laws.specs.Around.{Around, here, in_lam, in_ty_lam, in_function, in_argument, in_ty_app, in_letrec, in_vector, in_scrutinee, in_branch}
-use Rattle.typing_laws.proofs.Typed.{part_typed}
+use Rattle.chw_typing.proofs.FieldKinds.{field_kind}
+use Rattle.chw_typing.proofs.NamedParts.{fields_representable, fields_ports}
+use Rattle.chw_typing.specs.Around.{Around, here, in_lam, in_ty_lam, in_function, in_argument, in_ty_app, in_letrec, in_vector, in_scrutinee, in_branch}
+use Rattle.chw_typing.proofs.Typed.{part_typed}
 use Rattle.rewriting.specs.SceneLaws.{SameKeepsNamed}
 use Rattle.rewriting.specs.Origins.{MadeOf, Origins, setting_at}
 use Rattle.rewriting.specs.Shapes.{IsVariable}

@@ -11,9 +11,9 @@ use Rattle.chw_terms.specs.declared.term.Arg.TheVariants.{OfTerm}
 use Rattle.chw_terms.specs.TermTree.{TermTree, var, global, made, lam, app, ty_lam, ty_app, letrec, con, prim, lit, vec_lit, case_of, Terms, no_terms, term_and, Group, no_bindings, bind, Alts, no_alts, alt}
 use Rattle.chw_terms.specs.TermView.{applied, terms_of}
 use Rattle.chw_terms.specs.TypesMoved.{rename_types, rename_types_all, rename_types_group, rename_types_alts}
-use Rattle.typing_laws.specs.Given.{types_then}
-use Rattle.typing_laws.specs.Paths.{child, Branch, element_at, part_of_group, branch_at, part_at}
-use Rattle.typing_laws.proofs.PathParts.{way_to}
+use Rattle.chw_typing.specs.Given.{types_then}
+use Rattle.chw_typing.specs.Paths.{child, Branch, element_at, part_of_group, branch_at, part_at}
+use Rattle.chw_typing.proofs.PathParts.{way_to}
 use Rattle.normal_forms.specs.Parts.{declared_by, IsTypeLambda, LooksAtVariable, HasClosedTypes}
 use Rattle.normal_forms.specs.Values.{on_names}
 

@@ -17,7 +17,7 @@ use Rattle.chw_terms.specs.TermView.{applied}
 use Rattle.chw_typing.specs.HeadTypes.{of_con}
 use Rattle.chw_layout.specs.Measured.{Measure, Measured, measured_scalar, measured_vector, measured_data, fits, scalar_measure, closed_value}
 use Rattle.graph_order.specs.References.{Leads, step, step_and, HasNoCycle}
-use Rattle.typing_laws.specs.Given.{types_then}
+use Rattle.chw_typing.specs.Given.{types_then}
 use Rattle.rewriting.proofs.OneStep.{head_of, head_applied}
 use Rattle.rewriting.specs.Spots.{asked_for}
 use Rattle.rewriting.specs.Shapes.{fmap_of}

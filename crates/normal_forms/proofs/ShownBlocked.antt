@@ -11,9 +11,9 @@ use Rattle.chw_terms.specs.Evaluated.{evaluated}
 use Rattle.chw_terms.specs.Occurs.{occurs}
 use Rattle.chw_terms.specs.TermTree.{TermTree, var, Group, no_bindings, bind}
 use Rattle.chw_layout.specs.Measured.{measured_scalar}
-use Rattle.typing_laws.specs.Groups.{binding_at}
+use Rattle.chw_typing.specs.Groups.{binding_at}
 use Rattle.rewriting.specs.Named.{IsNamed}
-use Rattle.typing_laws.specs.Given.{types_then}
+use Rattle.chw_typing.specs.Given.{types_then}
 use Rattle.rewriting.specs.Spots.{Spot}
 use Rattle.normal_forms.specs.Blocked.{Block, recursion, BlocksAt, by_recursion, by_payload, by_limit, by_width, by_binding, by_size, over_length}
 use Rattle.normal_forms.specs.BlockedExamples.{CycleBlocks, CounterIsFree, FunctionBlocks, WideBinding, LongVector}

@@ -5,7 +5,7 @@ use Rattle.std.proofs.lemmas.Bool.{or_left, or_right}
 use Rattle.chw_terms.specs.declared.scene.Made.{Made}
 use Rattle.chw_terms.specs.TermTree.{TermTree, var, global, made, lam, app, ty_lam, ty_app, letrec, con, prim, lit, vec_lit, case_of, Terms, no_terms, term_and, Group, no_bindings, bind, Alts, no_alts, alt}
 use Rattle.rewriting.specs.Origins.{with_origins, with_origins_all, with_origins_group, with_origins_alts}
-use Rattle.typing_laws.proofs.Reaching.{place_of, place_earlier}
+use Rattle.chw_typing.proofs.Reaching.{place_of, place_earlier}
 use Rattle.normal_forms.specs.Laws.{WholeIsThere}
 use Rattle.normal_forms.specs.Uses.{names_made, any_names_made, group_names_made, alts_name_made, Uses, IsAcyclic, WholeOf, whole_of}
 

@@ -27,8 +27,8 @@ use Rattle.chw_layout.specs.declared.outcome.NoLayout.{NoLayout}
 use Rattle.chw_layout.specs.declared.outcome.NoLayout.TheVariants.{Scalar as OverScalar}
 use Rattle.chw_layout.specs.declared.outcome.NoLayout.TheVariants.{Length as OverLength}
 use Rattle.chw_layout.specs.Measured.{Measured, too_wide, HasWidth}
-use Rattle.typing_laws.specs.Groups.{binding_at}
-use Rattle.typing_laws.specs.Paths.{part_at, IsEarlier}
+use Rattle.chw_typing.specs.Groups.{binding_at}
+use Rattle.chw_typing.specs.Paths.{part_at, IsEarlier}
 use Rattle.rewriting.specs.Named.{IsNamed, UnderLambdas}
 use Rattle.rewriting.specs.Origins.{MadeOf, Origins, made_of}
 use Rattle.rewriting.specs.Active.{IsPlaceOf}

@@ -9,7 +9,7 @@ use Rattle.chw_terms.specs.TermTree.{var, letrec, prim, no_bindings, bind}
 use Rattle.chw_terms.specs.TermView.{applied}
 use Rattle.chw_layout.specs.declared.outcome.NoLayout.TheVariants.{Scalar as OverScalar}
 use Rattle.chw_layout.specs.declared.outcome.NoLayout.TheVariants.{Length as OverLength}
-use Rattle.typing_laws.specs.Given.{types_then}
+use Rattle.chw_typing.specs.Given.{types_then}
 use Rattle.rewriting.specs.Spots.{Spot, spot}
 use Rattle.normal_forms.specs.Blocked.{recursion, payload, PassesAt, BlocksAt}
 use Rattle.normal_forms.specs.Examples.{byte, here, counter, cyclic}

@@ -3,7 +3,7 @@ use Rattle.std.specs.Prelude.{◌≡◌, ℕ, List, [], ◌∷◌, ◌++◌, len
 use Rattle.std.specs.List.{slice_get}
 use Rattle.chw_types.specs.TypeTree.{TypeTree}
 use Rattle.chw_terms.specs.TermTree.{TermTree, var, made}
-use Rattle.typing_laws.specs.Paths.{part_at}
+use Rattle.chw_typing.specs.Paths.{part_at}
 use Rattle.rewriting.specs.Origins.{MadeOf, Origins}
 use Rattle.rewriting.specs.Spots.{asked_for}
 use Rattle.rewriting.specs.Shapes.{fmap_of}

@@ -17,7 +17,7 @@ use Rattle.chw_terms.specs.TermTree.{Group, no_bindings, bind, no_alts, alt}
 use Rattle.chw_terms.specs.TermView.{applied, terms_of}
 use Rattle.chw_typing.specs.HeadTypes.{con_type}
 use Rattle.chw_layout.specs.Measured.{HasWidth}
-use Rattle.typing_laws.specs.Given.{types_then}
+use Rattle.chw_typing.specs.Given.{types_then}
 use Rattle.rewriting.specs.Origins.{MadeOf, Origins}
 use Rattle.rewriting.specs.Spots.{asked_for}
 use Rattle.rewriting.specs.Shapes.{fmap_of, ap_of, pure_of}

@@ -12,7 +12,7 @@ use Rattle.chw_terms.specs.declared.term.Pattern.TheVariants.{OfCon}
 use Rattle.chw_terms.specs.TermTree.{TermTree, var, made, lam, letrec, con, prim, lit, vec_lit}
 use Rattle.chw_terms.specs.TermTree.{case_of, Group, no_bindings, bind, no_alts, alt}
 use Rattle.chw_terms.specs.TermView.{applied, terms_of}
-use Rattle.typing_laws.specs.Given.{types_then}
+use Rattle.chw_typing.specs.Given.{types_then}
 use Rattle.rewriting.specs.Origins.{MadeOf, Origins}
 use Rattle.rewriting.specs.Shapes.{fmap_of, ap_of}
 use Rattle.normal_forms.specs.Circuits.{IsConstant, IsCircuitSide, IsCircuitBody}

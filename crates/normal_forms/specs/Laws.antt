@@ -9,7 +9,7 @@ use Rattle.chw_terms.specs.declared.program.Program.{Program}
 use Rattle.chw_terms.specs.declared.scene.Made.{Made}
 use Rattle.chw_terms.specs.TermTree.{TermTree}
 use Rattle.chw_typing.specs.Programs.{IsSound}
-use Rattle.typing_laws.specs.Around.{Around}
+use Rattle.chw_typing.specs.Around.{Around}
 use Rattle.rewriting.specs.Origins.{setting_at}
 use Rattle.rewriting.specs.Steps.{origins_in}
 use Rattle.normal_forms.specs.Blocked.{BlockedPlace, IsFirstBlocked, rank_of}

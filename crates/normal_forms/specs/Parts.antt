@@ -9,7 +9,7 @@ use Rattle.chw_types.specs.TypeTree.{TypeTree}
 use Rattle.chw_terms.specs.TermTree.{TermTree, lam, ty_lam, letrec, case_of}
 use Rattle.chw_terms.specs.TypesMoved.{rename_types}
 use Rattle.chw_typing.specs.Scopes.{declared}
-use Rattle.typing_laws.specs.Paths.{part_at}
+use Rattle.chw_typing.specs.Paths.{part_at}
 use Rattle.rewriting.specs.Shapes.{IsVariable}
 
 -- this holds of the part at each path

@@ -16,8 +16,8 @@ use Rattle.chw_terms.specs.TermView.{applied, terms_of}
 use Rattle.chw_typing.specs.HeadTypes.{con_type, PatternOf}
 use Rattle.chw_typing.specs.Scopes.{with_more, declared}
 use Rattle.graph_order.specs.References.{HasNoCycle}
-use Rattle.typing_laws.specs.Groups.{binding_at}
-use Rattle.typing_laws.specs.Given.{types_then}
+use Rattle.chw_typing.specs.Groups.{binding_at}
+use Rattle.chw_typing.specs.Given.{types_then}
 use Rattle.rewriting.specs.Origins.{MadeOf, Origins}
 use Rattle.rewriting.specs.Spots.{asked_for, IsOnWords, TakesElement}
 

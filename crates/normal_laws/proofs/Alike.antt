@@ -18,9 +18,9 @@ use Rattle.chw_layout.specs.declared.outcome.NoLayout.{NoLayout}
 use Rattle.chw_layout.specs.Measured.{fits, too_wide}
 use Rattle.chw_layout.specs.Refusals.{OneMeasure}
 use Rattle.layout_laws.specs.SameLayout.{SameKeepsMeasure}
-use Rattle.typing_laws.specs.Alike.{AreLike}
-use Rattle.typing_laws.proofs.FieldsPut.{same_count, AllLike, con_like, fields_like}
-use Rattle.typing_laws.proofs.SameNames.{representable_same}
+use Rattle.chw_typing.specs.Alike.{AreLike}
+use Rattle.chw_typing.proofs.FieldsPut.{same_count, AllLike, con_like, fields_like}
+use Rattle.chw_typing.proofs.SameNames.{representable_same}
 use Rattle.normal_forms.specs.Blocked.{Passes, by_width, by_leaf}
 use Rattle.normal_forms.specs.Normal.{HoldsWidths}
 use Rattle.normal_laws.proofs.Declared.{contains_at, fits_no_limit}

@@ -28,7 +28,7 @@ use Rattle.chw_typing.proofs.OneType.{one_type}
 use Rattle.chw_typing.proofs.SameScopes.{are_same_self}
 use Rattle.chw_layout.specs.Measured.{fits, HasWidth, MeasuredFields}
 use Rattle.chw_layout.proofs.Fitting.{cons_width, con_width, field_width}
-use Rattle.typing_laws.specs.SpineLaws.{PrimAtArguments}
+use Rattle.chw_typing.specs.SpineLaws.{PrimAtArguments}
 use Rattle.rewriting.specs.Active.{Below, right_side, let_body, constant_body, scrutinee, branch, of_constructor, of_words, of_element, of_vector, demanded, begins, IsActive, at_it, below, IsPlaceOf}
 use Rattle.rewriting.specs.Named.{IsNamed, mode_of, UnderLambdas, under_none, under_one}
 use Rattle.rewriting.specs.Origins.{MadeOf, Origins, setting_at}

@@ -26,8 +26,8 @@ use Rattle.chw_typing.specs.Typing.{HasType, HasTypeUpTo}
 use Rattle.chw_typing.proofs.Kinded.{type_kinded}
 use Rattle.chw_typing.proofs.OneType.{one_type}
 use Rattle.chw_typing.proofs.SameScopes.{are_same_self}
-use Rattle.typing_laws.specs.Given.{types_then}
-use Rattle.typing_laws.specs.SpineLaws.{PrimAtArguments}
+use Rattle.chw_typing.specs.Given.{types_then}
+use Rattle.chw_typing.specs.SpineLaws.{PrimAtArguments}
 use Rattle.rewriting.specs.Origins.{Origins, setting_at}
 use Rattle.rewriting.specs.Spots.{Spot, BeginsWith}
 use Rattle.normal_forms.specs.Circuits.{content_type}

@@ -26,14 +26,14 @@ use Rattle.chw_typing.proofs.SameScopes.{are_same_self, same_more}
 use Rattle.chw_layout.specs.declared.outcome.NoLayout.{NoLayout}
 use Rattle.chw_layout.specs.Refusals.{OneMeasure}
 use Rattle.layout_laws.specs.SameLayout.{SameKeepsMeasure}
-use Rattle.typing_laws.specs.Around.{Around, here, in_branch}
-use Rattle.typing_laws.specs.Given.{AsksForNone}
-use Rattle.typing_laws.specs.Paths.{Branch, branch_at, part_at}
-use Rattle.typing_laws.proofs.ContextPlaces.{around_is_part}
-use Rattle.typing_laws.proofs.FoundTyped.{found_is_type}
-use Rattle.typing_laws.proofs.PathParts.{part_behind}
-use Rattle.typing_laws.proofs.Plugged.{same_variables}
-use Rattle.typing_laws.proofs.Typed.{part_typed}
+use Rattle.chw_typing.specs.Around.{Around, here, in_branch}
+use Rattle.chw_typing.specs.Given.{AsksForNone}
+use Rattle.chw_typing.specs.Paths.{Branch, branch_at, part_at}
+use Rattle.chw_typing.proofs.ContextPlaces.{around_is_part}
+use Rattle.chw_typing.proofs.FoundTyped.{found_is_type}
+use Rattle.chw_typing.proofs.PathParts.{part_behind}
+use Rattle.chw_typing.proofs.Plugged.{same_variables}
+use Rattle.chw_typing.proofs.Typed.{part_typed}
 use Rattle.rewriting.specs.Active.{Below, right_side, let_body, constant_body, scrutinee, branch, of_constructor, of_words, of_element, of_vector, demanded, begins, IsActive, at_it, below, IsPlaceOf}
 use Rattle.rewriting.specs.Lifted.{FindsAt}
 use Rattle.rewriting.specs.Named.{IsNamed, mode_of}

@@ -17,8 +17,8 @@ use Rattle.chw_typing.specs.Scopes.{declared}
 use Rattle.chw_layout.specs.declared.outcome.NoLayout.{NoLayout}
 use Rattle.chw_layout.specs.Measured.{fits, too_wide}
 use Rattle.chw_layout.specs.Refusals.{OneMeasure}
-use Rattle.typing_laws.specs.Groups.{binding_at}
-use Rattle.typing_laws.proofs.ContextPlaces.{around_is_part}
+use Rattle.chw_typing.specs.Groups.{binding_at}
+use Rattle.chw_typing.proofs.ContextPlaces.{around_is_part}
 use Rattle.rewriting.specs.Active.{IsPlaceOf}
 use Rattle.rewriting.specs.Origins.{MadeOf, Origins, setting_at}
 use Rattle.rewriting.specs.Spots.{Spot, IsOnWords, TakesElement}

@@ -28,12 +28,12 @@ use Rattle.chw_layout.specs.Measured.{fits, Measured, MeasuredFields, HasWidth}
 use Rattle.chw_layout.specs.Refusals.{OneMeasure, RepresentableIsMeasured, MeasuredIsRepresentable}
 use Rattle.chw_layout.proofs.Fitting.{element_width, cons_width, con_width, field_width}
 use Rattle.layout_laws.specs.SameLayout.{SameKeepsMeasure}
-use Rattle.typing_laws.specs.Alike.{AreLike}
-use Rattle.typing_laws.specs.Given.{types_then, AreGiven}
-use Rattle.typing_laws.specs.Paths.{element_at}
-use Rattle.typing_laws.specs.SpineLaws.{ConAtArguments, ConIsSaturated}
-use Rattle.typing_laws.proofs.FieldsPut.{AllLike, con_like, fields_like}
-use Rattle.typing_laws.proofs.NamedParts.{not_both}
+use Rattle.chw_typing.specs.Alike.{AreLike}
+use Rattle.chw_typing.specs.Given.{types_then, AreGiven}
+use Rattle.chw_typing.specs.Paths.{element_at}
+use Rattle.chw_typing.specs.SpineLaws.{ConAtArguments, ConIsSaturated}
+use Rattle.chw_typing.proofs.FieldsPut.{AllLike, con_like, fields_like}
+use Rattle.chw_typing.proofs.NamedParts.{not_both}
 use Rattle.rewriting.specs.Origins.{Origins, setting_at}
 use Rattle.normal_forms.specs.Normal.{HoldsWidths}
 use Rattle.normal_laws.proofs.Built.{representable_asks_none}

@@ -10,7 +10,7 @@ use Rattle.chw_terms.specs.declared.term.Arg.{Arg}
 use Rattle.chw_terms.specs.declared.term.Arg.TheVariants.{OfTerm, OfType}
 use Rattle.chw_terms.specs.TermTree.{TermTree, var, made, letrec, con, prim, vec_lit, case_of, Terms, Group, Alts}
 use Rattle.chw_terms.specs.TermView.{applied, terms_of}
-use Rattle.typing_laws.specs.Given.{types_then}
+use Rattle.chw_typing.specs.Given.{types_then}
 use Rattle.rewriting.specs.Origins.{Origins}
 use Rattle.rewriting.specs.Spots.{asked_for, IsOnWords, TakesElement}
 use Rattle.rewriting.proofs.Spines.{head_of, head_applied, head_is, args_are}

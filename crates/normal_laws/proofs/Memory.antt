@@ -32,7 +32,7 @@ use Rattle.chw_typing.specs.Typing.{HasType, h_var, h_app, h_ty_app, h_letrec, h
 use Rattle.chw_layout.specs.declared.outcome.NoLayout.TheVariants.{Data as OverData}
 use Rattle.chw_layout.specs.Measured.{HasWidth, Measured, fits, too_wide, measured_scalar, measured_vector, measured_data, con_measured, no_cons_measured, field_measured, no_fields_measured}
 use Rattle.chw_layout.specs.Refusals.{OneMeasure}
-use Rattle.typing_laws.specs.Finding.{f_vec}
+use Rattle.chw_typing.specs.Finding.{f_vec}
 use Rattle.rewriting.specs.Active.{right_side, begins, IsActive, at_it, below}
 use Rattle.rewriting.specs.Named.{under_none}
 use Rattle.rewriting.specs.Origins.{Origins, setting_at}

@@ -29,10 +29,10 @@ use Rattle.chw_typing.specs.Programs.{IsSound}
 use Rattle.chw_typing.specs.Scopes.{Setting, HasKind, IsTermType, AreTermTypes, with_more, declared}
 use Rattle.chw_typing.specs.Typing.{HasType, HasTypeUpTo}
 use Rattle.chw_typing.proofs.Kinded.{type_kinded}
-use Rattle.typing_laws.specs.Given.{types_then, AsksForNone}
-use Rattle.typing_laws.specs.SpineLaws.{PrimAtArguments}
-use Rattle.typing_laws.proofs.SameNames.{representable_same}
-use Rattle.typing_laws.proofs.Typed.{part_typed}
+use Rattle.chw_typing.specs.Given.{types_then, AsksForNone}
+use Rattle.chw_typing.specs.SpineLaws.{PrimAtArguments}
+use Rattle.chw_typing.proofs.SameNames.{representable_same}
+use Rattle.chw_typing.proofs.Typed.{part_typed}
 use Rattle.rewriting.specs.Named.{IsNamed, mode_of}
 use Rattle.rewriting.specs.Origins.{MadeOf, Origins, setting_at}
 use Rattle.rewriting.specs.SceneLaws.{SameKeepsNamed}

@@ -16,8 +16,8 @@ use Rattle.chw_terms.specs.TermView.{applied, terms_of}
 use Rattle.chw_typing.specs.HeadTypes.{fields_at, PatternOf, of_con, of_lit, of_any}
 use Rattle.chw_typing.specs.Scopes.{with_more, declared}
 use Rattle.graph_order.specs.References.{HasNoCycle}
-use Rattle.typing_laws.specs.Groups.{binding_at}
-use Rattle.typing_laws.specs.Paths.{element_at, Branch, branch_at}
+use Rattle.chw_typing.specs.Groups.{binding_at}
+use Rattle.chw_typing.specs.Paths.{element_at, Branch, branch_at}
 use Rattle.rewriting.specs.Named.{mode_of}
 use Rattle.rewriting.specs.Origins.{MadeOf, Origins}
 use Rattle.rewriting.specs.Active.{Below, right_side, let_body, constant_body, scrutinee, branch, of_constructor, of_words, of_element, of_vector, demanded, begins, IsActive, at_it, below, IsPlaceOf}

@@ -8,7 +8,7 @@ use Rattle.chw_terms.specs.declared.scene.Mode.{Mode}
 use Rattle.chw_terms.specs.declared.scene.Mode.TheVariants.{V, C, K}
 use Rattle.chw_terms.specs.TermTree.{TermTree, Group, no_bindings, bind}
 use Rattle.graph_order.specs.References.{Leads, step, step_and}
-use Rattle.typing_laws.specs.Groups.{binding_at}
+use Rattle.chw_typing.specs.Groups.{binding_at}
 use Rattle.rewriting.specs.Named.{IsNamed}
 use Rattle.rewriting.specs.Origins.{MadeOf, Origins}
 use Rattle.rewriting.specs.Spots.{Spot}

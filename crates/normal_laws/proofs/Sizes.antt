@@ -34,8 +34,8 @@ use Rattle.chw_layout.specs.declared.outcome.NoLayout.TheVariants.{Scalar as Ove
 use Rattle.chw_layout.specs.Measured.{Measure, fits, too_wide, closed_value, data_measure, vector_measure, HasWidth}
 use Rattle.chw_layout.proofs.Measures.{scalar_measured, vector_measured}
 use Rattle.layout_laws.specs.SameLayout.{SameNumber}
-use Rattle.typing_laws.specs.Given.{types_then}
-use Rattle.typing_laws.specs.SpineLaws.{PrimAtArguments}
+use Rattle.chw_typing.specs.Given.{types_then}
+use Rattle.chw_typing.specs.SpineLaws.{PrimAtArguments}
 use Rattle.rewriting.specs.Origins.{Origins, setting_at}
 use Rattle.rewriting.specs.Spots.{asked_for, TakesElement}
 use Rattle.normal_forms.specs.Blocked.{Size, of_vector, of_word, sizes_in, IsOver, over_length, over_width, types_asked}

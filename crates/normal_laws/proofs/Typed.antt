@@ -12,8 +12,8 @@ use Rattle.chw_typing.specs.HeadTypes.{from_each}
 use Rattle.chw_typing.specs.Scopes.{Setting, HasKind, IsTermType, with_more, declared}
 use Rattle.chw_typing.specs.Typing.{HasType, h_lam, h_letrec, HasTypeUpTo, AreBound, bound_and}
 use Rattle.chw_typing.proofs.Kinded.{function_gives}
-use Rattle.typing_laws.specs.Given.{AsksForNone}
-use Rattle.typing_laws.specs.Groups.{binding_at}
+use Rattle.chw_typing.specs.Given.{AsksForNone}
+use Rattle.chw_typing.specs.Groups.{binding_at}
 use Rattle.rewriting.specs.Named.{UnderLambdas, under_none, under_one}
 use Rattle.rewriting.specs.Spots.{is_of_values, scrutinee_mode, head_mode}
 

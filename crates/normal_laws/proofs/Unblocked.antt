@@ -25,12 +25,12 @@ use Rattle.chw_typing.proofs.OneType.{one_type}
 use Rattle.chw_typing.proofs.SameScopes.{are_same_self}
 use Rattle.chw_layout.specs.declared.outcome.NoLayout.{NoLayout}
 use Rattle.layout_laws.specs.SameLayout.{SameNumber}
-use Rattle.typing_laws.specs.Given.{types_then}
-use Rattle.typing_laws.specs.Paths.{part_at}
-use Rattle.typing_laws.proofs.ContextPlaces.{around_is_part}
-use Rattle.typing_laws.proofs.FoundTyped.{found_is_type}
-use Rattle.typing_laws.proofs.PathParts.{part_behind}
-use Rattle.typing_laws.proofs.Typed.{part_typed}
+use Rattle.chw_typing.specs.Given.{types_then}
+use Rattle.chw_typing.specs.Paths.{part_at}
+use Rattle.chw_typing.proofs.ContextPlaces.{around_is_part}
+use Rattle.chw_typing.proofs.FoundTyped.{found_is_type}
+use Rattle.chw_typing.proofs.PathParts.{part_behind}
+use Rattle.chw_typing.proofs.Typed.{part_typed}
 use Rattle.rewriting.specs.Active.{IsActive, at_it, below, IsPlaceOf}
 use Rattle.rewriting.specs.Lifted.{FindsAt}
 use Rattle.rewriting.specs.Named.{mode_of}

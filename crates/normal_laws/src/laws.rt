@@ -2,11 +2,11 @@
 ghost use Rattle.normal_laws.specs.Laws.{NormalHasNoRecursion, NormalHasNoPayload, NormalDeclaresNoLimit, NormalBuildsNoLimit, NormalIsNotBlocked};
 
 use chw_layout::laws::{measured_types, one_measure};
+use chw_typing::spine_laws::{saturated_spines, spines_are_saturated};
 use layout_laws::laws::{same_naturals_mean_one_number, same_types_keep_layout};
 use rewriting::scene_laws::names_of_modes;
 use rule_types::laws::steps_keep;
 use type_laws::laws::fields_keep_same;
-use typing_laws::spine_laws::{saturated_spines, spines_are_saturated};
 
 /// No cycle of bindings blocks a body in normal form.
 pub fn normal_has_no_recursion()

@@ -17,7 +17,7 @@ use Rattle.chw_terms.specs.declared.scene.Sort.TheVariants.{Circuit}
 use Rattle.chw_typing.proofs.Lists.{turned_onto}
 use Rattle.chw_typing.specs.HeadTypes.{from_each}
 use Rattle.chw_typing.specs.Scopes.{with_more}
-use Rattle.typing_laws.specs.Given.{AsksForNone}
+use Rattle.chw_typing.specs.Given.{AsksForNone}
 use Rattle.rewriting.specs.Named.{UnderLambdas, under_none, under_one}
 use Rattle.rewriting.specs.Origins.{HoldsNoMade, eta_expanded, on_variables, under_each, with_origins}
 use Rattle.rewriting.specs.Runs.{IsOpening, first_body, with_definition}

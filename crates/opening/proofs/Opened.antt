@@ -16,7 +16,7 @@ use Rattle.chw_typing.specs.HeadTypes.{from_each}
 use Rattle.chw_typing.specs.Programs.{IsTyped, LeadsToPort}
 use Rattle.chw_typing.specs.Scopes.{HasKind, Setting}
 use Rattle.chw_typing.specs.Typing.{HasType, HasTypeUpTo, h_global}
-use Rattle.typing_laws.proofs.MoreMade.{typed_with_made}
+use Rattle.chw_typing.proofs.MoreMade.{typed_with_made}
 use Rattle.rewriting.specs.Named.{HasLeadingLambdas}
 use Rattle.rewriting.specs.Origins.{HoldsNoMade, MadeOf, Origins, eta_expanded, made_of, on_variables}
 use Rattle.rewriting.specs.Origins.{origin_at, origin_of, setting_at, under_each}

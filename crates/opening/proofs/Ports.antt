@@ -7,7 +7,7 @@ use Rattle.chw_terms.specs.Unrolled.{parameters}
 use Rattle.chw_terms.specs.declared.scene.Mode.TheVariants.{C}
 use Rattle.chw_typing.specs.HeadTypes.{from_each}
 use Rattle.chw_typing.specs.Programs.{LeadsToPort, from_port, to_port}
-use Rattle.typing_laws.specs.Given.{AsksForNone}
+use Rattle.chw_typing.specs.Given.{AsksForNone}
 use Rattle.rewriting.specs.Named.{LeadsToNamed, from_named, to_named}
 
 pub ports_are_named : {datas : List Data} {t : TypeTree} {m n : ℕ}

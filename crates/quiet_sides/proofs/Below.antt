@@ -9,7 +9,7 @@ use Rattle.chw_terms.specs.TermTree.{TermTree, var, con, prim, Alts, no_alts, al
 use Rattle.chw_terms.specs.declared.term.Pattern.TheVariants.{OfCon}
 use Rattle.chw_terms.specs.TermView.{applied}
 use Rattle.chw_typing.specs.Scopes.{AreTermTypes}
-use Rattle.typing_laws.specs.Paths.{Branch, branch_at}
+use Rattle.chw_typing.specs.Paths.{Branch, branch_at}
 use Rattle.rewriting.specs.Active.{Below, right_side, let_body, constant_body, scrutinee, branch, of_constructor, of_words, of_element, of_vector, demanded, begins}
 use Rattle.rewriting.specs.Origins.{Origins, setting_at}
 use Rattle.rewriting.specs.Shapes.{IsVariable}

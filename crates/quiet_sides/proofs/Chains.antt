@@ -18,7 +18,7 @@ use Rattle.chw_typing.specs.Scopes.{Setting, AreTermTypes}
 use Rattle.chw_typing.specs.Typing.{HasType, HasTypeUpTo}
 use Rattle.chw_typing.proofs.OneType.{one_type}
 use Rattle.chw_typing.proofs.SameScopes.{are_same_self}
-use Rattle.typing_laws.proofs.Saturated.{prim_at_arguments}
+use Rattle.chw_typing.proofs.Saturated.{prim_at_arguments}
 use Rattle.rewriting.specs.Named.{IsNamed}
 use Rattle.rewriting.specs.Shapes.{ap_of}
 

@@ -5,7 +5,7 @@ use Rattle.chw_terms.specs.TermTree.{TermTree, letrec, con, prim, Group, no_bind
 use Rattle.chw_typing.specs.Scopes.{Setting, AreTermTypes, with_more, declared}
 use Rattle.chw_typing.specs.Typing.{HasType, h_letrec}
 use Rattle.chw_typing.proofs.Kinded.{typed_more, bound_typed}
-use Rattle.typing_laws.specs.Groups.{binding_at}
+use Rattle.chw_typing.specs.Groups.{binding_at}
 use Rattle.rewriting.specs.Active.{Below, right_side, let_body, constant_body, scrutinee, branch, of_constructor, of_words, of_element, of_vector, demanded, begins, IsActive, at_it, below}
 use Rattle.rewriting.specs.Origins.{Origins, setting_at}
 use Rattle.rewriting.specs.Spots.{Spot}

@@ -8,7 +8,7 @@ use Rattle.chw_terms.specs.declared.term.Head.{Head}
 use Rattle.chw_terms.specs.declared.term.Head.TheVariants.{LetRec}
 use Rattle.chw_terms.specs.TermTree.{TermTree, letrec}
 use Rattle.chw_terms.specs.TermView.{tree_of, group_of, applied}
-use Rattle.typing_laws.specs.Groups.{binding_at}
+use Rattle.chw_typing.specs.Groups.{binding_at}
 use Rattle.quiet_sides.specs.Quiet.{IsQuiet, IsQuietSide}
 use Rattle.quiet_sides.specs.Tests.{HasQuietBinding, HasQuietSide}
 use Rattle.quiet_sides.proofs.Forms.{on_applied}

@@ -11,7 +11,7 @@ use Rattle.chw_terms.specs.declared.term.Head.{Head}
 use Rattle.chw_terms.specs.declared.term.Head.TheVariants.{Var, Global, Made, Lam, TyLam, LetRec, Con, PrimOf, Lit, VecLit, Case}
 use Rattle.chw_terms.specs.TermTree.{TermTree, var, made, prim, case_of}
 use Rattle.chw_terms.specs.TermView.{tree_of, terms_of, alts_of, applied}
-use Rattle.typing_laws.specs.Paths.{element_at, Branch, branch_at}
+use Rattle.chw_typing.specs.Paths.{element_at, Branch, branch_at}
 use Rattle.rewriting.specs.Shapes.{IsVariable, IsMade}
 use Rattle.quiet_sides.specs.Quiet.{EachTerm, IsWritten, written_literal, written_constructor, written_vector, IsPlainArgument, IsLifted, lifted_on_one, lifted_on_more, IsChoice, IsQuiet, of_variable, of_literal, of_call, of_constructor, of_vector, of_prim, of_lifted, of_case}
 use Rattle.quiet_sides.specs.Tests.{EachItem, IfTerm, LiftsOn, IsLifting, QuietAlternatives, WrittenHead, QuietHead, GiveVariables}

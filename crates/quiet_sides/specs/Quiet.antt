@@ -15,8 +15,8 @@ use Rattle.chw_terms.specs.declared.term.Pattern.TheVariants.{OfCon, OfLit}
 use Rattle.chw_terms.specs.TermTree.{TermTree, var, made, con, prim, lit, vec_lit, case_of}
 use Rattle.chw_terms.specs.TermTree.{letrec, Terms, Alts, no_alts, alt}
 use Rattle.chw_terms.specs.TermView.{applied}
-use Rattle.typing_laws.specs.Groups.{binding_at}
-use Rattle.typing_laws.specs.Paths.{element_at, Branch, branch_at}
+use Rattle.chw_typing.specs.Groups.{binding_at}
+use Rattle.chw_typing.specs.Paths.{element_at, Branch, branch_at}
 use Rattle.rewriting.specs.Spots.{Spot, HasLets, IsRowOnWords}
 use Rattle.rewriting.specs.Shapes.{IsVariable, IsDefaultOrNone, fmap_of, ap_of}
 

@@ -18,11 +18,11 @@ use Rattle.chw_typing.specs.Typing.{Binds, HasType, h_var, HasTypeUpTo}
 use Rattle.chw_typing.proofs.Kinded.{typed_at}
 use Rattle.chw_typing.proofs.Patterns.{fields_typed, constructor_arguments}
 use Rattle.chw_typing.proofs.SameScopes.{are_same_self}
-use Rattle.typing_laws.proofs.FieldKinds.{closed_put}
-use Rattle.typing_laws.specs.Paths.{argument_path}
-use Rattle.typing_laws.specs.Around.{Around, here, in_lam, in_function, in_argument, in_ty_app, in_letrec, in_vector, in_scrutinee, in_branch}
-use Rattle.typing_laws.proofs.ContextPlaces.{around_behind}
-use Rattle.typing_laws.proofs.Typed.{PartTyped, part_typed}
+use Rattle.chw_typing.proofs.FieldKinds.{closed_put}
+use Rattle.chw_typing.specs.Paths.{argument_path}
+use Rattle.chw_typing.specs.Around.{Around, here, in_lam, in_function, in_argument, in_ty_app, in_letrec, in_vector, in_scrutinee, in_branch}
+use Rattle.chw_typing.proofs.ContextPlaces.{around_behind}
+use Rattle.chw_typing.proofs.Typed.{PartTyped, part_typed}
 use Rattle.rewriting.specs.Named.{UnderLambdas, under_none, under_one}
 use Rattle.rewriting.specs.Origins.{MadeOf, Origins, setting_at}
 use Rattle.rewriting.specs.Active.{Below, right_side, let_body, constant_body, scrutinee, branch, of_constructor, of_words, of_element, of_vector, demanded, begins, IsActive, at_it, below, IsPlaceOf}

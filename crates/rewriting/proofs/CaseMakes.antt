@@ -16,11 +16,11 @@ use Rattle.chw_typing.specs.Alternatives.{Hides}
 use Rattle.chw_typing.specs.HeadTypes.{fields_at}
 use Rattle.chw_typing.specs.Scopes.{Setting}
 use Rattle.chw_typing.proofs.Patterns.{one_pattern}
-use Rattle.typing_laws.specs.Finding.{Finds}
-use Rattle.typing_laws.proofs.FoundOnce.{one_found}
-use Rattle.typing_laws.specs.Groups.{each_body}
-use Rattle.typing_laws.specs.Given.{types_then}
-use Rattle.typing_laws.specs.Paths.{Branch}
+use Rattle.chw_typing.specs.Finding.{Finds}
+use Rattle.chw_typing.proofs.FoundOnce.{one_found}
+use Rattle.chw_typing.specs.Groups.{each_body}
+use Rattle.chw_typing.specs.Given.{types_then}
+use Rattle.chw_typing.specs.Paths.{Branch}
 use Rattle.rewriting.specs.Origins.{Origins}
 use Rattle.rewriting.specs.Spots.{Spot}
 use Rattle.rewriting.specs.Cases.{OfCases, case_con, case_lit, case_any, case_let, case_case, proj}

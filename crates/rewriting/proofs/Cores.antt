@@ -15,7 +15,7 @@ use Rattle.chw_terms.specs.TermTree.{TermTree, lam, ty_lam, letrec, con, prim, l
 use Rattle.chw_terms.specs.TermView.{applied}
 use Rattle.chw_terms.proofs.Spines.{applied_more}
 use Rattle.chw_typing.specs.HeadTypes.{con_type}
-use Rattle.typing_laws.specs.Given.{types_then}
+use Rattle.chw_typing.specs.Given.{types_then}
 use Rattle.rewriting.specs.Origins.{Origins}
 use Rattle.rewriting.specs.Spots.{Spot, asked_for}
 use Rattle.rewriting.specs.Cases.{OfCases, case_con, case_lit, case_any, case_let, case_case, proj}

@@ -7,8 +7,8 @@ use Rattle.chw_terms.specs.declared.scene.Mode.{Mode}
 use Rattle.chw_terms.specs.Occurs.{occurs}
 use Rattle.chw_terms.specs.TermMoves.{shift}
 use Rattle.chw_terms.specs.TermTree.{TermTree, letrec, Group, no_bindings, bind, size_of}
-use Rattle.typing_laws.specs.Groups.{joined, Reached}
-use Rattle.typing_laws.proofs.GroupParts.{size_joined}
+use Rattle.chw_typing.specs.Groups.{joined, Reached}
+use Rattle.chw_typing.proofs.GroupParts.{size_joined}
 use Rattle.rewriting.specs.Named.{IsNamed}
 use Rattle.rewriting.specs.Origins.{Origins}
 use Rattle.rewriting.specs.Spots.{Spot}

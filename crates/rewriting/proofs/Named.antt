@@ -5,9 +5,9 @@ use Rattle.chw_terms.specs.declared.rule.Rule.{Rule}
 use Rattle.chw_terms.specs.declared.term.Arg.{Arg}
 use Rattle.chw_terms.specs.TermTree.{TermTree, global, made, con, prim, vec_lit, case_of}
 use Rattle.chw_terms.specs.TermView.{applied}
-use Rattle.typing_laws.specs.Paths.{part_at, IsEarlier}
-use Rattle.typing_laws.proofs.Order.{one_is_earlier}
-use Rattle.typing_laws.proofs.PathSpines.{spine_argument}
+use Rattle.chw_typing.specs.Paths.{part_at, IsEarlier}
+use Rattle.chw_typing.proofs.Order.{one_is_earlier}
+use Rattle.chw_typing.proofs.PathSpines.{spine_argument}
 use Rattle.rewriting.specs.Origins.{Origins}
 use Rattle.rewriting.specs.Spots.{Spot}
 use Rattle.rewriting.specs.Operands.{OfOperands, anf, StandsAt, of_prim, of_case, of_con, of_vector, StandsInCall, of_global, of_made, IsOperand, IsOperandOfCall, IsFirstOperand, IsFirstOfCall, with_name}

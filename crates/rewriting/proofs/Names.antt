@@ -11,8 +11,8 @@ use Rattle.chw_terms.specs.References.{DataRefers}
 use Rattle.graph_order.specs.References.{HasNoCycle}
 use Rattle.chw_typing.specs.Scopes.{Setting, HasKind}
 use Rattle.chw_typing.specs.Programs.{IsSound}
-use Rattle.typing_laws.specs.Alike.{AreLike, SameKeepsRepresentable, SameKeepsLeaves}
-use Rattle.typing_laws.specs.NamedLaws.{RepresentableIsVal, PortIsCir, RepresentableIsDecided, PortIsDecided}
+use Rattle.chw_typing.specs.Alike.{AreLike, SameKeepsRepresentable, SameKeepsLeaves}
+use Rattle.chw_typing.specs.NamedLaws.{RepresentableIsVal, PortIsCir, RepresentableIsDecided, PortIsDecided}
 use Rattle.rewriting.specs.SceneLaws.{IsKindOf}
 use Rattle.rewriting.specs.Named.{IsNamed}
 

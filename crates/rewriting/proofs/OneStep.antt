@@ -18,8 +18,8 @@ use Rattle.chw_terms.specs.TermTree.{TermTree, var, app, ty_app, letrec, con, pr
 use Rattle.chw_terms.specs.TermView.{applied_to, applied}
 use Rattle.chw_typing.specs.HeadTypes.{fields_at, PatternOf, of_con, of_lit, of_any}
 use Rattle.chw_typing.specs.Scopes.{with_more, declared}
-use Rattle.typing_laws.specs.Groups.{binding_at}
-use Rattle.typing_laws.specs.Paths.{Branch, branch_at, part_at}
+use Rattle.chw_typing.specs.Groups.{binding_at}
+use Rattle.chw_typing.specs.Paths.{Branch, branch_at, part_at}
 use Rattle.rewriting.specs.Origins.{Origins}
 use Rattle.rewriting.specs.Active.{Below, right_side, let_body, constant_body, scrutinee, branch, of_constructor, of_words, of_element, of_vector, demanded, begins}
 use Rattle.rewriting.specs.Spots.{Spot, spot, HasLets, head_mode, scrutinee_mode, LooksAt, BeginsWith}

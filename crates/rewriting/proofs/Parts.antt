@@ -3,10 +3,10 @@ use Rattle.std.proofs.Common.{◌≡◌, ℕ, zero, suc, refl, ap, ◌∙◌, Li
 use Rattle.std.specs.Prelude.{option_map, option_and_then}
 use Rattle.chw_types.specs.TypeTree.{TypeTree}
 use Rattle.chw_terms.specs.TermTree.{TermTree, var, letrec, con, prim, vec_lit, case_of, Group, no_bindings, bind, size_of}
-use Rattle.typing_laws.specs.Groups.{binding_at}
-use Rattle.typing_laws.specs.Paths.{part_of_group, part_at}
-use Rattle.typing_laws.proofs.PathParts.{part_below, part_behind}
-use Rattle.typing_laws.proofs.PathSpines.{spine_argument}
+use Rattle.chw_typing.specs.Groups.{binding_at}
+use Rattle.chw_typing.specs.Paths.{part_of_group, part_at}
+use Rattle.chw_typing.proofs.PathParts.{part_below, part_behind}
+use Rattle.chw_typing.proofs.PathSpines.{spine_argument}
 use Rattle.rewriting.specs.Origins.{Origins}
 use Rattle.rewriting.specs.Active.{Below, right_side, let_body, constant_body, scrutinee, branch, of_constructor, of_words, of_element, of_vector, demanded, begins, IsActive, at_it, below}
 use Rattle.rewriting.specs.Spots.{Spot}

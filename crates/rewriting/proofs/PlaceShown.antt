@@ -17,7 +17,7 @@ use Rattle.chw_terms.specs.TermTree.{TermTree, var, lam, con, prim, lit, case_of
 use Rattle.chw_terms.specs.TermView.{applied}
 use Rattle.chw_terms.specs.declared.term.Arg.{Arg}
 use Rattle.chw_terms.specs.declared.scene.Mode.{Mode}
-use Rattle.typing_laws.specs.Groups.{binding_at}
+use Rattle.chw_typing.specs.Groups.{binding_at}
 use Rattle.rewriting.specs.Named.{IsNamed}
 use Rattle.rewriting.specs.Origins.{Origins}
 use Rattle.chw_terms.specs.declared.term.Pattern.TheVariants.{Default}

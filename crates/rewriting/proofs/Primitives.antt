@@ -13,8 +13,8 @@ use Rattle.chw_terms.specs.Evaluated.{evaluated}
 use Rattle.chw_terms.specs.TermTree.{TermTree, letrec, prim, case_of, size_of}
 use Rattle.chw_terms.specs.TermView.{applied}
 use Rattle.chw_terms.specs.Unrolled.{unrolled}
-use Rattle.typing_laws.specs.Groups.{each_body}
-use Rattle.typing_laws.specs.Given.{types_then}
+use Rattle.chw_typing.specs.Groups.{each_body}
+use Rattle.chw_typing.specs.Given.{types_then}
 use Rattle.rewriting.specs.Origins.{Origins}
 use Rattle.rewriting.specs.Spots.{Spot}
 use Rattle.rewriting.specs.Active.{Demands}

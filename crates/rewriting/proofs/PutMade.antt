@@ -15,9 +15,9 @@ use Rattle.chw_typing.proofs.Kinded.{function_parts, function_takes, bound_part,
 use Rattle.chw_typing.proofs.Patterns.{are_of_terms, binds_same, looked_at_same}
 use Rattle.chw_typing.proofs.OneType.{put_same_of_kinds}
 use Rattle.chw_typing.proofs.TermsPut.{kind_same}
-use Rattle.typing_laws.specs.Groups.{patterns}
-use Rattle.typing_laws.proofs.GroupParts.{none_hidden_by}
-use Rattle.typing_laws.proofs.Lowered.{closed_typed}
+use Rattle.chw_typing.specs.Groups.{patterns}
+use Rattle.chw_typing.proofs.GroupParts.{none_hidden_by}
+use Rattle.chw_typing.proofs.Lowered.{closed_typed}
 use Rattle.rewriting.specs.SceneLaws.{with_only_made, AreOfMade}
 use Rattle.rewriting.specs.Origins.{with_origins, with_origins_all, with_origins_group, with_origins_alts}
 

@@ -15,9 +15,9 @@ use Rattle.chw_terms.specs.TermTree.{TermTree, var, app, no_bindings}
 use Rattle.chw_typing.specs.Scopes.{HasKind, IsTermType}
 use Rattle.chw_typing.specs.HeadTypes.{of_con}
 use Rattle.chw_typing.specs.Typing.{HasType, h_var, h_app, h_letrec, h_case, none_bound, bound_and, none_give, give_and}
-use Rattle.typing_laws.specs.Finding.{f_var, f_app}
-use Rattle.typing_laws.specs.Groups.{Reached, from_body, from_side}
-use Rattle.typing_laws.specs.Paths.{IsEarlier}
+use Rattle.chw_typing.specs.Finding.{f_var, f_app}
+use Rattle.chw_typing.specs.Groups.{Reached, from_body, from_side}
+use Rattle.chw_typing.specs.Paths.{IsEarlier}
 use Rattle.rewriting.specs.Origins.{setting_at}
 use Rattle.rewriting.specs.Spots.{Spot}
 use Rattle.chw_prims.specs.declared.prim.Primitive.TheVariants.{AddU, LtU}
@@ -27,7 +27,7 @@ use Rattle.chw_terms.specs.Evaluated.{evaluated}
 use Rattle.rewriting.specs.Demanded.{prim_let, DemandsLet}
 use Rattle.rewriting.specs.Functions.{app_case}
 use Rattle.rewriting.specs.Primitives.{delta}
-use Rattle.typing_laws.specs.Given.{types_then}
+use Rattle.chw_typing.specs.Given.{types_then}
 use Rattle.chw_terms.specs.FreeVariables.{occurrences}
 use Rattle.rewriting.specs.Origins.{with_origins}
 use Rattle.chw_types.specs.declared.kind.Scalar.TheVariants.{U}

@@ -14,7 +14,7 @@ use Rattle.chw_terms.specs.FreeVariables.{free_in}
 use Rattle.chw_terms.specs.TermTree.{TermTree, global, prim}
 use Rattle.chw_terms.specs.TermView.{applied}
 use Rattle.chw_typing.specs.HeadTypes.{from_each}
-use Rattle.typing_laws.specs.Paths.{with_part}
+use Rattle.chw_typing.specs.Paths.{with_part}
 use Rattle.rewriting.specs.Origins.{MadeOf, Origins, origin_of}
 use Rattle.rewriting.specs.PlaceLaws.{OnePlace}
 use Rattle.rewriting.specs.Spots.{Spot}

@@ -14,7 +14,7 @@ use Rattle.chw_terms.specs.declared.scene.Mode.TheVariants.{V}
 use Rattle.chw_terms.specs.TermTree.{TermTree, var, made, lam, con}
 use Rattle.chw_typing.specs.Scopes.{HasKind}
 use Rattle.chw_typing.specs.Typing.{HasType, h_var, h_lam, h_letrec, h_con, none_bound, bound_and}
-use Rattle.typing_laws.specs.Given.{AsksForNone}
+use Rattle.chw_typing.specs.Given.{AsksForNone}
 use Rattle.rewriting.specs.SceneExamples.{bare, bits, named_bits, TypedValue, TypedCircuit, NoLeadingLambda, UnnamedParameter, BoolInValues, NoBoolInCircuits, SignalInCircuits, NoSignalInValues, HoldsOne}
 use Rattle.rewriting.specs.Named.{LeadsToNamed, to_named, from_named, UnderLambdas, under_none, under_one, HasLeadingLambdas}
 use Rattle.rewriting.specs.Origins.{setting_at, with_origins, HoldsNoMade}

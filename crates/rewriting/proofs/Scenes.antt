@@ -9,9 +9,9 @@ use Rattle.chw_typing.specs.Laws.{TypedIsSound}
 use Rattle.chw_typing.specs.Programs.{IsSound, IsComplete}
 use Rattle.chw_typing.specs.Scopes.{setting_in, AreTermTypes}
 use Rattle.chw_typing.specs.Typing.{HasType}
-use Rattle.typing_laws.proofs.Complete.{part_complete}
-use Rattle.typing_laws.proofs.ContextPlaces.{around_is_part}
-use Rattle.typing_laws.proofs.Typed.{PartTyped, part_typed}
+use Rattle.chw_typing.proofs.Complete.{part_complete}
+use Rattle.chw_typing.proofs.ContextPlaces.{around_is_part}
+use Rattle.chw_typing.proofs.Typed.{PartTyped, part_typed}
 use Rattle.rewriting.specs.Origins.{made_of, origins_of, setting_at}
 use Rattle.rewriting.specs.Typed.{IsTypedScene}
 use Rattle.rewriting.proofs.Settings.{setting_of_scene, scene_sound}

@@ -12,7 +12,7 @@ use Rattle.chw_typing.specs.Scopes.{Setting, setting_in, IsTermType, AreTermType
 use Rattle.chw_typing.specs.Programs.{IsSound, AreClosed, setting_of}
 use Rattle.chw_typing.specs.Typing.{HasType, HasTypeUpTo}
 use Rattle.chw_typing.specs.Laws.{TypedIsSound}
-use Rattle.typing_laws.proofs.MoreMade.{sound_with_made, typed_with_made}
+use Rattle.chw_typing.proofs.MoreMade.{sound_with_made, typed_with_made}
 use Rattle.rewriting.specs.SceneLaws.{with_only_made, AreOfMade}
 use Rattle.rewriting.specs.Origins.{MadeOf, made_of, origins_of, setting_at, origin_at, origin_of}
 use Rattle.rewriting.specs.Typed.{IsTypedScene}

@@ -7,7 +7,7 @@ use Rattle.chw_terms.specs.declared.term.Arg.TheVariants.{OfTerm, OfType}
 use Rattle.chw_terms.specs.TermTree.{TermTree, app, ty_app}
 use Rattle.chw_terms.specs.TermView.{applied}
 use Rattle.chw_types.specs.TypeTree.{TypeTree}
-use Rattle.typing_laws.specs.Given.{types_then}
+use Rattle.chw_typing.specs.Given.{types_then}
 use Rattle.rewriting.proofs.Lists.{mapped_same}
 
 abbrev pub head_of : TermTree → TermTree

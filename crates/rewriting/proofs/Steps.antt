@@ -6,8 +6,8 @@ use Rattle.chw_terms.specs.declared.rule.Rule.{Rule}
 use Rattle.chw_terms.specs.declared.rule.Rule.TheVariants.{TyBeta, Beta, AppLet, AppCase, CaseCon, CaseLet, CaseCase, Proj, PrimLet, PrimCase, Flat, Dead, Inline, Unfold, Unroll, Elem, Delta, ApPure, Eta, Spec, Anf}
 use Rattle.chw_terms.specs.declared.scene.Made.{Made}
 use Rattle.chw_terms.specs.TermTree.{TermTree}
-use Rattle.typing_laws.specs.Paths.{IsEarlier}
-use Rattle.typing_laws.proofs.Order.{one_is_earlier}
+use Rattle.chw_typing.specs.Paths.{IsEarlier}
+use Rattle.chw_typing.proofs.Order.{one_is_earlier}
 use Rattle.rewriting.specs.Origins.{made_of}
 use Rattle.rewriting.specs.Active.{IsPlaceOf}
 use Rattle.rewriting.specs.PlaceLaws.{OnePlace}

@@ -15,8 +15,8 @@ use Rattle.chw_terms.specs.TermView.{applied}
 use Rattle.chw_typing.specs.HeadTypes.{con_type, PatternOf}
 use Rattle.chw_typing.specs.Scopes.{with_more, declared}
 use Rattle.chw_typing.specs.Typing.{HasType}
-use Rattle.typing_laws.specs.Groups.{binding_at}
-use Rattle.typing_laws.specs.Paths.{element_at, Branch, branch_at, argument_path}
+use Rattle.chw_typing.specs.Groups.{binding_at}
+use Rattle.chw_typing.specs.Paths.{element_at, Branch, branch_at, argument_path}
 use Rattle.rewriting.specs.Named.{IsNamed, mode_of, UnderLambdas}
 use Rattle.rewriting.specs.Origins.{MadeOf, Origins, setting_at}
 use Rattle.rewriting.specs.Spots.{Spot, spot, HasLets, head_mode, scrutinee_mode, asked_for}

@@ -13,7 +13,7 @@ use Rattle.chw_terms.specs.TermMoves.{rename, shift}
 use Rattle.chw_terms.specs.TermTree.{TermTree, var, global, made, letrec, no_bindings, bind}
 use Rattle.chw_terms.specs.TermView.{applied}
 use Rattle.chw_typing.specs.Typing.{HasType}
-use Rattle.typing_laws.specs.Finding.{Finds}
+use Rattle.chw_typing.specs.Finding.{Finds}
 use Rattle.rewriting.specs.Named.{IsNamed}
 use Rattle.rewriting.specs.Origins.{Origins, setting_at, origin_of, under_each}
 use Rattle.rewriting.specs.Spots.{Spot, HasLets}

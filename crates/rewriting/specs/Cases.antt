@@ -18,9 +18,9 @@ use Rattle.chw_terms.specs.Unrolled.{named}
 use Rattle.chw_typing.specs.Alternatives.{HasDefault}
 use Rattle.chw_typing.specs.HeadTypes.{PatternOf, fields_at}
 use Rattle.chw_typing.specs.Typing.{HasType}
-use Rattle.typing_laws.specs.Groups.{each_body}
-use Rattle.typing_laws.specs.Given.{types_then}
-use Rattle.typing_laws.specs.Paths.{Branch}
+use Rattle.chw_typing.specs.Groups.{each_body}
+use Rattle.chw_typing.specs.Given.{types_then}
+use Rattle.chw_typing.specs.Paths.{Branch}
 use Rattle.rewriting.specs.Named.{IsNamed}
 use Rattle.rewriting.specs.Origins.{Origins, setting_at}
 use Rattle.rewriting.specs.Spots.{Spot}

@@ -8,7 +8,7 @@ use Rattle.chw_terms.specs.declared.term.Arg.{Arg}
 use Rattle.chw_terms.specs.declared.term.Arg.TheVariants.{OfTerm}
 use Rattle.chw_terms.specs.TermTree.{TermTree, letrec, prim, case_of, Group, size_of, Alts}
 use Rattle.chw_terms.specs.TermView.{applied}
-use Rattle.typing_laws.specs.Groups.{each_body}
+use Rattle.chw_typing.specs.Groups.{each_body}
 use Rattle.rewriting.specs.Origins.{Origins}
 use Rattle.rewriting.specs.Spots.{Spot, asked_for}
 use Rattle.rewriting.specs.Active.{Demands}

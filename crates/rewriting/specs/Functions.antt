@@ -8,8 +8,8 @@ use Rattle.chw_terms.specs.Evaluated.{put_type_in}
 use Rattle.chw_terms.specs.TermMoves.{shift}
 use Rattle.chw_terms.specs.TermTree.{TermTree, var, lam, app, ty_lam, ty_app, letrec, case_of}
 use Rattle.chw_terms.specs.TermTree.{Group, no_bindings, bind, size_of, Alts}
-use Rattle.typing_laws.specs.Finding.{Finds}
-use Rattle.typing_laws.specs.Groups.{each_body}
+use Rattle.chw_typing.specs.Finding.{Finds}
+use Rattle.chw_typing.specs.Groups.{each_body}
 use Rattle.rewriting.specs.Origins.{Origins, setting_at}
 use Rattle.rewriting.specs.Spots.{Spot}
 use Rattle.rewriting.specs.Shapes.{shift_alts}

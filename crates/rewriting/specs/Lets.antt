@@ -11,7 +11,7 @@ use Rattle.chw_terms.specs.Occurs.{occurs}
 use Rattle.chw_terms.specs.TermMoves.{rename, rename_group, shift, sub, sub_group}
 use Rattle.chw_terms.specs.TermMoves.{in_place_of, lowered, exchanged}
 use Rattle.chw_terms.specs.TermTree.{TermTree, letrec, Group, no_bindings, bind, size_of}
-use Rattle.typing_laws.specs.Groups.{joined, Reached}
+use Rattle.chw_typing.specs.Groups.{joined, Reached}
 use Rattle.rewriting.specs.Named.{IsNamed}
 use Rattle.rewriting.specs.Origins.{Origins}
 use Rattle.rewriting.specs.Spots.{Spot}

@@ -10,7 +10,7 @@ use Rattle.chw_terms.specs.declared.scene.Mode.TheVariants.{V, C, HV, HC, K}
 use Rattle.chw_terms.specs.declared.scene.Sort.{Sort}
 use Rattle.chw_terms.specs.declared.scene.Sort.TheVariants.{Value, Circuit}
 use Rattle.chw_terms.specs.TermTree.{TermTree, lam}
-use Rattle.typing_laws.specs.Given.{AsksForNone}
+use Rattle.chw_typing.specs.Given.{AsksForNone}
 
 -- a type is named in a mode where a variable of it has wires: values where a value is built, ports
 -- where a circuit is

@@ -17,8 +17,8 @@ use Rattle.chw_terms.specs.TermTree.{case_of, Terms, no_bindings, bind, Alts}
 use Rattle.chw_terms.specs.TermView.{applied}
 use Rattle.chw_typing.specs.HeadTypes.{con_type}
 use Rattle.chw_typing.specs.Typing.{HasType}
-use Rattle.typing_laws.specs.Finding.{Finds}
-use Rattle.typing_laws.specs.Paths.{element_at, with_part, IsEarlier, argument_path}
+use Rattle.chw_typing.specs.Finding.{Finds}
+use Rattle.chw_typing.specs.Paths.{element_at, with_part, IsEarlier, argument_path}
 use Rattle.rewriting.specs.Named.{IsNamed}
 use Rattle.rewriting.specs.Origins.{Origins, setting_at}
 use Rattle.rewriting.specs.Spots.{Spot, HasLets, asked_for, IsOnWords, TakesElement}

@@ -8,7 +8,7 @@ use Rattle.chw_terms.specs.TermTree.{TermTree}
 use Rattle.chw_typing.specs.Scopes.{setting_in, AreTermTypes}
 use Rattle.chw_typing.specs.Programs.{IsSound, IsComplete}
 use Rattle.chw_typing.specs.Typing.{HasType, HasTypeUpTo}
-use Rattle.typing_laws.specs.Around.{Around}
+use Rattle.chw_typing.specs.Around.{Around}
 use Rattle.rewriting.specs.Origins.{MadeOf, Origins, made_of, origins_of, setting_at}
 use Rattle.rewriting.specs.Typed.{IsTypedScene}
 use Rattle.rewriting.specs.Active.{Below, IsActive, IsPlaceOf}

@@ -17,7 +17,7 @@ use Rattle.chw_terms.specs.TermTree.{TermTree, global, lam, app, ty_app}
 use Rattle.chw_terms.specs.TermView.{applied}
 use Rattle.chw_terms.specs.Unrolled.{parameters}
 use Rattle.chw_typing.specs.HeadTypes.{from_each}
-use Rattle.typing_laws.specs.Paths.{with_part}
+use Rattle.chw_typing.specs.Paths.{with_part}
 use Rattle.rewriting.specs.Origins.{MadeOf, Origins, origin_of, eta_expanded}
 use Rattle.rewriting.specs.Spots.{Spot}
 use Rattle.rewriting.specs.Calls.{IsCall, call_origin}

@@ -18,9 +18,9 @@ use Rattle.chw_terms.specs.TermTree.{Group, no_bindings, bind, Alts, no_alts, al
 use Rattle.chw_terms.specs.TermView.{applied}
 use Rattle.chw_terms.specs.Unrolled.{each, named}
 use Rattle.chw_typing.specs.Alternatives.{Hides}
-use Rattle.typing_laws.specs.Groups.{rename_arg}
-use Rattle.typing_laws.specs.Given.{types_then}
-use Rattle.typing_laws.specs.Paths.{Branch}
+use Rattle.chw_typing.specs.Groups.{rename_arg}
+use Rattle.chw_typing.specs.Given.{types_then}
+use Rattle.chw_typing.specs.Paths.{Branch}
 
 -- the place is the head of a value or of a circuit
 abbrev pub IsOfHead : Mode → Type 0

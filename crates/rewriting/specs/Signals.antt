@@ -7,7 +7,7 @@ use Rattle.chw_terms.specs.declared.rule.Rule.{Rule}
 use Rattle.chw_terms.specs.declared.rule.Rule.TheVariants.{ApPure, Eta, Spec}
 use Rattle.chw_terms.specs.TermTree.{TermTree, made}
 use Rattle.chw_typing.specs.HeadTypes.{from_each}
-use Rattle.typing_laws.specs.Finding.{Finds}
+use Rattle.chw_typing.specs.Finding.{Finds}
 use Rattle.rewriting.specs.Origins.{Origins, setting_at, origin_of, eta_expanded}
 use Rattle.rewriting.specs.Spots.{Spot}
 use Rattle.rewriting.specs.Lifted.{Joins}

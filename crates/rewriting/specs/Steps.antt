@@ -10,7 +10,7 @@ use Rattle.chw_terms.specs.declared.rule.Rule.TheVariants.{Unfold, Unroll, Elem,
 use Rattle.chw_terms.specs.declared.rule.Rule.TheVariants.{Eta, Spec, Anf}
 use Rattle.chw_terms.specs.declared.scene.Made.{Made}
 use Rattle.chw_terms.specs.TermTree.{TermTree}
-use Rattle.typing_laws.specs.Paths.{IsEarlier}
+use Rattle.chw_typing.specs.Paths.{IsEarlier}
 use Rattle.rewriting.specs.Origins.{Origins, made_of}
 use Rattle.rewriting.specs.Active.{IsPlaceOf}
 use Rattle.rewriting.specs.Spots.{Spot}

@@ -2,8 +2,8 @@
 ghost use Rattle.rewriting.specs.SceneLaws.{SettingOfScene, TypedSceneIsSound, SameKeepsNamed, NamedIsTermKind, NamedIsDecided, PutMadeKeepsType, NoMadeKeepsType, OriginNeedsProgram, OriginKeepsType, OneUnderLambdas};
 
 use chw_typing::laws::typed_is_sound;
-use typing_laws::like_laws::same_types_keep_names;
-use typing_laws::named_laws::{kinds_of_named_types, named_types_are_decided};
+use chw_typing::like_laws::same_types_keep_names;
+use chw_typing::named_laws::{kinds_of_named_types, named_types_are_decided};
 
 /// Terms of a scene are typed over its program and the types of its made definitions. In a typed scene that is as the laws of types ask.
 pub fn settings_of_scenes()

@@ -5,7 +5,7 @@ ghost use Rattle.chw_types.specs.TypeMoves.{raised};
 ghost use Rattle.chw_terms.specs.TermMoves.{shift};
 ghost use Rattle.chw_terms.specs.TermTree.{letrec, bind, no_bindings};
 ghost use Rattle.chw_terms.specs.TermView.{applied};
-ghost use Rattle.typing_laws.specs.Groups.{rename_arg};
+ghost use Rattle.chw_typing.specs.Groups.{rename_arg};
 
 use chw_base::{NoMemory, VarIx};
 use chw_terms::{Arg, Binding, Term, shift};

@@ -15,13 +15,13 @@ use crate::programs::{DESCRIPTION, program_of};
 use crate::sums::sums;
 use chw_base::{NoMemory, Or, Seq};
 use chw_terms::{Mode, Place, Program, Rule, Scene, Term};
+use chw_typing::named_laws::data_types_in_order;
 use looks::LookCount;
 use row_tables::{Unread, put_number};
 use rules_flow::try_typed;
 use std::alloc::Global;
 use term_types::Signature;
 use typed_places::is_typed;
-use typing_laws::named_laws::data_types_in_order;
 
 // How often the rule has no instance on the term, of so many times.
 fn count_at(

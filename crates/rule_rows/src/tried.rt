@@ -11,11 +11,11 @@ ghost use Rattle.rules_work.specs.Rules.{IsOfWork};
 use crate::scopes::{VARIABLES, below_lambdas};
 use chw_base::{Or, Seq};
 use chw_terms::{Mode, Place, Program, Rule, Scene, Term};
+use chw_typing::named_laws::data_types_in_order;
 use looks::LookCount;
 use row_notation::put_term;
 use row_tables::{Unread, put};
 use std::alloc::Global;
-use typing_laws::named_laws::data_types_in_order;
 
 // The body of the definition of this name.
 fn body_of<'p>(program: &'p Program, name: &[u8]) -> Option<&'p Term> {

@@ -21,7 +21,7 @@ use Rattle.chw_typing.proofs.TermsPut.{kind_same}
 use Rattle.chw_typing.specs.Programs.{IsSound}
 use Rattle.chw_typing.specs.Scopes.{AreTermTypes, HasKind, Setting}
 use Rattle.chw_typing.specs.Typing.{HasType, HasTypeUpTo, h_app, h_lam, h_prim, h_ty_app, h_var}
-use Rattle.typing_laws.proofs.Saturated.{prim_at_arguments}
+use Rattle.chw_typing.proofs.Saturated.{prim_at_arguments}
 use Rattle.rewriting.specs.Shapes.{ap_of, fmap_of, pure_of}
 use Rattle.rule_types.proofs.Bodies.{up_to}
 

@@ -21,10 +21,10 @@ use Rattle.chw_typing.specs.Laws.{Renames}
 use Rattle.chw_typing.specs.Programs.{IsComplete, IsSound}
 use Rattle.chw_typing.specs.Scopes.{AreTermTypes, HasKind, Setting, with_more}
 use Rattle.chw_typing.specs.Typing.{HasType, HasTypeUpTo, h_con, h_global, h_made, h_prim}
-use Rattle.typing_laws.specs.Groups.{rename_arg}
-use Rattle.typing_laws.proofs.Applied.{type_applied_kind}
-use Rattle.typing_laws.proofs.TypedSpines.{head_typed, kind_kept, spine_typed}
-use Rattle.typing_laws.specs.TypedSpines.{AtArguments, at_none, at_term, at_type}
+use Rattle.chw_typing.specs.Groups.{rename_arg}
+use Rattle.chw_typing.proofs.Applied.{type_applied_kind}
+use Rattle.chw_typing.proofs.TypedSpines.{head_typed, kind_kept, spine_typed}
+use Rattle.chw_typing.specs.TypedSpines.{AtArguments, at_none, at_term, at_type}
 use Rattle.rewriting.specs.Shapes.{shift_args}
 use Rattle.rule_types.proofs.Bodies.{renames_past}
 use Rattle.rule_types.proofs.Complete.{ArgComplete, ArgsComplete, applied_complete, renamed_complete}

@@ -18,8 +18,8 @@ use Rattle.chw_typing.specs.Laws.{Renames}
 use Rattle.chw_typing.specs.Programs.{IsSound}
 use Rattle.chw_typing.specs.Scopes.{AreTermTypes, HasKind, Setting, with_more}
 use Rattle.chw_typing.specs.Typing.{AllGive, HasType, HasTypeUpTo, give_and, h_case, h_letrec, none_give}
-use Rattle.typing_laws.proofs.GroupParts.{none_hidden_by, patterns_of_each}
-use Rattle.typing_laws.specs.Groups.{each_body}
+use Rattle.chw_typing.proofs.GroupParts.{none_hidden_by, patterns_of_each}
+use Rattle.chw_typing.specs.Groups.{each_body}
 use Rattle.rewriting.specs.Shapes.{or_body}
 
 pub up_to : {s : Setting} {kinds : List Kind} {vars : List TypeTree} {e : TermTree} {t : TypeTree} → HasType s kinds vars e t → HasTypeUpTo s kinds vars e t

@@ -16,10 +16,10 @@ use Rattle.chw_terms.specs.declared.scene.Sort.TheVariants.{Value}
 use Rattle.chw_typing.specs.HeadTypes.{from_each}
 use Rattle.chw_typing.specs.Programs.{IsComplete}
 use Rattle.chw_typing.specs.Scopes.{Setting}
-use Rattle.typing_laws.proofs.Lowered.{moved_typed}
-use Rattle.typing_laws.specs.Given.{AsksForNone}
-use Rattle.typing_laws.proofs.FoundTyped.{found_is_type}
-use Rattle.typing_laws.specs.Finding.{Finds, f_lam}
+use Rattle.chw_typing.proofs.Lowered.{moved_typed}
+use Rattle.chw_typing.specs.Given.{AsksForNone}
+use Rattle.chw_typing.proofs.FoundTyped.{found_is_type}
+use Rattle.chw_typing.specs.Finding.{Finds, f_lam}
 use Rattle.rewriting.specs.SceneLaws.{NamedIsTermKind}
 use Rattle.rewriting.specs.Named.{IsNamed, LeadsToNamed, UnderLambdas, from_named, mode_of, to_named, under_none, under_one}
 use Rattle.rewriting.specs.Origins.{HoldsNoMade, MadeOf, Origins, origin_at, origin_of, setting_at, under_each, with_origins}

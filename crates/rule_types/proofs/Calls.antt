@@ -19,9 +19,9 @@ use Rattle.chw_typing.specs.HeadTypes.{from_each}
 use Rattle.chw_typing.specs.Programs.{IsComplete, IsSound}
 use Rattle.chw_typing.specs.Scopes.{AreTermTypes, HasKind, Setting}
 use Rattle.chw_typing.specs.Typing.{HasType, HasTypeUpTo}
-use Rattle.typing_laws.proofs.Free.{free_occur}
-use Rattle.typing_laws.proofs.Where.{renamed_where}
-use Rattle.typing_laws.proofs.FoundTyped.{found_is_type}
+use Rattle.chw_typing.proofs.Free.{free_occur}
+use Rattle.chw_typing.proofs.Where.{renamed_where}
+use Rattle.chw_typing.proofs.FoundTyped.{found_is_type}
 use Rattle.rewriting.proofs.PutMade.{made_put}
 use Rattle.rewriting.specs.SceneLaws.{IsKindOf, NamedIsTermKind}
 use Rattle.rewriting.specs.Named.{IsNamed}

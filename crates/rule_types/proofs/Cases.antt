@@ -37,14 +37,14 @@ use Rattle.chw_typing.specs.HeadTypes.{IsLookedAt, PatternOf, fields_at, of_any,
 use Rattle.chw_typing.specs.Programs.{IsSound}
 use Rattle.chw_typing.specs.Scopes.{AreSame, AreTermTypes, HasKind, Setting, declared, with_more}
 use Rattle.chw_typing.specs.Typing.{Binds, HasType, HasTypeUpTo, h_case, h_letrec, h_var}
-use Rattle.typing_laws.specs.Groups.{each_body}
-use Rattle.typing_laws.specs.Paths.{Branch}
-use Rattle.typing_laws.proofs.Applied.{functions_compose}
-use Rattle.typing_laws.proofs.Lets.{let_typed}
-use Rattle.typing_laws.proofs.Saturated.{con_at_arguments}
-use Rattle.typing_laws.specs.Given.{AllAllow, AreGiven, types_then}
-use Rattle.typing_laws.proofs.NamedKinds.{port_cir}
-use Rattle.typing_laws.proofs.NamedParts.{fields_ports}
+use Rattle.chw_typing.specs.Groups.{each_body}
+use Rattle.chw_typing.specs.Paths.{Branch}
+use Rattle.chw_typing.proofs.Applied.{functions_compose}
+use Rattle.chw_typing.proofs.Lets.{let_typed}
+use Rattle.chw_typing.proofs.Saturated.{con_at_arguments}
+use Rattle.chw_typing.specs.Given.{AllAllow, AreGiven, types_then}
+use Rattle.chw_typing.proofs.NamedKinds.{port_cir}
+use Rattle.chw_typing.proofs.NamedParts.{fields_ports}
 use Rattle.rewriting.specs.Origins.{Origins}
 use Rattle.rewriting.specs.Spots.{Spot}
 use Rattle.rewriting.specs.Cases.{OfCases, case_any, case_case, case_con, case_let, case_lit, proj}

@@ -21,9 +21,9 @@ use Rattle.chw_typing.proofs.Heads.{is_constructor}
 use Rattle.chw_typing.specs.Alternatives.{IsCovered}
 use Rattle.chw_typing.specs.HeadTypes.{PatternOf, fields_at, of_any, of_con, of_lit}
 use Rattle.chw_typing.specs.Programs.{AltsAreComplete, GroupIsComplete, IsComplete}
-use Rattle.typing_laws.proofs.GroupParts.{covered_by, patterns_renamed}
-use Rattle.typing_laws.specs.Paths.{Branch}
-use Rattle.typing_laws.specs.Given.{types_then}
+use Rattle.chw_typing.proofs.GroupParts.{covered_by, patterns_renamed}
+use Rattle.chw_typing.specs.Paths.{Branch}
+use Rattle.chw_typing.specs.Given.{types_then}
 use Rattle.rewriting.specs.Origins.{Origins}
 use Rattle.rewriting.specs.Spots.{Spot}
 use Rattle.rewriting.specs.Cases.{OfCases, case_any, case_case, case_con, case_let, case_lit, proj}

@@ -12,8 +12,8 @@ use Rattle.chw_terms.specs.TypesMoved.{sub_types, sub_types_all, sub_types_alts,
 use Rattle.chw_terms.specs.declared.term.Arg.{Arg}
 use Rattle.chw_terms.specs.declared.term.Arg.TheVariants.{OfTerm, OfType}
 use Rattle.chw_typing.specs.Programs.{AllAreComplete, AltsAreComplete, GroupIsComplete, IsComplete}
-use Rattle.typing_laws.proofs.GroupParts.{covered_by, patterns_of_each, patterns_put, patterns_renamed}
-use Rattle.typing_laws.specs.Groups.{each_body, joined, patterns}
+use Rattle.chw_typing.proofs.GroupParts.{covered_by, patterns_of_each, patterns_put, patterns_renamed}
+use Rattle.chw_typing.specs.Groups.{each_body, joined, patterns}
 use Rattle.rewriting.specs.Shapes.{or_body}
 
 abbrev pub EachComplete : List Data → Substitution → Type 0

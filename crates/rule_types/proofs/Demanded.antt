@@ -15,8 +15,8 @@ use Rattle.chw_typing.proofs.SameScopes.{are_same_self}
 use Rattle.chw_typing.specs.Programs.{IsComplete, IsSound}
 use Rattle.chw_typing.specs.Scopes.{AreTermTypes, Setting, declared}
 use Rattle.chw_typing.specs.Typing.{HasType, HasTypeUpTo, h_letrec}
-use Rattle.typing_laws.specs.Groups.{each_body}
-use Rattle.typing_laws.proofs.Applied.{functions_compose}
+use Rattle.chw_typing.specs.Groups.{each_body}
+use Rattle.chw_typing.proofs.Applied.{functions_compose}
 use Rattle.rewriting.specs.Origins.{Origins}
 use Rattle.rewriting.specs.Spots.{Spot}
 use Rattle.rewriting.specs.Demanded.{OfDemanded, prim_case, prim_let}

@@ -15,12 +15,12 @@ use Rattle.chw_terms.specs.declared.term.Pattern.TheVariants.{OfCon}
 use Rattle.chw_typing.proofs.Heads.{con_kind, functions_of_terms}
 use Rattle.chw_typing.proofs.Kinded.{bound_part, function_parts}
 use Rattle.chw_typing.proofs.Lists.{turned_onto}
-use Rattle.typing_laws.proofs.FieldKinds.{closed_put}
+use Rattle.chw_typing.proofs.FieldKinds.{closed_put}
 use Rattle.chw_typing.specs.HeadTypes.{PatternOf, fields_at, for_each, from_each, of_any, of_con, of_lit, variables}
 use Rattle.chw_typing.specs.Programs.{IsSound}
 use Rattle.chw_typing.specs.Scopes.{AreTermTypes, HasKind, Setting}
-use Rattle.typing_laws.proofs.Applied.{functions_compose}
-use Rattle.typing_laws.specs.Given.{AllAllow}
+use Rattle.chw_typing.proofs.Applied.{functions_compose}
+use Rattle.chw_typing.specs.Given.{AllAllow}
 
 -- what a kind of functions says of the parameters
 parameters_allow : (datas : List Data) (domains : ℕ) (scope : List Kind) (ps : List TypeTree) (r : TypeTree) (k : Kind) → KindOf datas domains scope (from_each ps r) k → (i : ℕ) (p : TypeTree) → slice_get ps i ≡ Some p → (j : Kind) × KindOf datas domains scope p j × HasFunctions j k

@@ -26,9 +26,9 @@ use Rattle.chw_typing.proofs.TypesRenamed.{closed_put_typed, closed_type_put}
 use Rattle.chw_typing.specs.Programs.{IsComplete, IsSound}
 use Rattle.chw_typing.specs.Scopes.{AreSame, AreTermTypes, HasKind, IsTermType, Setting, declared, under_binder, with_more}
 use Rattle.chw_typing.specs.Typing.{HasType, HasTypeUpTo, bound_and, h_app, h_lam, h_letrec, h_ty_app, h_ty_lam, h_var, none_bound}
-use Rattle.typing_laws.specs.Groups.{each_body}
-use Rattle.typing_laws.proofs.Applied.{type_applied_kind}
-use Rattle.typing_laws.proofs.FoundTyped.{found_is_type}
+use Rattle.chw_typing.specs.Groups.{each_body}
+use Rattle.chw_typing.proofs.Applied.{type_applied_kind}
+use Rattle.chw_typing.proofs.FoundTyped.{found_is_type}
 use Rattle.rewriting.specs.Origins.{Origins}
 use Rattle.rewriting.specs.Spots.{Spot}
 use Rattle.rewriting.specs.Functions.{OfFunctions, app_case, app_case_type, app_let, app_let_type, beta, ty_beta}

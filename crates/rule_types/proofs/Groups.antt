@@ -15,10 +15,10 @@ use Rattle.chw_typing.proofs.Renamed.{renames_shift}
 use Rattle.chw_typing.specs.Laws.{Renames}
 use Rattle.chw_typing.specs.Scopes.{Setting, declared, with_more}
 use Rattle.chw_typing.specs.Typing.{AreBound, bound_and, none_bound}
-use Rattle.typing_laws.proofs.GroupParts.{declared_joined, with_more_twice}
-use Rattle.typing_laws.specs.Groups.{binding_at, joined}
-use Rattle.typing_laws.proofs.Where.{renamed_where}
-use Rattle.typing_laws.specs.TypedPartLaws.{RenamesWhere}
+use Rattle.chw_typing.proofs.GroupParts.{declared_joined, with_more_twice}
+use Rattle.chw_typing.specs.Groups.{binding_at, joined}
+use Rattle.chw_typing.proofs.Where.{renamed_where}
+use Rattle.chw_typing.specs.TypedPartLaws.{RenamesWhere}
 use Rattle.rewriting.specs.Shapes.{closed_up, marked}
 
 -- what stands behind a list, and what stands before its end

@@ -7,7 +7,7 @@ use Rattle.chw_terms.specs.declared.term.Arg.TheVariants.{OfTerm}
 use Rattle.chw_terms.specs.declared.rule.Rule.{Rule}
 use Rattle.chw_terms.specs.declared.rule.Rule.TheVariants.{Anf, ApPure, AppCase, AppLet, Beta, CaseCase, CaseCon, CaseLet, Dead, Delta, Elem, Eta, Flat, Inline, PrimCase, PrimLet, Proj, Spec, TyBeta, Unfold, Unroll}
 use Rattle.chw_typing.specs.Programs.{IsComplete}
-use Rattle.typing_laws.proofs.TypedSpines.{head_changed}
+use Rattle.chw_typing.proofs.TypedSpines.{head_changed}
 use Rattle.rewriting.specs.Origins.{Origins, setting_at}
 use Rattle.rewriting.specs.Spots.{Spot}
 use Rattle.rewriting.specs.Calls.{OfWhole, anf_call, anf_result, spec_call}

@@ -21,11 +21,11 @@ use Rattle.chw_typing.specs.Laws.{PutsTerms, Renames}
 use Rattle.chw_typing.specs.Programs.{IsSound}
 use Rattle.chw_typing.specs.Scopes.{AreTermTypes, HasKind, Setting, declared, with_more}
 use Rattle.chw_typing.specs.Typing.{AreBound, HasType, HasTypeUpTo, bound_and}
-use Rattle.typing_laws.specs.Groups.{Reached, binding_at, from_body, from_side, joined}
-use Rattle.typing_laws.proofs.Joined.{first_bound, join_bound, second_bound}
-use Rattle.typing_laws.proofs.Lowered.{in_place_puts, lowered_typed}
-use Rattle.typing_laws.proofs.Where.{renamed_where}
-use Rattle.typing_laws.specs.TypedPartLaws.{RenamesWhere}
+use Rattle.chw_typing.specs.Groups.{Reached, binding_at, from_body, from_side, joined}
+use Rattle.chw_typing.proofs.Joined.{first_bound, join_bound, second_bound}
+use Rattle.chw_typing.proofs.Lowered.{in_place_puts, lowered_typed}
+use Rattle.chw_typing.proofs.Where.{renamed_where}
+use Rattle.chw_typing.specs.TypedPartLaws.{RenamesWhere}
 use Rattle.rewriting.specs.Origins.{Origins}
 use Rattle.rewriting.specs.Spots.{Spot}
 use Rattle.rewriting.specs.Lets.{MarksReached, OfLets, dead, flat_body, flat_side, inline, inlined, kept, side_joined}

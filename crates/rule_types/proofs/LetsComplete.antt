@@ -8,7 +8,7 @@ use Rattle.chw_terms.specs.TermMoves.{exchanged, in_place_of, lowered, rename, r
 use Rattle.chw_terms.specs.TermTree.{Group, TermTree, bind, letrec, no_bindings, size_of}
 use Rattle.chw_terms.specs.declared.rule.Rule.{Rule}
 use Rattle.chw_typing.specs.Programs.{GroupIsComplete, IsComplete}
-use Rattle.typing_laws.specs.Groups.{joined}
+use Rattle.chw_typing.specs.Groups.{joined}
 use Rattle.rewriting.specs.Origins.{Origins}
 use Rattle.rewriting.specs.Spots.{Spot}
 use Rattle.rewriting.specs.Lets.{OfLets, dead, flat_body, flat_side, inline}

@@ -16,11 +16,11 @@ use Rattle.chw_typing.proofs.Lists.{found_before_map}
 use Rattle.chw_typing.specs.Programs.{AllAreComplete, AltsAreComplete, GroupIsComplete, IsComplete}
 use Rattle.chw_typing.specs.Scopes.{AreTermTypes, IsTermType, Setting}
 use Rattle.chw_typing.specs.Typing.{AllGive, AllHave, AreBound, HasType, HasTypeUpTo, bound_and, give_and, h_app, h_case, h_con, h_global, h_lam, h_letrec, h_lit, h_made, h_prim, h_ty_app, h_ty_lam, h_var, h_vec, have_and, none_bound, none_give, none_have}
-use Rattle.typing_laws.proofs.GroupParts.{covered_by}
-use Rattle.typing_laws.specs.Groups.{patterns}
-use Rattle.typing_laws.proofs.Plugged.{plugged}
-use Rattle.typing_laws.specs.Around.{here, in_function, in_lam, in_ty_app}
-use Rattle.typing_laws.proofs.Lowered.{closed_typed}
+use Rattle.chw_typing.proofs.GroupParts.{covered_by}
+use Rattle.chw_typing.specs.Groups.{patterns}
+use Rattle.chw_typing.proofs.Plugged.{plugged}
+use Rattle.chw_typing.specs.Around.{here, in_function, in_lam, in_ty_app}
+use Rattle.chw_typing.proofs.Lowered.{closed_typed}
 use Rattle.rewriting.proofs.PutMade.{made_put}
 use Rattle.rewriting.specs.SceneLaws.{AreOfMade}
 use Rattle.rewriting.specs.Named.{HasLeadingLambdas, LeadsToNamed, UnderLambdas, mode_of, under_none, under_one}

@@ -11,8 +11,8 @@ use Rattle.chw_typing.proofs.Lists.{found_before_map, found_in_map}
 use Rattle.chw_typing.specs.Programs.{IsComplete, IsSound}
 use Rattle.chw_typing.specs.Scopes.{Setting}
 use Rattle.chw_typing.specs.Typing.{HasTypeUpTo, h_global, h_made}
-use Rattle.typing_laws.proofs.Lowered.{closed_typed}
-use Rattle.typing_laws.proofs.MoreMade.{typed_with_made}
+use Rattle.chw_typing.proofs.Lowered.{closed_typed}
+use Rattle.chw_typing.proofs.MoreMade.{typed_with_made}
 use Rattle.rewriting.proofs.Settings.{setting_of_scene}
 use Rattle.rewriting.specs.SceneLaws.{TypedSceneIsSound}
 use Rattle.rewriting.specs.Origins.{MadeOf, Origins, made_of, origins_of, setting_at}

@@ -14,7 +14,7 @@ use Rattle.chw_typing.proofs.Lists.{found_before_map}
 use Rattle.chw_typing.specs.Laws.{TypedIsSound}
 use Rattle.chw_typing.specs.Programs.{IsComplete}
 use Rattle.chw_typing.specs.Typing.{HasTypeUpTo}
-use Rattle.typing_laws.proofs.MoreMade.{typed_with_made}
+use Rattle.chw_typing.proofs.MoreMade.{typed_with_made}
 use Rattle.rewriting.specs.SceneLaws.{NamedIsTermKind}
 use Rattle.rewriting.specs.Origins.{HoldsNoMade, MadeOf, Origins, made_of, setting_at}
 use Rattle.rewriting.specs.Typed.{IsTypedMade}

@@ -26,15 +26,15 @@ use Rattle.chw_typing.proofs.TermsPut.{kind_same}
 use Rattle.chw_typing.specs.Programs.{IsComplete, IsSound}
 use Rattle.chw_typing.specs.Scopes.{AreTermTypes, HasKind, IsTermType, Setting}
 use Rattle.chw_typing.specs.Typing.{AllHave, HasType, HasTypeUpTo, bound_and, h_letrec, h_var, h_vec, have_and, none_bound, none_have}
-use Rattle.typing_laws.proofs.Exchanged.{spine_renamed}
-use Rattle.typing_laws.specs.Groups.{rename_arg}
-use Rattle.typing_laws.proofs.PathParts.{part_below}
-use Rattle.typing_laws.proofs.PathSpines.{spine_argument, with_spine_argument}
-use Rattle.typing_laws.specs.Paths.{argument_path, element_at, part_at, with_part}
-use Rattle.typing_laws.proofs.Complete.{part_complete, plug_complete}
-use Rattle.typing_laws.proofs.Plugged.{plugged}
-use Rattle.typing_laws.specs.Around.{here, in_scrutinee, in_vector}
-use Rattle.typing_laws.proofs.FoundTyped.{found_is_type}
+use Rattle.chw_typing.proofs.Exchanged.{spine_renamed}
+use Rattle.chw_typing.specs.Groups.{rename_arg}
+use Rattle.chw_typing.proofs.PathParts.{part_below}
+use Rattle.chw_typing.proofs.PathSpines.{spine_argument, with_spine_argument}
+use Rattle.chw_typing.specs.Paths.{argument_path, element_at, part_at, with_part}
+use Rattle.chw_typing.proofs.Complete.{part_complete, plug_complete}
+use Rattle.chw_typing.proofs.Plugged.{plugged}
+use Rattle.chw_typing.specs.Around.{here, in_scrutinee, in_vector}
+use Rattle.chw_typing.proofs.FoundTyped.{found_is_type}
 use Rattle.rewriting.specs.Origins.{Origins}
 use Rattle.rewriting.specs.Spots.{Spot}
 use Rattle.rewriting.specs.Calls.{OfWhole, anf_call, anf_result}

@@ -24,9 +24,9 @@ use Rattle.chw_terms.specs.declared.term.Arg.TheVariants.{OfTerm}
 use Rattle.chw_typing.specs.Programs.{IsSound}
 use Rattle.chw_typing.specs.Scopes.{AreTermTypes, Setting}
 use Rattle.chw_typing.specs.Typing.{HasType, HasTypeUpTo, h_vec}
-use Rattle.typing_laws.specs.Paths.{element_at}
-use Rattle.typing_laws.proofs.Saturated.{prim_at_arguments}
-use Rattle.typing_laws.specs.Given.{types_then}
+use Rattle.chw_typing.specs.Paths.{element_at}
+use Rattle.chw_typing.proofs.Saturated.{prim_at_arguments}
+use Rattle.chw_typing.specs.Given.{types_then}
 use Rattle.unroll_laws.proofs.Unrolls.{unrolling_keeps}
 use Rattle.rewriting.specs.Origins.{Origins, setting_at}
 use Rattle.rewriting.specs.Spots.{Spot}

@@ -26,8 +26,8 @@ use Rattle.chw_terms.specs.declared.term.Pattern.{Pattern}
 use Rattle.chw_terms.specs.declared.term.Pattern.TheVariants.{Default, OfCon, OfLit}
 use Rattle.chw_typing.specs.Alternatives.{HasDefault, IsCovered, IsFor}
 use Rattle.chw_typing.specs.Programs.{AllAreComplete, AltsAreComplete, GroupIsComplete, IsComplete}
-use Rattle.typing_laws.specs.Paths.{element_at}
-use Rattle.typing_laws.specs.Given.{types_then}
+use Rattle.chw_typing.specs.Paths.{element_at}
+use Rattle.chw_typing.specs.Given.{types_then}
 use Rattle.rewriting.specs.Origins.{Origins}
 use Rattle.rewriting.specs.Spots.{Spot}
 use Rattle.rewriting.specs.Primitives.{OfPrimitives, delta, elem, elem_at, unroll, word_given}

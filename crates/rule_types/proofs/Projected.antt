@@ -15,7 +15,7 @@ use Rattle.chw_typing.proofs.SameScopes.{are_same_self}
 use Rattle.chw_typing.specs.HeadTypes.{IsLookedAt, PatternOf}
 use Rattle.chw_typing.specs.Scopes.{AreTermTypes, HasKind, Setting, declared, with_more}
 use Rattle.chw_typing.specs.Typing.{AreBound, HasType, HasTypeUpTo, bound_and, h_case, h_letrec, h_var, none_bound, none_give}
-use Rattle.typing_laws.specs.Given.{AllAllow, AreGiven}
+use Rattle.chw_typing.specs.Given.{AllAllow, AreGiven}
 use Rattle.rewriting.specs.Shapes.{projections}
 use Rattle.rule_types.proofs.Bodies.{renames_past, up_to}
 use Rattle.rule_types.proofs.Fields.{allowed_typed}

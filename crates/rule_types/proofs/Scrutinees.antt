@@ -21,10 +21,10 @@ use Rattle.chw_typing.specs.HeadTypes.{IsLookedAt}
 use Rattle.chw_typing.specs.Programs.{IsSound}
 use Rattle.chw_typing.specs.Scopes.{AreSame, AreTermTypes, HasKind, IsTermType, Setting, declared, with_more}
 use Rattle.chw_typing.specs.Typing.{AllGive, AreBound, Binds, HasType, HasTypeUpTo, bound_and, give_and, h_case, h_letrec, none_bound}
-use Rattle.typing_laws.proofs.GroupParts.{none_hidden_by, patterns_renamed}
-use Rattle.typing_laws.specs.Paths.{Branch}
-use Rattle.typing_laws.proofs.Applied.{functions_compose}
-use Rattle.typing_laws.proofs.Given.{all_give_same}
+use Rattle.chw_typing.proofs.GroupParts.{none_hidden_by, patterns_renamed}
+use Rattle.chw_typing.specs.Paths.{Branch}
+use Rattle.chw_typing.proofs.Applied.{functions_compose}
+use Rattle.chw_typing.proofs.Given.{all_give_same}
 use Rattle.rewriting.specs.Shapes.{IsTakenBy, by_first, by_later, shift_alts}
 use Rattle.rule_types.proofs.Bodies.{renames_past}
 

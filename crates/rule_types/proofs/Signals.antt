@@ -21,8 +21,8 @@ use Rattle.chw_typing.specs.HeadTypes.{from_each}
 use Rattle.chw_typing.specs.Programs.{IsSound}
 use Rattle.chw_typing.specs.Scopes.{AreTermTypes, HasKind, Setting, with_more}
 use Rattle.chw_typing.specs.Typing.{HasType, HasTypeUpTo, h_app, h_lam, h_var}
-use Rattle.typing_laws.proofs.FoundTyped.{found_is_type}
-use Rattle.typing_laws.specs.Finding.{Finds}
+use Rattle.chw_typing.proofs.FoundTyped.{found_is_type}
+use Rattle.chw_typing.specs.Finding.{Finds}
 use Rattle.rewriting.specs.Origins.{Origins, eta_expanded, on_variables, setting_at, under_each}
 use Rattle.rewriting.specs.Spots.{Spot}
 use Rattle.rewriting.specs.Lifted.{Joins, ap_ap, ap_fmap, ap_pure, ap_value, before_each, behind_each, composed, each_composed, fmap_ap, fmap_fmap, fmap_pure, on_value}

@@ -14,14 +14,14 @@ use Rattle.chw_typing.specs.Laws.{TypedIsSound}
 use Rattle.chw_typing.specs.Programs.{AreClosed, IsComplete, IsSound, setting_of}
 use Rattle.chw_typing.specs.Scopes.{IsTermType}
 use Rattle.chw_typing.specs.Typing.{HasTypeUpTo}
-use Rattle.typing_laws.proofs.PathParts.{with_part_behind}
-use Rattle.typing_laws.specs.Paths.{part_at, with_part}
-use Rattle.typing_laws.proofs.Complete.{part_complete, plug_complete}
-use Rattle.typing_laws.proofs.ContextPlaces.{around_is_part}
-use Rattle.typing_laws.proofs.Plugged.{plugged}
-use Rattle.typing_laws.proofs.Typed.{part_typed}
-use Rattle.typing_laws.specs.Around.{Around}
-use Rattle.typing_laws.proofs.MoreMade.{sound_with_made, typed_with_made}
+use Rattle.chw_typing.proofs.PathParts.{with_part_behind}
+use Rattle.chw_typing.specs.Paths.{part_at, with_part}
+use Rattle.chw_typing.proofs.Complete.{part_complete, plug_complete}
+use Rattle.chw_typing.proofs.ContextPlaces.{around_is_part}
+use Rattle.chw_typing.proofs.Plugged.{plugged}
+use Rattle.chw_typing.proofs.Typed.{part_typed}
+use Rattle.chw_typing.specs.Around.{Around}
+use Rattle.chw_typing.proofs.MoreMade.{sound_with_made, typed_with_made}
 use Rattle.rewriting.specs.Named.{HasLeadingLambdas, UnderLambdas, under_none, under_one}
 use Rattle.rewriting.specs.Origins.{MadeOf, Origins, made_of, setting_at}
 use Rattle.rewriting.specs.Typed.{IsTypedMade}

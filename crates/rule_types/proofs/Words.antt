@@ -30,8 +30,8 @@ use Rattle.chw_typing.specs.HeadTypes.{con_type, for_each, from_each, widest}
 use Rattle.chw_typing.specs.Programs.{IsSound}
 use Rattle.chw_typing.specs.Scopes.{AreTermTypes, Setting}
 use Rattle.chw_typing.specs.Typing.{HasType, HasTypeUpTo, h_con, h_lit}
-use Rattle.typing_laws.proofs.Saturated.{prim_at_arguments}
-use Rattle.typing_laws.specs.Given.{types_then}
+use Rattle.chw_typing.proofs.Saturated.{prim_at_arguments}
+use Rattle.chw_typing.specs.Given.{types_then}
 use Rattle.unroll_laws.proofs.Sized.{IsNumber, sum_number, width_fits}
 use Rattle.rewriting.specs.Spots.{asked_for}
 use Rattle.rewriting.specs.Primitives.{word_given}

@@ -16,8 +16,8 @@ use Rattle.chw_terms.specs.TermTree.{letrec, con, prim, lit, vec_lit, case_of}
 use Rattle.chw_terms.specs.TermView.{tree_of, applied}
 use Rattle.chw_typing.specs.HeadTypes.{from_each}
 use Rattle.chw_typing.specs.Typing.{HasType}
-use Rattle.typing_laws.specs.Finding.{Finds}
-use Rattle.typing_laws.specs.FoundLaws.{FoundIsType, OneFound}
+use Rattle.chw_typing.specs.Finding.{Finds}
+use Rattle.chw_typing.specs.FoundLaws.{FoundIsType, OneFound}
 use Rattle.rewriting.specs.Calls.{IsCall, call_origin, to_lambdas}
 use Rattle.rewriting.specs.Named.{IsNamed}
 use Rattle.rewriting.specs.Origins.{MadeOf, Origins, origin_of, setting_at, under_each}

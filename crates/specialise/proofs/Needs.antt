@@ -10,8 +10,8 @@ use Rattle.chw_terms.specs.declared.term.Arg.{Arg}
 use Rattle.chw_terms.specs.declared.term.Arg.TheVariants.{OfTerm}
 use Rattle.chw_terms.specs.TermTree.{TermTree}
 use Rattle.chw_typing.specs.Laws.{OneType, TypesAreTermTypes}
-use Rattle.typing_laws.specs.Finding.{Finds}
-use Rattle.typing_laws.specs.FoundLaws.{FoundIsType}
+use Rattle.chw_typing.specs.Finding.{Finds}
+use Rattle.chw_typing.specs.FoundLaws.{FoundIsType}
 use Rattle.term_types.specs.Answers.{IsReady, HasNoType}
 use Rattle.rewriting.specs.SceneLaws.{SameKeepsNamed}
 use Rattle.rewriting.specs.Named.{IsNamed}

@@ -19,7 +19,7 @@ use Rattle.chw_terms.specs.declared.term.Head.TheVariants.{Var, Global, Made as 
 use Rattle.chw_terms.specs.TermView.{tree_of, applied}
 use Rattle.chw_terms.proofs.Spines.{applied_more}
 use Rattle.chw_typing.specs.HeadTypes.{from_each}
-use Rattle.typing_laws.specs.Given.{types_then}
+use Rattle.chw_typing.specs.Given.{types_then}
 use Rattle.rewriting.specs.Origins.{MadeOf, Origins, made_of, origin_of}
 use Rattle.rewriting.specs.Spots.{HasLets, Spot}
 use Rattle.made_table.specs.Held.{HoldsNone}

@@ -13,7 +13,7 @@ ghost use Rattle.rewriting.specs.Shapes.{IsVariable};
 ghost use Rattle.chw_terms.specs.FreeVariables.{free_in};
 ghost use Rattle.chw_typing.specs.HeadTypes.{from_each};
 ghost use Rattle.chw_typing.specs.Scopes.{setting_in};
-ghost use Rattle.typing_laws.specs.Finding.{Finds};
+ghost use Rattle.chw_typing.specs.Finding.{Finds};
 ghost use Rattle.rewriting.specs.Origins.{origins_of, setting_at, under_each};
 ghost use Rattle.rewriting.specs.Spots.{spot_of};
 ghost use Rattle.rewriting.specs.Runs.{sort_at};
@@ -29,12 +29,12 @@ use crate::numbers::Seed;
 use chw_base::{NoMemory, VarIx};
 use chw_terms::{Arg, Head, Mode, Place, Scene, Sort, Term};
 use chw_types::Ty;
+use chw_typing::found_laws::{found_is_type, one_found};
 use chw_typing::laws::{one_type, types_are_term_types};
 use rewriting::scene_laws::{names_of_modes, settings_of_scenes};
 use rule_parts::named::is_named;
 use std::alloc::Global;
 use term_types::Signature;
-use typing_laws::found_laws::{found_is_type, one_found};
 
 // What a call gives, by the mode of its place.
 fn sort_at(mode: Mode) -> Sort

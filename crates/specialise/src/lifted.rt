@@ -4,9 +4,9 @@ ghost use Rattle.chw_types.specs.References.{HasNoCycle};
 ghost use Rattle.chw_types.specs.TypeTree.{TypeTree};
 ghost use Rattle.chw_terms.specs.TermTree.{TermTree, made, app, ty_app};
 ghost use Rattle.chw_typing.specs.Scopes.{setting_in};
-ghost use Rattle.typing_laws.specs.Finding.{Finds};
+ghost use Rattle.chw_typing.specs.Finding.{Finds};
 ghost use Rattle.rewriting.specs.Origins.{origins_of, setting_at};
-ghost use Rattle.typing_laws.specs.Given.{types_then};
+ghost use Rattle.chw_typing.specs.Given.{types_then};
 ghost use Rattle.rewriting.specs.Spots.{spot_of};
 ghost use Rattle.rewriting.specs.Shapes.{IsClosed, IsMade, IsOfCircuit, fmap_of, leading_lambdas};
 ghost use Rattle.term_types.specs.Answers.{HasNoType, IsReady};
@@ -18,11 +18,11 @@ use chw_base::{MadeId, NoMemory};
 use chw_prims::Prim;
 use chw_terms::{Arg, Head, Mode, Place, Scene, Term};
 use chw_types::{Data, Ty};
+use chw_typing::found_laws::{found_is_type, one_found};
 use free_variables::free_in;
 use rewriting::scene_laws::settings_of_scenes;
 use std::alloc::Global;
 use term_types::{Signature, type_of_in};
-use typing_laws::found_laws::{found_is_type, one_found};
 
 /// Whether circuits are built there, or looked at.
 pub(crate) fn is_of_circuit(mode: Mode) -> bool

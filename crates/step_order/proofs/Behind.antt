@@ -2,8 +2,8 @@
 use Rattle.std.proofs.Common.{◌≡◌, ◌∙◌, ℕ, refl, sym, ap, subst, true, List, [], ◌++◌, Some}
 use Rattle.chw_types.specs.TypeTree.{TypeTree}
 use Rattle.chw_terms.specs.TermTree.{TermTree}
-use Rattle.typing_laws.proofs.PathParts.{with_part_behind}
-use Rattle.typing_laws.specs.Paths.{part_at, with_part}
+use Rattle.chw_typing.proofs.PathParts.{with_part_behind}
+use Rattle.chw_typing.specs.Paths.{part_at, with_part}
 use Rattle.rewriting.proofs.Lambdas.{one_under}
 use Rattle.rewriting.specs.Named.{UnderLambdas, mode_of, under_none, under_one}
 use Rattle.rewriting.specs.Origins.{MadeOf, Origins}

@@ -10,9 +10,9 @@ use Rattle.chw_terms.specs.declared.term.Arg.{Arg}
 use Rattle.chw_terms.specs.declared.term.Arg.TheVariants.{OfTerm, OfType}
 use Rattle.chw_terms.specs.TermTree.{TermTree, letrec, vec_lit, case_of}
 use Rattle.chw_terms.specs.TermView.{applied}
-use Rattle.typing_laws.specs.Paths.{argument_path, with_part}
-use Rattle.typing_laws.proofs.PathParts.{with_part_below}
-use Rattle.typing_laws.proofs.PathSpines.{with_spine_argument}
+use Rattle.chw_typing.specs.Paths.{argument_path, with_part}
+use Rattle.chw_typing.proofs.PathParts.{with_part_below}
+use Rattle.chw_typing.proofs.PathSpines.{with_spine_argument}
 use Rattle.rewriting.specs.Origins.{Origins}
 use Rattle.rewriting.specs.Active.{Below}
 use Rattle.rewriting.specs.Spots.{Spot}

@@ -2,7 +2,7 @@
 use Rattle.std.proofs.Common.{◌≡◌, ◌≢◌, ◌⊎◌, inl, inr, ℕ, ◌<◌, ◌≤◌, sym, refl, arith}
 use Rattle.std.proofs.Common.{List, [], ◌∷◌, ◌++◌}
 use Rattle.std.proofs.lemmas.Bool.{cases_lt, cases_eq}
-use Rattle.typing_laws.specs.Paths.{IsEarlier}
+use Rattle.chw_typing.specs.Paths.{IsEarlier}
 use Rattle.step_order.specs.Sought.{IsSoughtPath}
 
 -- where the paths part, the first one goes to an earlier child

@@ -12,8 +12,8 @@ use Rattle.chw_terms.specs.TermTree.{TermTree, letrec, con, prim, vec_lit, case_
 use Rattle.chw_terms.specs.TermTree.{Terms, Group, Alts, size_of}
 use Rattle.chw_terms.specs.TermView.{applied}
 use Rattle.chw_typing.specs.Scopes.{declared, with_more}
-use Rattle.typing_laws.specs.Groups.{binding_at, patterns}
-use Rattle.typing_laws.specs.Paths.{argument_path, Branch, element_at, part_of_group}
+use Rattle.chw_typing.specs.Groups.{binding_at, patterns}
+use Rattle.chw_typing.specs.Paths.{argument_path, Branch, element_at, part_of_group}
 use Rattle.rewriting.specs.Named.{IsNamed}
 use Rattle.rewriting.specs.Origins.{Origins}
 use Rattle.rewriting.specs.Active.{Below, right_side, let_body, constant_body, scrutinee}

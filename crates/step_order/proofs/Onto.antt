@@ -5,9 +5,9 @@ use Rattle.std.proofs.lemmas.Bool.{cases_eq}
 use Rattle.std.proofs.lemmas.Option.{same_Some}
 use Rattle.chw_types.specs.TypeTree.{TypeTree}
 use Rattle.chw_terms.specs.TermTree.{TermTree, letrec, vec_lit, case_of, Terms, Group, Alts}
-use Rattle.typing_laws.specs.Paths.{element_at, part_of_group, with_body, with_branch}
-use Rattle.typing_laws.specs.Paths.{with_element, with_side}
-use Rattle.typing_laws.proofs.PathChildren.{child_apart, child_of_with_child}
+use Rattle.chw_typing.specs.Paths.{element_at, part_of_group, with_body, with_branch}
+use Rattle.chw_typing.specs.Paths.{with_element, with_side}
+use Rattle.chw_typing.proofs.PathChildren.{child_apart, child_of_with_child}
 use Rattle.rewriting.specs.Origins.{Origins}
 use Rattle.rewriting.specs.Active.{Below}
 use Rattle.rewriting.specs.Spots.{Spot, spot, scrutinee_mode}

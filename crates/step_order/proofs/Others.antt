@@ -13,8 +13,8 @@ use Rattle.chw_terms.specs.TermTree.{TermTree, Group, no_bindings, bind, size_of
 use Rattle.chw_terms.specs.TermTree.{Alts, no_alts, alt}
 use Rattle.chw_typing.proofs.Renamed.{declared_length}
 use Rattle.chw_typing.specs.Scopes.{declared}
-use Rattle.typing_laws.specs.Groups.{binding_at, patterns}
-use Rattle.typing_laws.specs.Paths.{part_of_group, with_side, Branch, branch_at, with_branch}
+use Rattle.chw_typing.specs.Groups.{binding_at, patterns}
+use Rattle.chw_typing.specs.Paths.{part_of_group, with_side, Branch, branch_at, with_branch}
 use Rattle.rewriting.specs.Spots.{is_of_values, scrutinee_mode}
 
 -- an item where another was written, and elsewhere

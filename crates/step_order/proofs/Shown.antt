@@ -1,6 +1,6 @@
 -- The worked examples.
 use Rattle.std.proofs.Common.{inl, inr, refl, arith, [], ◌∷◌}
-use Rattle.typing_laws.specs.Paths.{IsEarlier}
+use Rattle.chw_typing.specs.Paths.{IsEarlier}
 use Rattle.step_order.specs.Examples.{AboveIsSought, BelowEarlierIsPassed, BelowIsSought}
 use Rattle.step_order.specs.Examples.{EarlierIsPassed, LaterIsSought, PlaceIsSought, from_here}
 

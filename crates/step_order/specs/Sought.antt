@@ -1,6 +1,6 @@
 -- From which place on a step is sought.
 use Rattle.std.specs.Prelude.{◌≡◌, ◌⊎◌, ℕ, ◌<◌, List, ◌++◌}
-use Rattle.typing_laws.specs.Paths.{IsEarlier}
+use Rattle.chw_typing.specs.Paths.{IsEarlier}
 use Rattle.rewriting.specs.Steps.{Where}
 
 -- not earlier than the place at which the search begins, or above it

@@ -1,9 +1,9 @@
 //! Parts of terms at paths: the numbers of a row are the path.
 use chw_base::{NoMemory, Or};
+use chw_typing::{part, set_part};
 use row_notation::{Parts, put_term, read};
 use row_tables::Unread;
 use std::alloc::Global;
-use typing_laws::{part, set_part};
 
 /// Writes what a call gives.
 pub(crate) fn answer(

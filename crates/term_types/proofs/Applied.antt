@@ -17,7 +17,7 @@ use Rattle.chw_terms.specs.declared.term.Arg.{Arg}
 use Rattle.chw_terms.specs.declared.term.Arg.TheVariants.{OfTerm, OfType}
 use Rattle.chw_typing.specs.Scopes.{Setting, HasKind}
 use Rattle.chw_typing.specs.Typing.{HasType, h_app, h_ty_app}
-use Rattle.typing_laws.specs.Finding.{settled, Finds, f_app, f_ty_app}
+use Rattle.chw_typing.specs.Finding.{settled, Finds, f_app, f_ty_app}
 use Rattle.chw_typing.proofs.Kinded.{function_parts, bound_part}
 use Rattle.chw_typing.proofs.OneType.{put_same_of_kinds}
 use Rattle.chw_typing.proofs.Patterns.{are_of_terms}
@@ -25,7 +25,7 @@ use Rattle.term_types.specs.Answers.{HasNoType, IsTyped, IsReady}
 use Rattle.term_types.specs.Kinding.{LacksKind, LacksKindUpTo, IsSettled}
 use Rattle.term_types.specs.Forms.{Takes, TakesNot, TakesType, TakesTypeNot}
 use Rattle.term_types.specs.declared.found.Found.{Found}
-use Rattle.typing_laws.proofs.FoundTyped.{found_is_type}
+use Rattle.chw_typing.proofs.FoundTyped.{found_is_type}
 use Rattle.term_types.proofs.Ready.{one, kinded}
 
 pub record AppParts (s : Setting) (kinds : List Kind) (vars : List TypeTree) (f e : TermTree) (b : TypeTree) : Type 0 where

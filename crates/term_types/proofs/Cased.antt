@@ -18,14 +18,14 @@ use Rattle.chw_typing.specs.Typing.{Binds, HasType, h_case, AllGive, none_give, 
 use Rattle.chw_typing.proofs.OneType.{one_type}
 use Rattle.chw_typing.proofs.Patterns.{binds_same, one_binding, looked_at_same}
 use Rattle.chw_typing.proofs.SameScopes.{are_same_self, same_more}
-use Rattle.typing_laws.specs.Finding.{f_case}
+use Rattle.chw_typing.specs.Finding.{f_case}
 use Rattle.term_types.specs.Answers.{HasNoType, IsTyped, IsAnswer, IsReady}
 use Rattle.term_types.specs.Binding.{BindsFound}
 use Rattle.term_types.specs.Cases.{Gives, GivesNothing, GiveTogether, IsJoined}
 use Rattle.term_types.specs.declared.found.Found.{Found}
 use Rattle.term_types.proofs.Bound.{binds}
 use Rattle.term_types.proofs.EachItem.{next_taken}
-use Rattle.typing_laws.proofs.FoundTyped.{found_is_type}
+use Rattle.chw_typing.proofs.FoundTyped.{found_is_type}
 use Rattle.term_types.proofs.Ready.{one, kept, ready_more}
 
 -- what a derivation for a case says of one alternative

@@ -9,12 +9,12 @@ use Rattle.type_laws.proofs.OneKind.{same_kind}
 use Rattle.chw_terms.specs.TermTree.{TermTree, lam, ty_lam}
 use Rattle.chw_typing.specs.Scopes.{Setting, HasKind, IsTermType, under_binder}
 use Rattle.chw_typing.specs.Typing.{HasType, h_lam, h_ty_lam}
-use Rattle.typing_laws.specs.Finding.{Finds, f_lam, f_ty_lam}
+use Rattle.chw_typing.specs.Finding.{Finds, f_lam, f_ty_lam}
 use Rattle.chw_typing.proofs.Kinded.{term_type, function_parts, function_takes}
 use Rattle.term_types.specs.Answers.{HasNoType, IsTyped, IsReady}
 use Rattle.term_types.specs.Kinding.{has_functions}
 use Rattle.term_types.specs.declared.found.Found.{Found}
-use Rattle.typing_laws.proofs.FoundTyped.{found_is_type}
+use Rattle.chw_typing.proofs.FoundTyped.{found_is_type}
 use Rattle.term_types.proofs.Ready.{one, of_terms}
 
 pub functions_found : (j k : Kind) → has_functions j k ≡ true → HasFunctions j k

@@ -11,8 +11,8 @@ use Rattle.chw_terms.specs.declared.scene.Scene.{Scene}
 use Rattle.chw_typing.specs.HeadTypes.{con_type}
 use Rattle.chw_typing.specs.Scopes.{setting_in}
 use Rattle.chw_typing.proofs.Lists.{found_in_map}
-use Rattle.typing_laws.specs.Finding.{Finds, f_global, f_con}
-use Rattle.typing_laws.proofs.FoundOnce.{one_found}
+use Rattle.chw_typing.specs.Finding.{Finds, f_global, f_con}
+use Rattle.chw_typing.proofs.FoundOnce.{one_found}
 use Rattle.type_numbers.specs.Nodes.{Grows}
 use Rattle.term_types.specs.Numbers.{IsNumberOf, IsNumberFound, AreNumbered, IsHeadNumbered, AreHeadsNumbered}
 use Rattle.term_types.specs.Signatures.{IsSignature}

@@ -16,7 +16,7 @@ use Rattle.chw_terms.specs.Constructors.{Constructor, con_at}
 use Rattle.chw_typing.specs.Scopes.{Setting, HasKind}
 use Rattle.chw_typing.specs.HeadTypes.{con_type, widest, literal_type}
 use Rattle.chw_typing.specs.Typing.{HasType, h_var, h_global, h_made, h_con, h_prim, h_lit}
-use Rattle.typing_laws.specs.Finding.{Finds, f_var, f_made, f_con, f_prim, f_lit}
+use Rattle.chw_typing.specs.Finding.{Finds, f_var, f_made, f_con, f_prim, f_lit}
 use Rattle.term_types.specs.Answers.{HasNoType, IsTyped, IsAnswer, IsReady, IsSet}
 use Rattle.term_types.specs.InScope.{InScope}
 use Rattle.term_types.specs.VarsView.{IsAt}

@@ -25,8 +25,8 @@ use Rattle.chw_typing.specs.Programs.{IsSound}
 use Rattle.chw_typing.specs.Scopes.{Setting, HasKind, IsTermType, AreTermTypes}
 use Rattle.chw_typing.proofs.Kinded.{term_type}
 use Rattle.chw_typing.proofs.Patterns.{fields_typed, constructor_arguments}
-use Rattle.typing_laws.specs.Finding.{settled}
-use Rattle.typing_laws.proofs.Settling.{settled_kinded}
+use Rattle.chw_typing.specs.Finding.{settled}
+use Rattle.chw_typing.proofs.Settling.{settled_kinded}
 use Rattle.term_types.specs.Binding.{BindsFound, BindsKinded}
 use Rattle.term_types.specs.Each.{Each}
 use Rattle.term_types.specs.Keeping.{IsLinear, HasNoSums, HaveNoSums, KeepKinds}

@@ -17,7 +17,7 @@ use Rattle.chw_typing.proofs.TermsPut.{term_put, puts_same}
 use Rattle.term_types.specs.Answers.{HasNoType, IsTyped, IsReady}
 use Rattle.term_types.specs.Kinding.{LacksKind}
 use Rattle.term_types.specs.declared.found.Found.{Found}
-use Rattle.typing_laws.proofs.FoundTyped.{found_is_type}
+use Rattle.chw_typing.proofs.FoundTyped.{found_is_type}
 
 pub one : {s : Setting} {kinds : List Kind} {vars : List TypeTree} {e : TermTree} {t u : TypeTree} → IsReady s kinds vars → HasType s kinds vars e t → HasType s kinds vars e u → SameTypes t u
 one {vars = vars} h d g = one_type d g h.0 h.1 h.1 (are_same_self vars)

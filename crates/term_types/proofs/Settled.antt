@@ -7,9 +7,9 @@ use Rattle.chw_types.specs.KindFound.{kind_found}
 use Rattle.chw_types.specs.Kinds.{IsOfTerms}
 use Rattle.chw_types.proofs.KindsFound.{one_kind, found_is_kind}
 use Rattle.chw_typing.specs.Scopes.{Setting, HasKind, IsTermType}
-use Rattle.typing_laws.specs.Leaving.{HasEachKind}
-use Rattle.typing_laws.specs.WithoutZeros.{without_zeros}
-use Rattle.typing_laws.specs.Finding.{settled, settled_by}
+use Rattle.chw_typing.specs.Leaving.{HasEachKind}
+use Rattle.chw_typing.specs.WithoutZeros.{without_zeros}
+use Rattle.chw_typing.specs.Finding.{settled, settled_by}
 use Rattle.term_types.specs.Kinding.{LacksKind, LacksKindUpTo, IsWithKind, IsSettled}
 use Rattle.term_types.specs.declared.found.Found.{Found}
 

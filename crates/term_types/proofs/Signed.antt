@@ -19,7 +19,7 @@ use Rattle.chw_terms.specs.declared.program.Def.{Def}
 use Rattle.chw_terms.specs.declared.program.Program.{Program}
 use Rattle.chw_typing.specs.Scopes.{Setting, HasKind}
 use Rattle.chw_typing.proofs.Lists.{found_in_map}
-use Rattle.typing_laws.specs.Finding.{f_global}
+use Rattle.chw_typing.specs.Finding.{f_global}
 use Rattle.chw_typing.specs.HeadTypes.{con_type}
 use Rattle.chw_typing.specs.Typing.{h_con, h_prim}
 use Rattle.term_types.specs.Answers.{HasNoType, IsTyped, IsAnswer, IsReady}

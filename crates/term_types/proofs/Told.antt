@@ -9,7 +9,7 @@ use Rattle.chw_typing.specs.Scopes.{Setting}
 use Rattle.chw_typing.specs.Typing.{HasTypeUpTo}
 use Rattle.term_types.specs.Answers.{HasNoType, IsTyped, IsReady}
 use Rattle.term_types.specs.declared.found.Found.{Found}
-use Rattle.typing_laws.proofs.FoundTyped.{found_is_type}
+use Rattle.chw_typing.proofs.FoundTyped.{found_is_type}
 use Rattle.term_types.proofs.Ready.{one}
 
 pub up_to_told : {s : Setting} {kinds : List Kind} {vars : List TypeTree} {e : TermTree} (t : TypeTree) (f : Found) (r : Bool) → IsReady s kinds vars → IsTyped s kinds vars e f → (IsTrue r ↔ SameTypes t f.ty) → (IsTrue r ↔ HasTypeUpTo s kinds vars e t)

@@ -13,7 +13,7 @@ use Rattle.chw_types.proofs.KindsKept.{kind_put, puts_put}
 use Rattle.chw_types.proofs.TypeLaws.{same, rename_sub, sub_sub, sub_ids}
 use Rattle.chw_typing.specs.Scopes.{Setting, HasKind}
 use Rattle.chw_typing.proofs.Kinded.{bound_part}
-use Rattle.typing_laws.proofs.Settling.{settled_kinded}
+use Rattle.chw_typing.proofs.Settling.{settled_kinded}
 use Rattle.term_types.specs.Forms.{Takes, TakesNot, TakesType}
 use Rattle.term_types.specs.Spines.{put_for, spine_found, IsStarted}
 use Rattle.term_types.specs.declared.found.Found.{Found}

@@ -6,7 +6,7 @@ use Rattle.chw_terms.specs.TermTree.{TermTree}
 use Rattle.chw_typing.specs.Scopes.{Setting, HasKind, AreTermTypes}
 use Rattle.chw_typing.specs.Programs.{IsSound}
 use Rattle.chw_typing.specs.Typing.{HasType}
-use Rattle.typing_laws.specs.Finding.{Finds}
+use Rattle.chw_typing.specs.Finding.{Finds}
 use Rattle.term_types.specs.InScope.{InScope}
 use Rattle.term_types.specs.Kinding.{HaveKinds}
 use Rattle.term_types.specs.declared.found.Found.{Found}

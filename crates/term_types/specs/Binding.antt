@@ -12,7 +12,7 @@ use Rattle.chw_terms.specs.declared.term.Pattern.{Pattern}
 use Rattle.chw_typing.specs.Scopes.{Setting, AreTermTypes}
 use Rattle.chw_typing.specs.HeadTypes.{widest, literal_type, PatternOf}
 use Rattle.chw_typing.specs.Typing.{Binds}
-use Rattle.typing_laws.specs.Finding.{settled}
+use Rattle.chw_typing.specs.Finding.{settled}
 use Rattle.term_types.specs.Kinding.{LacksKindUpTo, IsSettled, HaveKinds}
 use Rattle.term_types.specs.VarsView.{bound_types, bound_kinds}
 use Rattle.term_types.specs.declared.fields.Bound.{Bound}

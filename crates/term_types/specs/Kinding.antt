@@ -6,7 +6,7 @@ use Rattle.chw_types.specs.TypeTree.{TypeTree}
 use Rattle.chw_types.specs.SameTypes.{SameTypes}
 use Rattle.type_laws.specs.KindsKept.{AreOfTerms}
 use Rattle.chw_typing.specs.Scopes.{Setting, HasKind}
-use Rattle.typing_laws.specs.Finding.{settled}
+use Rattle.chw_typing.specs.Finding.{settled}
 use Rattle.term_types.specs.declared.found.Found.{Found}
 
 -- the type has no kind

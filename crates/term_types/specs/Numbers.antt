@@ -7,7 +7,7 @@ use Rattle.chw_terms.specs.TermTree.{TermTree}
 use Rattle.chw_terms.specs.declared.program.Def.{Def}
 use Rattle.chw_terms.specs.declared.program.Program.{Program}
 use Rattle.chw_typing.specs.Scopes.{Setting}
-use Rattle.typing_laws.specs.Finding.{Finds}
+use Rattle.chw_typing.specs.Finding.{Finds}
 use Rattle.term_types.specs.declared.numbering.Numbering.{Numbering}
 use Rattle.term_types.specs.declared.signature.HeadType.{HeadType}
 

@@ -8,8 +8,8 @@ use crate::seen::Seen;
 use chw_base::NoMemory;
 use chw_terms::Scene;
 use chw_types::{Kind, Ty, kind_of};
+use chw_typing::without_zeros;
 use std::alloc::Global;
-use typing_laws::without_zeros;
 
 /// A type that is written in the description, with its kind.
 #[derive(Clone, Copy)]

@@ -1,7 +1,7 @@
 //! The type of a term.
 ghost use Rattle.std.specs.Prelude.{◌≡◌, [], reverse, IfOk, IfSome, IfNone};
 ghost use Rattle.chw_typing.specs.Scopes.{setting_in};
-ghost use Rattle.typing_laws.specs.Finding.{Finds};
+ghost use Rattle.chw_typing.specs.Finding.{Finds};
 ghost use Rattle.term_types.specs.Answers.{HasNoType, IsReady};
 ghost use Rattle.term_types.specs.Signatures.{IsSignature};
 

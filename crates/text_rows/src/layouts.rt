@@ -6,11 +6,11 @@ use chw_base::{NoMemory, Or};
 use chw_bits::Bits;
 use chw_layout::{DataNode, DataValue, NoLayout, width};
 use chw_types::{Data, Ty};
+use chw_typing::named_laws::data_types_in_order;
 use data_bits::{decode, encode};
 use itoa::Buffer;
 use row_tables::{Unread, bytes_of, put, put_number};
 use std::alloc::Global;
-use typing_laws::named_laws::data_types_in_order;
 
 /// Writes the width of the type of a text's last definition, or what has none.
 pub(crate) fn put_width(alloc: Global, text: &str, out: &mut Vec<u8>) -> Result<(), Or<Unread>> {

@@ -9,10 +9,10 @@ ghost use Rattle.rule_parts.specs.Cores.{HasTypeAt};
 
 use chw_base::NoMemory;
 use chw_terms::{Place, Scene, Term};
+use chw_typing::found_laws::found_is_type;
 use rewriting::scene_laws::settings_of_scenes;
 use std::alloc::Global;
 use term_types::{Signature, type_of_in};
-use typing_laws::found_laws::found_is_type;
 
 /// Whether a term has a type at a place.
 ///

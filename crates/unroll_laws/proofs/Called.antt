@@ -26,9 +26,9 @@ use Rattle.chw_typing.proofs.Heads.{functions_of_terms}
 use Rattle.chw_typing.proofs.Kinded.{term_type, function_parts, bound_part, typed_more, type_kinded}
 use Rattle.chw_typing.proofs.Lists.{turned_onto}
 use Rattle.chw_typing.proofs.TermsPut.{kind_same}
-use Rattle.typing_laws.specs.Given.{AreGiven, AllAllow, IsSaturated}
-use Rattle.typing_laws.proofs.Lets.{let_typed}
-use Rattle.typing_laws.proofs.Saturated.{turned_arguments}
+use Rattle.chw_typing.specs.Given.{AreGiven, AllAllow, IsSaturated}
+use Rattle.chw_typing.proofs.Lets.{let_typed}
+use Rattle.chw_typing.proofs.Saturated.{turned_arguments}
 
 -- each of these types has a degree of at most 1, as a numeral, a variable, and what has no naturals at its top
 abbrev pub AllSmall : List TypeTree → Type 0

@@ -16,8 +16,8 @@ use Rattle.chw_typing.specs.HeadTypes.{for_each, from_each}
 use Rattle.chw_typing.specs.Programs.{IsSound}
 use Rattle.chw_typing.specs.Typing.{HasType, HasTypeUpTo}
 use Rattle.chw_typing.proofs.Kinded.{schema_kind}
-use Rattle.typing_laws.specs.Given.{IsSaturated}
-use Rattle.typing_laws.proofs.Saturated.{prim_at_arguments}
+use Rattle.chw_typing.specs.Given.{IsSaturated}
+use Rattle.chw_typing.proofs.Saturated.{prim_at_arguments}
 use Rattle.unroll_laws.specs.Laws.{called}
 use Rattle.unroll_laws.proofs.Called.{AllSmall, let_keeps}
 

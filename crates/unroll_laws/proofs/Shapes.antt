@@ -14,7 +14,7 @@ use Rattle.chw_typing.specs.Scopes.{HasKind, with_more}
 use Rattle.chw_typing.specs.HeadTypes.{for_each, from_each}
 use Rattle.chw_typing.specs.Typing.{HasTypeUpTo}
 use Rattle.chw_typing.proofs.EvaluatedTypes.{kind_evaluated}
-use Rattle.typing_laws.specs.Given.{IsSaturated}
+use Rattle.chw_typing.specs.Given.{IsSaturated}
 use Rattle.unroll_laws.proofs.Kept.{Call, call_of, kept}
 use Rattle.unroll_laws.proofs.Sized.{IsNumber, number_small, term_small, first_kind, later_kinds}
 

@@ -9,7 +9,7 @@ use Rattle.chw_terms.specs.Unrolled.{CanUnroll, unrolled}
 use Rattle.chw_typing.specs.Scopes.{Setting, AreTermTypes}
 use Rattle.chw_typing.specs.Typing.{HasType, HasTypeUpTo}
 use Rattle.chw_typing.specs.Programs.{IsSound}
-use Rattle.typing_laws.specs.Given.{types_then}
+use Rattle.chw_typing.specs.Given.{types_then}
 
 -- a primitive at these types and on these arguments, as a term
 abbrev pub called : Prim → List TypeTree → List TermTree → TermTree

@@ -13,7 +13,7 @@ use Rattle.chw_terms.specs.Occurs.{occurs}
 use Rattle.chw_terms.specs.TermMoves.{rename, sub, sub_group, in_place_of, lowered}
 use Rattle.chw_terms.specs.TermTree.{TermTree, letrec, Group, no_bindings, bind, size_of}
 use Rattle.chw_terms.specs.TermView.{group_of}
-use Rattle.typing_laws.specs.Groups.{joined}
+use Rattle.chw_typing.specs.Groups.{joined}
 use Rattle.rewriting.specs.Named.{IsNamed}
 use Rattle.rewriting.specs.Origins.{Origins}
 use Rattle.rewriting.specs.Spots.{Spot}

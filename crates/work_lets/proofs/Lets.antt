@@ -5,7 +5,7 @@ use Rattle.chw_terms.specs.declared.rule.Rule.TheVariants.{TyBeta, Beta, AppLet,
 use Rattle.chw_terms.specs.declared.term.Binding.{Binding}
 use Rattle.chw_terms.specs.TermTree.{TermTree, letrec, Group, bind}
 use Rattle.chw_terms.specs.TermView.{group_of}
-use Rattle.typing_laws.specs.Groups.{joined}
+use Rattle.chw_typing.specs.Groups.{joined}
 use Rattle.rewriting.specs.Origins.{Origins}
 use Rattle.rewriting.specs.Spots.{Spot}
 use Rattle.rewriting.specs.Lets.{OfLets, flat_side, flat_body, dead, inline}

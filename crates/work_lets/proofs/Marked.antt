@@ -7,7 +7,7 @@ use Rattle.chw_terms.specs.declared.term.Binding.{Binding}
 use Rattle.chw_terms.specs.TermMoves.{rename, rename_group}
 use Rattle.chw_terms.specs.TermTree.{TermTree, letrec, Group, no_bindings, bind, size_of}
 use Rattle.chw_terms.specs.TermView.{group_of}
-use Rattle.typing_laws.specs.Groups.{Reached}
+use Rattle.chw_typing.specs.Groups.{Reached}
 use Rattle.rewriting.specs.Origins.{Origins}
 use Rattle.rewriting.specs.Spots.{Spot}
 use Rattle.rewriting.specs.Lets.{OfLets, flat_side, flat_body, dead, inline, kept, MarksReached}

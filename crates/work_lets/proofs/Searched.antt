@@ -11,7 +11,7 @@ use Rattle.chw_terms.specs.FreeVariables.{occurrences}
 use Rattle.chw_terms.specs.Occurs.{occurs}
 use Rattle.chw_terms.specs.TermTree.{TermTree, Group, size_of}
 use Rattle.chw_terms.specs.TermView.{group_of}
-use Rattle.typing_laws.specs.Groups.{binding_at, Reached, from_body, from_side}
+use Rattle.chw_typing.specs.Groups.{binding_at, Reached, from_body, from_side}
 use Rattle.rewriting.specs.Lets.{MarksReached}
 use Rattle.work_lets.specs.declared.reached.Search.{Search}
 use Rattle.work_lets.specs.Searching.{IsMarked, unmarked, NamesBinding, Noted}

@@ -11,9 +11,9 @@ use Rattle.chw_terms.specs.FreeVariables.{free_in}
 use Rattle.chw_terms.specs.Occurs.{occurs}
 use Rattle.chw_terms.specs.TermTree.{TermTree}
 use Rattle.chw_typing.specs.HeadTypes.{from_each}
-use Rattle.typing_laws.specs.Finding.{Finds}
-use Rattle.typing_laws.specs.FoundLaws.{FoundIsType, OneFound}
-use Rattle.typing_laws.proofs.Free.{free_occur}
+use Rattle.chw_typing.specs.Finding.{Finds}
+use Rattle.chw_typing.specs.FoundLaws.{FoundIsType, OneFound}
+use Rattle.chw_typing.proofs.Free.{free_occur}
 use Rattle.rewriting.specs.Origins.{Origins, setting_at}
 use Rattle.rewriting.specs.Spots.{Spot}
 use Rattle.rewriting.specs.Shapes.{IsClosed, IsMade, leading_lambdas}

@@ -11,7 +11,7 @@ use Rattle.chw_terms.specs.declared.term.Head.TheVariants.{PrimOf}
 use Rattle.chw_terms.specs.TermTree.{TermTree, prim}
 use Rattle.chw_terms.specs.TermView.{tree_of, applied}
 use Rattle.chw_terms.proofs.Spines.{applied_more}
-use Rattle.typing_laws.specs.Given.{types_then}
+use Rattle.chw_typing.specs.Given.{types_then}
 use Rattle.rewriting.specs.Origins.{Origins}
 use Rattle.rewriting.specs.Spots.{Spot}
 use Rattle.rewriting.specs.Instances.{Makes}

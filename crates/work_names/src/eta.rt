@@ -6,9 +6,9 @@ ghost use Rattle.chw_prims.specs.declared.prim.Primitive.TheVariants.{Fmap};
 ghost use Rattle.chw_terms.specs.declared.rule.Rule.TheVariants.{Eta};
 ghost use Rattle.chw_terms.specs.TermTree.{TermTree, prim};
 ghost use Rattle.chw_terms.specs.TermView.{applied};
-ghost use Rattle.typing_laws.specs.Given.{types_then};
+ghost use Rattle.chw_typing.specs.Given.{types_then};
 ghost use Rattle.chw_typing.specs.Scopes.{setting_in};
-ghost use Rattle.typing_laws.specs.Finding.{Finds};
+ghost use Rattle.chw_typing.specs.Finding.{Finds};
 ghost use Rattle.rewriting.specs.Origins.{origins_of, setting_at, on_variables, under_each, eta_expanded};
 ghost use Rattle.rewriting.specs.Spots.{spot_of};
 ghost use Rattle.rewriting.specs.Shapes.{IsClosed, IsMade, IsOfCircuit, fmap_of, leading_lambdas};
@@ -22,11 +22,11 @@ use chw_base::{NoMemory, VarIx, narrow};
 use chw_prims::Prim;
 use chw_terms::{Arg, Head, Mode, Place, Scene, Term, shift};
 use chw_types::Ty;
+use chw_typing::found_laws::{found_is_type, one_found};
 use free_variables::free_in;
 use rewriting::scene_laws::settings_of_scenes;
 use std::alloc::Global;
 use term_types::{Signature, type_of_in};
-use typing_laws::found_laws::{found_is_type, one_found};
 
 // Whether circuits are built there, or looked at.
 fn is_of_circuit(mode: Mode) -> bool

@@ -14,8 +14,8 @@ use Rattle.chw_terms.specs.TermTree.{TermTree, var, vec_lit, case_of, Terms, no_
 use Rattle.chw_terms.specs.TermTree.{Alts, alt, binders}
 use Rattle.chw_terms.specs.TermView.{applied, terms_of, alts_of}
 use Rattle.chw_terms.proofs.ShiftLaws.{raised_is}
-use Rattle.typing_laws.specs.Paths.{element_at, with_element, with_part, IsEarlier}
-use Rattle.typing_laws.proofs.PathParts.{with_part_below}
+use Rattle.chw_typing.specs.Paths.{element_at, with_element, with_part, IsEarlier}
+use Rattle.chw_typing.proofs.PathParts.{with_part_below}
 use Rattle.rewriting.specs.Origins.{Origins}
 use Rattle.rewriting.specs.Spots.{Spot, HasLets}
 use Rattle.rewriting.specs.Operands.{StandsAt, of_case, of_vector, NeedsName}

@@ -13,10 +13,10 @@ use Rattle.chw_terms.specs.TermTree.{TermTree, var, global, made, con}
 use Rattle.chw_terms.specs.TermTree.{prim}
 use Rattle.chw_terms.specs.TermView.{applied}
 use Rattle.chw_typing.proofs.Lists.{found_in_map}
-use Rattle.typing_laws.proofs.Exchanged.{spine_renamed}
-use Rattle.typing_laws.specs.Groups.{rename_arg}
-use Rattle.typing_laws.specs.Paths.{with_part, IsEarlier, argument_path}
-use Rattle.typing_laws.proofs.PathSpines.{with_spine_argument}
+use Rattle.chw_typing.proofs.Exchanged.{spine_renamed}
+use Rattle.chw_typing.specs.Groups.{rename_arg}
+use Rattle.chw_typing.specs.Paths.{with_part, IsEarlier, argument_path}
+use Rattle.chw_typing.proofs.PathSpines.{with_spine_argument}
 use Rattle.rewriting.specs.Operands.{with_name}
 use Rattle.rewriting.specs.Shapes.{shift_args}
 use Rattle.work_operands.specs.Named.{let_of, with_arg_named}

@@ -14,7 +14,7 @@ use Rattle.chw_terms.specs.TermTree.{prim}
 use Rattle.chw_terms.specs.TermView.{applied}
 use Rattle.chw_terms.proofs.Spines.{applied_more}
 use Rattle.chw_typing.specs.HeadTypes.{con_type}
-use Rattle.typing_laws.specs.Paths.{IsEarlier, argument_path}
+use Rattle.chw_typing.specs.Paths.{IsEarlier, argument_path}
 use Rattle.rewriting.specs.Origins.{Origins}
 use Rattle.rewriting.specs.Spots.{Spot, HasLets, asked_for}
 use Rattle.rewriting.specs.Calls.{OfWhole, anf_call}

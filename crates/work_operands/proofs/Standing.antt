@@ -14,7 +14,7 @@ use Rattle.chw_terms.specs.TermTree.{Alts}
 use Rattle.chw_terms.specs.TermView.{applied}
 use Rattle.chw_terms.proofs.Spines.{applied_more}
 use Rattle.chw_typing.specs.HeadTypes.{con_type}
-use Rattle.typing_laws.specs.Paths.{element_at, argument_path}
+use Rattle.chw_typing.specs.Paths.{element_at, argument_path}
 use Rattle.rewriting.specs.Origins.{Origins}
 use Rattle.rewriting.specs.Spots.{Spot, HasLets, asked_for}
 use Rattle.rewriting.specs.Operands.{StandsAt, of_prim, of_case, of_con, of_vector, StandsInCall}

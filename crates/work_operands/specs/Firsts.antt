@@ -9,7 +9,7 @@ use Rattle.chw_terms.specs.declared.term.Arg.{Arg}
 use Rattle.chw_terms.specs.declared.term.Arg.TheVariants.{OfTerm}
 use Rattle.chw_terms.specs.TermTree.{TermTree, global, made}
 use Rattle.chw_terms.specs.TermView.{applied}
-use Rattle.typing_laws.specs.Finding.{Finds}
+use Rattle.chw_typing.specs.Finding.{Finds}
 use Rattle.rewriting.specs.Origins.{Origins, setting_at}
 use Rattle.term_types.specs.Answers.{HasNoType}
 use Rattle.rewriting.specs.Spots.{Spot, IsOnWords, TakesElement}

@@ -13,12 +13,12 @@ use crate::operands::{Operands, is_among};
 use chw_base::NoMemory;
 use chw_terms::{Arg, Head, Place, Scene, Term};
 use chw_types::Ty;
+use chw_typing::found_laws::found_is_type;
 use chw_typing::laws::{one_type, types_are_term_types};
 use rewriting::scene_laws::{names_of_modes, settings_of_scenes};
 use rule_parts::named::is_named;
 use std::alloc::Global;
 use term_types::{Signature, type_of_in};
-use typing_laws::found_laws::found_is_type;
 
 /// A part that gets a name: its number, its type, and the part.
 #[derive(Drop)]

@@ -14,10 +14,10 @@ use crate::finding::{is_let, is_variable, type_at};
 use crate::operands::has_lets;
 use chw_base::NoMemory;
 use chw_terms::{Place, Scene, Term};
+use chw_typing::found_laws::found_is_type;
 use rule_parts::copies::let_one;
 use std::alloc::Global;
 use term_types::Signature;
-use typing_laws::found_laws::found_is_type;
 
 // Whether what is given at a place gets a name.
 fn is_result(place: &Place) -> bool

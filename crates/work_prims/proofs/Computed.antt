@@ -13,7 +13,7 @@ use Rattle.chw_terms.specs.declared.term.Arg.TheVariants.{OfTerm}
 use Rattle.chw_terms.specs.Evaluated.{evaluated}
 use Rattle.chw_terms.specs.TermTree.{TermTree, prim}
 use Rattle.chw_terms.specs.TermView.{applied}
-use Rattle.typing_laws.specs.Given.{types_then}
+use Rattle.chw_typing.specs.Given.{types_then}
 use Rattle.rewriting.specs.Origins.{Origins}
 use Rattle.rewriting.specs.Spots.{Spot}
 use Rattle.prim_bits.specs.Values.{value_of}

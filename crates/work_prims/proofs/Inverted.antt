@@ -16,7 +16,7 @@ use Rattle.chw_terms.specs.Evaluated.{evaluated}
 use Rattle.chw_terms.specs.TermTree.{TermTree, prim, lit, vec_lit}
 use Rattle.chw_terms.specs.TermView.{applied}
 use Rattle.chw_terms.specs.Unrolled.{CanUnroll, unrolled}
-use Rattle.typing_laws.specs.Given.{types_then}
+use Rattle.chw_typing.specs.Given.{types_then}
 use Rattle.rewriting.specs.Origins.{Origins}
 use Rattle.rewriting.specs.Spots.{Spot, asked_for}
 use Rattle.rewriting.specs.Primitives.{OfPrimitives, HasUnnamedVector, HasValue, literal, word_given, unroll, elem, elem_at, delta}

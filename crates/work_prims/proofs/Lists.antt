@@ -14,7 +14,7 @@ use Rattle.chw_terms.specs.declared.term.Arg.TheVariants.{OfTerm}
 use Rattle.chw_terms.specs.TermTree.{TermTree, lit}
 use Rattle.chw_terms.specs.TermView.{terms_of}
 use Rattle.rewriting.specs.Primitives.{literal}
-use Rattle.typing_laws.specs.Paths.{element_at}
+use Rattle.chw_typing.specs.Paths.{element_at}
 use Rattle.work_prims.specs.Given.{literals, AreWords}
 
 -- what a mapped list has at a place is what the map gives of something

@@ -17,8 +17,8 @@ use Rattle.chw_terms.specs.Unrolled.{CanUnroll, body_of}
 use Rattle.chw_typing.specs.Scopes.{Setting}
 use Rattle.chw_typing.specs.Laws.{OneType, TypesAreTermTypes}
 use Rattle.chw_typing.specs.Typing.{HasType}
-use Rattle.typing_laws.specs.Finding.{Finds}
-use Rattle.typing_laws.specs.FoundLaws.{FoundIsType}
+use Rattle.chw_typing.specs.Finding.{Finds}
+use Rattle.chw_typing.specs.FoundLaws.{FoundIsType}
 use Rattle.term_types.specs.Answers.{IsReady}
 use Rattle.rewriting.specs.SceneLaws.{SameKeepsNamed}
 use Rattle.rewriting.specs.Named.{IsNamed}

@@ -7,8 +7,8 @@ use Rattle.chw_types.specs.TypeTree.{TypeTree, nat_lit}
 use Rattle.chw_terms.specs.declared.term.Arg.{Arg}
 use Rattle.chw_terms.specs.Evaluated.{evaluated}
 use Rattle.chw_terms.specs.TermTree.{TermTree, Terms, lit, vec_lit}
-use Rattle.typing_laws.specs.Given.{types_then}
-use Rattle.typing_laws.specs.Paths.{element_at}
+use Rattle.chw_typing.specs.Given.{types_then}
+use Rattle.chw_typing.specs.Paths.{element_at}
 
 -- a number, two types and a written vector, of which this is the element of that number
 pub record IsElement (args : List Arg) (e : TermTree) : Type 0 where

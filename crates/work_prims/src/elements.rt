@@ -8,7 +8,7 @@ ghost use Rattle.chw_terms.specs.TermTree.{TermTree, Terms, prim, vec_lit};
 ghost use Rattle.chw_terms.specs.TermView.{terms_of, applied};
 ghost use Rattle.rewriting.specs.Origins.{Origins};
 ghost use Rattle.rewriting.specs.Spots.{spot_of};
-ghost use Rattle.typing_laws.specs.Paths.{element_at};
+ghost use Rattle.chw_typing.specs.Paths.{element_at};
 ghost use Rattle.rule_parts.specs.Cores.{AnswersCore};
 ghost use Rattle.work_prims.specs.Elements.{IsElement, IsElementAt};
 

@@ -22,13 +22,13 @@ use chw_base::NoMemory;
 use chw_prims::{Prim, Row};
 use chw_terms::{Arg, Mode, Place, Scene, Term};
 use chw_types::Ty;
+use chw_typing::found_laws::found_is_type;
 use chw_typing::laws::{one_type, types_are_term_types};
 use prim_vec::{can_unroll, unroll};
 use rewriting::scene_laws::{names_of_modes, settings_of_scenes};
 use rule_parts::named::is_named;
 use std::alloc::Global;
 use term_types::{Signature, type_of_in};
-use typing_laws::found_laws::found_is_type;
 
 // Whether the primitives of a line are ever written out.
 fn has_form(row: Row) -> bool

@@ -8,7 +8,7 @@ use Rattle.chw_terms.specs.declared.term.Head.{Head}
 use Rattle.chw_terms.specs.declared.term.Head.TheVariants.{PrimOf}
 use Rattle.chw_terms.specs.TermTree.{TermTree, prim}
 use Rattle.chw_terms.specs.TermView.{tree_of, applied}
-use Rattle.typing_laws.specs.Given.{types_then}
+use Rattle.chw_typing.specs.Given.{types_then}
 use Rattle.rewriting.proofs.Spines.{head_is, args_are}
 use Rattle.rule_parts.proofs.Heads.{bare}
 use Rattle.work_signals.specs.declared.views.Lifted.{Lifted}

@@ -4,7 +4,7 @@ ghost use Rattle.chw_types.specs.TypeTree.{fun};
 ghost use Rattle.chw_prims.specs.declared.prim.Primitive.TheVariants.{Fmap, Pure};
 ghost use Rattle.chw_terms.specs.TermTree.{app, ty_app, prim};
 ghost use Rattle.chw_terms.specs.TermView.{applied};
-ghost use Rattle.typing_laws.specs.Given.{types_then};
+ghost use Rattle.chw_typing.specs.Given.{types_then};
 ghost use Rattle.rewriting.specs.Shapes.{fmap_of, pure_of};
 
 use chw_base::NoMemory;

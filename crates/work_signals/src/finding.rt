@@ -11,10 +11,10 @@ ghost use Rattle.work_signals.specs.Joined.{AnswersType, AnswersFunction, Answer
 use chw_base::NoMemory;
 use chw_terms::{Place, Scene, Term};
 use chw_types::{Ty, TyNode};
+use chw_typing::found_laws::{found_is_type, one_found};
 use rewriting::scene_laws::settings_of_scenes;
 use std::alloc::Global;
 use term_types::{Signature, type_of_in};
-use typing_laws::found_laws::{found_is_type, one_found};
 
 // The type of a term at a place.
 fn type_at(

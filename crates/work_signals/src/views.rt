@@ -5,7 +5,7 @@ ghost use Rattle.chw_prims.specs.declared.prim.Primitive.{Primitive};
 ghost use Rattle.chw_prims.specs.declared.prim.Primitive.TheVariants.{Fmap, Ap, Pure};
 ghost use Rattle.chw_terms.specs.TermTree.{TermTree, prim};
 ghost use Rattle.chw_terms.specs.TermView.{tree_of, applied};
-ghost use Rattle.typing_laws.specs.Given.{types_then};
+ghost use Rattle.chw_typing.specs.Given.{types_then};
 ghost use Rattle.rewriting.specs.Shapes.{fmap_of, ap_of, pure_of};
 
 use chw_prims::Prim;

@@ -6,7 +6,7 @@ use Rattle.chw_terms.specs.TermView.{applied}
 use Rattle.chw_typing.specs.HeadTypes.{con_type}
 use Rattle.chw_typing.specs.Scopes.{with_more}
 use Rattle.con_places.specs.Constructing.{constructor_of}
-use Rattle.typing_laws.specs.Paths.{argument_path}
+use Rattle.chw_typing.specs.Paths.{argument_path}
 use Rattle.rewriting.specs.Origins.{origins_of}
 use Rattle.rewriting.specs.Active.{Below, of_constructor}
 use Rattle.rewriting.specs.Spots.{spot, spot_of, asked_for}

@@ -3,7 +3,7 @@ use Rattle.chw_terms.specs.declared.scene.Mode.{Mode}
 use Rattle.chw_terms.specs.TermTree.{prim}
 use Rattle.chw_terms.specs.TermView.{applied}
 use Rattle.chw_typing.specs.Scopes.{with_more}
-use Rattle.typing_laws.specs.Paths.{argument_path}
+use Rattle.chw_typing.specs.Paths.{argument_path}
 use Rattle.rewriting.specs.Origins.{origins_of}
 use Rattle.rewriting.specs.Active.{Below}
 use Rattle.rewriting.specs.Spots.{spot, spot_of}

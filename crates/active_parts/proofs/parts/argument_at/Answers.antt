@@ -1,6 +1,6 @@
 use Rattle.std.proofs.Common.{◌∙◌, length, refl, ap, Some, arith}
 use Rattle.std.proofs.lemmas.Option.{slice_get_read}
-use Rattle.typing_laws.specs.Paths.{argument_path}
+use Rattle.chw_typing.specs.Paths.{argument_path}
 use Rattle.rewriting.specs.Origins.{origins_of}
 use Rattle.rewriting.specs.Spots.{spot_of}
 use Rattle.active_parts.proofs.Spines.{no_others, no_type_below}

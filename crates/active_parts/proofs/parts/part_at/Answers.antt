@@ -2,7 +2,7 @@ use Rattle.std.proofs.Common.{◌≡◌, ◌∙◌, [], length, sym, ap, subst, 
 use Rattle.std.proofs.lemmas.Bool.{eqb-false}
 use Rattle.chw_terms.specs.TermView.{tree_of, applied}
 use Rattle.chw_typing.specs.Scopes.{setting_in}
-use Rattle.typing_laws.specs.Paths.{argument_path}
+use Rattle.chw_typing.specs.Paths.{argument_path}
 use Rattle.rewriting.specs.Origins.{origins_of}
 use Rattle.rewriting.specs.Spots.{spot_of}
 use Rattle.active_parts.specs.Grounds.{IsTypedAt}

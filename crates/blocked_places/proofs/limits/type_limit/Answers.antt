@@ -6,7 +6,7 @@ use Rattle.normal_forms.specs.Blocked.{Passes}
 use Rattle.rewriting.specs.Origins.{origins_of, setting_at}
 use Rattle.rewriting.specs.Spots.{spot_of}
 use Rattle.term_types.specs.Answers.{HasNoType}
-use Rattle.typing_laws.specs.Finding.{Finds}
+use Rattle.chw_typing.specs.Finding.{Finds}
 use Rattle.blocked_places.specs.Firsts.{FindsOf}
 use Rattle.blocked_places.proofs.Results.{ok_more}
 use Rattle.blocked_places.proofs.Turns.{type_passes}

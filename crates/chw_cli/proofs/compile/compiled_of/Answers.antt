@@ -1,6 +1,6 @@
 use Rattle.chw_cli.proofs.Emitting.{fault_refuses}
-use Rattle.compiled.proofs.Ends.{of_fault}
-use Rattle.compiled.specs.Compiling.{IsCompileFault}
+use Rattle.answers.proofs.Compilation.Ends.{of_fault}
+use Rattle.answers.specs.Compilation.Compiling.{IsCompileFault}
 use Rattle.chw_cli.proofs.compile.compiled_of.Goals as goal
 
 pub returns-in-Err-Fault-clause-refused : goal.returns-in-Err-Fault-clause-refused

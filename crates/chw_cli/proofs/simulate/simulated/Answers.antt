@@ -4,7 +4,7 @@ use Rattle.chw_cli.specs.Fetching.RefusesFile.{wrong}
 use Rattle.chw_cli.specs.Reads.{stimulus_in}
 use Rattle.chw_cli.specs.Refusals.{RefusesSimulation, of_sim_fault}
 use Rattle.chw_cli.proofs.Reasons.{lacking_refuses, sim_refuses}
-use Rattle.sim_answer.specs.Simulation.{IsSimulation}
+use Rattle.answers.specs.SimAnswer.Simulation.{IsSimulation}
 use Rattle.chw_cli.proofs.simulate.simulated.Goals as goal
 
 pub returns-in_err-text-clause-refused : goal.returns-in_err-text-clause-refused

@@ -3,8 +3,8 @@ use Rattle.chw_terms.specs.TermTree.{case_of}
 use Rattle.chw_terms.specs.TermView.{tree_of, alts_of}
 use Rattle.chw_typing.specs.Scopes.{setting_in}
 use Rattle.chw_typing.specs.Typing.{HasType}
-use Rattle.typing_laws.specs.Finding.{Finds}
-use Rattle.typing_laws.specs.Groups.{each_body}
+use Rattle.chw_typing.specs.Finding.{Finds}
+use Rattle.chw_typing.specs.Groups.{each_body}
 use Rattle.rewriting.specs.Named.{IsNamed}
 use Rattle.rewriting.specs.Origins.{origins_of, setting_at}
 use Rattle.rewriting.specs.Spots.{spot_of}

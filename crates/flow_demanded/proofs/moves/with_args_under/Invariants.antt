@@ -1,6 +1,6 @@
 use Rattle.std.proofs.Common.{◌≡◌, ◌++◌, map, take}
 use Rattle.chw_types.specs.TypeMoves.{raised}
-use Rattle.typing_laws.specs.Groups.{rename_arg}
+use Rattle.chw_typing.specs.Groups.{rename_arg}
 use Rattle.flow_demanded.proofs.moves.with_args_under.Given as goal
 
 abbrev pub invariant-loop-arg : goal.invariant-loop-arg

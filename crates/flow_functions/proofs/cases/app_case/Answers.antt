@@ -6,8 +6,8 @@ use Rattle.chw_terms.specs.TermMoves.{shift}
 use Rattle.chw_terms.specs.TermTree.{var, app, ty_app, letrec, bind, no_bindings, case_of}
 use Rattle.chw_terms.specs.TermView.{alts_of}
 use Rattle.chw_typing.specs.Scopes.{setting_in}
-use Rattle.typing_laws.specs.Finding.{Finds}
-use Rattle.typing_laws.specs.Groups.{each_body}
+use Rattle.chw_typing.specs.Finding.{Finds}
+use Rattle.chw_typing.specs.Groups.{each_body}
 use Rattle.rewriting.specs.Origins.{origins_of, setting_at}
 use Rattle.rewriting.specs.Spots.{spot_of}
 use Rattle.rewriting.specs.Functions.{app_case, app_case_type}

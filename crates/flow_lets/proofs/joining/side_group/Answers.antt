@@ -1,6 +1,6 @@
 use Rattle.std.proofs.Common.{◌≡◌, ◌∙◌, IfOk, ap, subst}
 use Rattle.chw_terms.specs.TermView.{group_of}
-use Rattle.typing_laws.specs.Groups.{joined}
+use Rattle.chw_typing.specs.Groups.{joined}
 use Rattle.rewriting.specs.Shapes.{shift_group}
 use Rattle.flow_lets.proofs.OneGroup.{side_is}
 use Rattle.flow_lets.proofs.joining.side_group.Goals as goal

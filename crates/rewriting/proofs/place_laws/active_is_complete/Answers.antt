@@ -1,4 +1,4 @@
-use Rattle.typing_laws.proofs.Complete.{part_complete}
+use Rattle.chw_typing.proofs.Complete.{part_complete}
 use Rattle.rewriting.proofs.Parts.{active_is_part}
 use Rattle.rewriting.proofs.place_laws.active_is_complete.Goals as goal
 

@@ -1,6 +1,6 @@
 use Rattle.std.proofs.Common.{[]}
 use Rattle.rewriting.specs.Origins.{setting_at}
-use Rattle.typing_laws.proofs.TypedSpines.{head_changed}
+use Rattle.chw_typing.proofs.TypedSpines.{head_changed}
 use Rattle.rule_types.proofs.Complete.{core_complete}
 use Rattle.rule_types.proofs.laws.cores_keep.Goals as goal
 

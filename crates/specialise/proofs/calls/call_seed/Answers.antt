@@ -1,6 +1,6 @@
 use Rattle.chw_types.specs.TypeTree.{TypeTree}
 use Rattle.std.proofs.Common.{[], List}
-use Rattle.typing_laws.specs.Finding.{Finds}
+use Rattle.chw_typing.specs.Finding.{Finds}
 use Rattle.rewriting.specs.Calls.{IsCall}
 use Rattle.rewriting.specs.Named.{IsNamed}
 use Rattle.rewriting.specs.Origins.{origins_of, setting_at}

@@ -1,5 +1,5 @@
 use Rattle.std.proofs.Common.{IfSome, [], sym, subst}
-use Rattle.typing_laws.specs.Finding.{Finds}
+use Rattle.chw_typing.specs.Finding.{Finds}
 use Rattle.rewriting.specs.Origins.{origins_of, setting_at}
 use Rattle.rewriting.specs.Spots.{spot_of}
 use Rattle.term_types.specs.Answers.{IsReady}

@@ -1,6 +1,6 @@
 use Rattle.std.proofs.Common.{IfOk, IfSome, IfNone, sym, subst, [], reverse}
 use Rattle.chw_typing.specs.Scopes.{setting_in}
-use Rattle.typing_laws.specs.Finding.{Finds}
+use Rattle.chw_typing.specs.Finding.{Finds}
 use Rattle.term_types.specs.Answers.{HasNoType}
 use Rattle.specialise.proofs.lifted.type_at.Goals as goal
 

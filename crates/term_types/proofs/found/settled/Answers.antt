@@ -2,7 +2,7 @@ use Rattle.std.proofs.Common.{sym, subst, ◌∙◌}
 use Rattle.std.specs.Prelude.{MatchOption, reverse}
 use Rattle.chw_types.specs.TypeTree.{TypeTree}
 use Rattle.chw_typing.specs.Scopes.{HasKind, setting_in}
-use Rattle.typing_laws.proofs.Settling.{settled_kinded}
+use Rattle.chw_typing.proofs.Settling.{settled_kinded}
 use Rattle.term_types.specs.Kinding.{LacksKind, IsWithKind}
 use Rattle.term_types.specs.declared.found.Found.{Found}
 use Rattle.term_types.proofs.Settled.{settled_told}

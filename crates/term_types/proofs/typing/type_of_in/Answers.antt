@@ -2,7 +2,7 @@ use Rattle.std.proofs.Common.{◌∙◌, Vec, Global, sym, subst}
 use Rattle.std.specs.Prelude.{reverse}
 use Rattle.chw_types.specs.TypeTree.{TypeTree}
 use Rattle.chw_typing.specs.Scopes.{AreTermTypes, setting_in}
-use Rattle.typing_laws.specs.Finding.{Finds}
+use Rattle.chw_typing.specs.Finding.{Finds}
 use Rattle.term_types.specs.Answers.{HasNoType}
 use Rattle.term_types.specs.Groups.{AreKinded}
 use Rattle.term_types.specs.declared.found.Kinded.{Kinded}

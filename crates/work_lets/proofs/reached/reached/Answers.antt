@@ -1,7 +1,7 @@
 use Rattle.std.proofs.Common.{◌∙◌, sym, ap, refl, replicate, false, arith}
 use Rattle.std.proofs.lemmas.List.{nil_from_length}
 use Rattle.chw_terms.specs.TermView.{group_of}
-use Rattle.typing_laws.proofs.Free.{occurrences_occur}
+use Rattle.chw_typing.proofs.Free.{occurrences_occur}
 use Rattle.work_lets.proofs.Searched.{searches_first, searches_next, searches_less, searched, place_within, size_of_group, binding_of_group, found_at}
 use Rattle.work_lets.proofs.reached.reached.Goals as goal
 

@@ -1,6 +1,6 @@
 use Rattle.std.proofs.Common.{◌<◌, IfSome, [], length, sym, subst}
 use Rattle.std.specs.Option.{option_map}
-use Rattle.typing_laws.specs.Finding.{Finds}
+use Rattle.chw_typing.specs.Finding.{Finds}
 use Rattle.rewriting.specs.Origins.{origins_of, setting_at}
 use Rattle.rewriting.specs.Spots.{spot_of}
 use Rattle.rewriting.specs.Shapes.{leading_lambdas}

@@ -1,6 +1,6 @@
 use Rattle.chw_types.specs.TypeMoves.{raised}
 use Rattle.chw_terms.proofs.TermMoved.{all_done}
-use Rattle.typing_laws.specs.Groups.{rename_arg}
+use Rattle.chw_typing.specs.Groups.{rename_arg}
 use Rattle.work_operands.proofs.arguments.args_under.Goals as goal
 
 pub returns : goal.returns

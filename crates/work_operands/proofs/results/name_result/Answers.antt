@@ -1,6 +1,6 @@
 use Rattle.std.proofs.Common.{◌∙◌, inr, [], ap, sym, subst}
 use Rattle.chw_terms.specs.declared.rule.Rule.TheVariants.{Anf}
-use Rattle.typing_laws.specs.Finding.{Finds}
+use Rattle.chw_typing.specs.Finding.{Finds}
 use Rattle.rewriting.specs.Origins.{origins_of, setting_at}
 use Rattle.rewriting.specs.Spots.{spot_of}
 use Rattle.rewriting.specs.Calls.{OfWhole, anf_result}

@@ -1,7 +1,7 @@
 use Rattle.std.proofs.Common.{◌↔◌, IfSome, IsTrue, subst}
 use Rattle.std.specs.Prelude.{[], reverse}
 use Rattle.chw_typing.specs.Scopes.{setting_in}
-use Rattle.typing_laws.specs.Finding.{Finds}
+use Rattle.chw_typing.specs.Finding.{Finds}
 use Rattle.rewriting.specs.Named.{IsNamed}
 use Rattle.rewriting.specs.Origins.{origins_of}
 use Rattle.rewriting.specs.Spots.{spot_of}

@@ -1,7 +1,7 @@
 use Rattle.chw_prims.specs.declared.prim.Primitive.TheVariants.{Pure}
 use Rattle.chw_terms.specs.TermTree.{prim}
 use Rattle.chw_terms.specs.TermView.{tree_of, applied}
-use Rattle.typing_laws.specs.Given.{types_then}
+use Rattle.chw_typing.specs.Given.{types_then}
 use Rattle.std.proofs.Common.{◌≡◌, ◌∙◌, ap, sym, true, false, [], ◌∷◌}
 use Rattle.work_signals.proofs.Seen.{no_prim, one_prim, constant_seen}
 use Rattle.work_signals.proofs.views.as_pure.Goals as goal

@@ -1,6 +1,6 @@
 use Rattle.std.proofs.Common.{◌≡◌, ◌<◌, length, set, sym, subst, refl}
 use Rattle.chw_terms.specs.declared.scene.Made.{Made}
-use Rattle.typing_laws.specs.PartSpines.{IsPut}
+use Rattle.chw_typing.specs.PartSpines.{IsPut}
 use Rattle.made_table.proofs.Bodies.{body_kept, body_is}
 use Rattle.made_table.proofs.definitions.Table.set_part.Goals as goal
 

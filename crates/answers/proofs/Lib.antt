@@ -1,0 +1,3 @@
+pub mod Compilation
+pub mod MakeAnswer
+pub mod SimAnswer

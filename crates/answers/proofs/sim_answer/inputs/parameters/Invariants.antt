@@ -1,0 +1,6 @@
+-- the types of the parameters so far
+use Rattle.answers.proofs.SimAnswer.Parameters.{Led}
+use Rattle.answers.proofs.sim_answer.inputs.parameters.Given as goal
+
+abbrev pub invariant-loop-rest : goal.invariant-loop-rest
+invariant-loop-rest l = Led l.datas l.t l.rest l.types.items

@@ -1,0 +1,7 @@
+-- the types of the leaves so far
+use Rattle.std.proofs.Common.{take}
+use Rattle.answers.specs.SimAnswer.Types.{AddsTypes}
+use Rattle.answers.proofs.sim_answer.inputs.put_types.Given as goal
+
+abbrev pub invariant-loop-leaf : goal.invariant-loop-leaf
+invariant-loop-leaf l = AddsTypes l.datas (take l.leaf-index l.leaves) l.initial.types.items l.types.items

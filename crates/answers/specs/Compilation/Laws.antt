@@ -1,0 +1,39 @@
+-- What is promised of what is compiled.
+use Rattle.std.specs.Prelude.{◌≡◌, ◌≤◌, ℕ, List, length}
+use Rattle.chw_base.specs.declared.limits.TheConstants.{MADE_DEFINITIONS}
+use Rattle.chw_terms.specs.declared.program.Program.{Program}
+use Rattle.chw_terms.specs.declared.scene.Made.{Made}
+use Rattle.rewriting.specs.Runs.{Run}
+use Rattle.chw_norm.specs.Rules.{built}
+use Rattle.netlist.specs.declared.net.Flat.{Flat}
+use Rattle.netlist.specs.declared.net.Net.{Net}
+use Rattle.answers.specs.Compilation.Compiling.{CompilesTo, EndsIn, HasCounts, IsCompileFault}
+use Rattle.answers.specs.declared.compiled.fault.CompileFault.{CompileFault}
+
+-- the state in which a run ends is one to which so many first steps lead, and it holds no more made
+-- definitions than may be held
+abbrev pub EndsAreRuns : Type 0
+EndsAreRuns =
+    (p : Program) (budget : ℕ) (state : List Made) → (e : EndsIn p budget state)
+    → Run built p (length e.steps) e.steps state × (length state ≤ MADE_DEFINITIONS)
+
+-- all runs of a program that end have as many steps, and end in as many made definitions, whatever
+-- the budgets are
+abbrev pub OneCount : Type 0
+OneCount =
+    (p : Program) (budget other steps steps' definitions definitions' : ℕ)
+    → HasCounts p budget steps definitions → HasCounts p other steps' definitions'
+    → (steps ≡ steps') × (definitions ≡ definitions')
+
+-- a program is compiled to one net and one flat net at most, whatever the budgets are
+abbrev pub OneCompiled : Type 0
+OneCompiled =
+    (p : Program) (budget other : ℕ) (net net' : Net) (flat flat' : Flat)
+    → CompilesTo p budget net flat → CompilesTo p other net' flat'
+    → (net ≡ net') × (flat ≡ flat')
+
+-- a program that is compiled to some net within a budget isn't refused within it
+abbrev pub NothingRefusesACompile : Type 0
+NothingRefusesACompile =
+    (p : Program) (budget : ℕ) (net : Net) (flat : Flat) (fault : CompileFault)
+    → CompilesTo p budget net flat → IsCompileFault p budget fault → ⊥

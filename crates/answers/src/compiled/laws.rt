@@ -1,0 +1,38 @@
+//! The laws of what is compiled, each as the contract of a call that does nothing.
+ghost use Rattle.answers.specs.Compilation.Laws.{EndsAreRuns, NothingRefusesACompile, OneCompiled, OneCount};
+
+use chw_norm::laws::{nothing_refuses_a_normal_run, one_last_state};
+use net_built::laws::one_net_built;
+use net_flat::laws::one_flat_net;
+
+/// The state in which a run ends is one to which so many first steps lead.
+pub fn ends_are_runs()
+    ensures { EndsAreRuns }
+{}
+
+/// The runs of a program that end have as many steps, and end in as many made definitions.
+pub fn one_count()
+    ensures { OneCount }
+{
+    nothing_refuses_a_normal_run();
+    one_last_state();
+}
+
+/// A program has one net and one flat net at most to which it is compiled.
+pub fn one_compiled()
+    ensures { OneCompiled }
+{
+    one_last_state();
+    one_net_built();
+    one_flat_net();
+}
+
+/// Nothing refuses a program that is compiled to some net.
+pub fn nothing_refuses_a_compile()
+    ensures { NothingRefusesACompile }
+{
+    nothing_refuses_a_normal_run();
+    one_last_state();
+    one_net_built();
+    one_flat_net();
+}

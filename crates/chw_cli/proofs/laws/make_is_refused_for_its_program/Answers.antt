@@ -1,0 +1,16 @@
+use Rattle.chw_cli.proofs.MakeRefusals.{make_is_refused, one_of_two_statuses, words_are_refused}
+use Rattle.chw_cli.proofs.laws.make_is_refused_for_its_program.Goals as goal
+
+pub returns-clause-answer : goal.returns-clause-answer
+returns-clause-answer c =
+    make_is_refused c.one_splitting.ensures c.no_fault.ensures c.one_tree.ensures c.made_texts_are_descriptions.ensures c.made_texts_have_the_tree.ensures
+    c.made_programs_take_words.ensures c.made_stimuli.ensures.values c.refusals.ensures.stimulus
+
+pub returns-clause-words : goal.returns-clause-words
+returns-clause-words c =
+    words_are_refused c.one_splitting.ensures c.no_fault.ensures c.one_tree.ensures c.made_texts_are_descriptions.ensures
+    c.made_texts_have_the_tree.ensures c.made_programs_take_words.ensures c.made_stimuli.ensures.values c.refusals.ensures.stimulus
+    c.words_are_one_command.ensures
+
+pub returns-clause-statuses : goal.returns-clause-statuses
+returns-clause-statuses c = one_of_two_statuses

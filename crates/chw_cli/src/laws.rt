@@ -1,0 +1,53 @@
+//! The laws of the refusals of `make`, each as the contract of a call that does nothing.
+ghost use Rattle.std.specs.Prelude.{◌≡◌, ℕ, List};
+ghost use Rattle.chw_base.specs.Faults.{Rose};
+ghost use Rattle.chw_cli.specs.Delivery.{WritesAll, StopsAt};
+ghost use Rattle.chw_cli.specs.Outcome.{Outcome, Told};
+ghost use Rattle.chw_cli.specs.Reads.{Asks};
+ghost use Rattle.chw_cli.specs.declared.status.Status.{Status};
+ghost use Rattle.chw_words.specs.Commands.{IsCommand};
+ghost use Rattle.chw_words.specs.declared.command.Command.TheVariants.{Make};
+ghost use Rattle.chw_cli.specs.MakeLaws.{HaveOneOfTwoStatuses, IsOfMake, MakeIsRefusedForItsProgram, WordsAreRefusedForTheProgram};
+
+use answers::make_answer::laws::made_stimuli;
+use answers::sim_answer::laws::refusals;
+use chw_base::{Shelf, Sink};
+use chw_lexer::laws::{no_fault, one_splitting};
+use chw_parser::laws::one_tree;
+use chw_words::laws::words_are_one_command;
+use make_laws::laws::{
+    made_programs_take_words, made_texts_are_descriptions, made_texts_have_the_tree,
+};
+
+/// The text and the stimulus that `make` makes are never at fault: it is refused for the names or the types of the text's program, or
+/// because this can't be compiled. Such a refusal has one of two statuses.
+pub fn make_is_refused_for_its_program()
+    ensures answer { MakeIsRefusedForItsProgram }
+    ensures words { WordsAreRefusedForTheProgram }
+    ensures statuses { HaveOneOfTwoStatuses }
+{
+    words_are_one_command();
+    one_splitting();
+    no_fault();
+    one_tree();
+    made_texts_are_descriptions();
+    made_texts_have_the_tree();
+    made_programs_take_words();
+    made_stimuli();
+    refusals();
+}
+
+/// A run of `make N` ends with the status of an answer, of a broken restriction, of a failed write, of a spent budget or of wanting memory:
+/// never with that of words that are no command, of a file, of a stimulus or of a Verilog text.
+pub fn make_ends_with_few_statuses<F: Shelf, K: Sink, E: Sink>()
+    ensures { (words : List (List ℕ)) (taps : ℕ) (shelf shelf' : F) (out out' : K) (err err' : E) (s : Status) → IsCommand words (Make taps)
+        → Outcome (Asks F.fetch_gives F.told F.faults words shelf shelf') words (Rose (K.faults out) (K.faults out'))
+        (out' ≡ out) (err' ≡ err)
+        (λ bytes. WritesAll K.put_gives K.written K.faults bytes out out')
+        (λ answer bytes. StopsAt K.put_gives K.written answer bytes out out')
+        (λ refusal status. Told E.put_gives E.written E.faults refusal err err' status)
+        s
+        → IsOfMake s }
+{
+    make_is_refused_for_its_program();
+}

@@ -1,5 +1,0 @@
-use Rattle.circuit_bits.proofs.Bodies.{body_is_block}
-use Rattle.circuit_bits.proofs.laws.bodies_are_blocks.Goals as goal
-
-pub returns : goal.returns
-returns c = λ ground sort scope n params e inputs p outputs no built. body_is_block params e no built

@@ -1,7 +1,0 @@
-//! Worked examples, as the contract of a call that does nothing.
-ghost use Rattle.circuit_bits.specs.Example.{AccumulatorHas};
-
-/// The register of an accumulator has its bits at the first event and at the second, as it is meant and in its net.
-pub fn of_accumulator()
-    ensures { AccumulatorHas }
-{}

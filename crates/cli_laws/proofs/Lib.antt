@@ -1,2 +1,0 @@
-mod MakeRefusals
-mod MakeEnds

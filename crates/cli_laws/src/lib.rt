@@ -1,4 +1,0 @@
-//! What `make` is refused for.
-#![tactic(auto)]
-
-pub mod laws;

@@ -1,8 +1,0 @@
-use Rattle.std.proofs.Common.{ap, ◌∙◌}
-use Rattle.chw_bits.specs.Bits.{bits_of}
-use Rattle.make_answer.specs.Events.{input_at}
-use Rattle.make_answer.proofs.events.input_at.Goals as goal
-
-pub returns-in-Ok : goal.returns-in-Ok
-unfolding input_at
-returns-in-Ok c = c.in-Ok.ensures.bits.1 ∙ ap (bits_of 16) c.from.ensures

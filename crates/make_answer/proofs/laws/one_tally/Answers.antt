@@ -1,6 +1,0 @@
-use Rattle.make_answer.proofs.OneTally.{one_tally}
-use Rattle.make_answer.proofs.laws.one_tally.Goals as goal
-
-pub returns : goal.returns
-returns c =
-    one_tally c.one_compiled.ensures c.one_count.ensures c.at_most_one_meaning.ensures.ports c.one_stimulus.ensures c.one_meant.ensures

@@ -1,5 +1,0 @@
-use Rattle.net_bits.proofs.Sorts.{block_stays}
-use Rattle.net_bits.proofs.laws.circuits_stay.Goals as goal
-
-pub returns : goal.returns
-returns c = λ d inputs path h other b at circuit. block_stays c.same_types_keep_layout.ensures.measure d inputs at circuit other

@@ -1,5 +1,0 @@
-use Rattle.net_fits.proofs.PortRules.{ports_hold}
-use Rattle.net_fits.proofs.laws.ports_are_kept.Goals as goal
-
-pub returns : goal.returns
-returns c = λ p state ports typed has. ports_hold c.steps_keep.ensures.origins p state ports typed has

@@ -1,0 +1,6 @@
+//! What is built of a typed normal form is well formed: widths and limits. Nothing here runs in
+//! the program.
+//!
+//! The definitions are in `specs/`; each law is the contract of a call that does nothing.
+
+pub mod laws;

@@ -1,5 +1,0 @@
-use Rattle.side_bits.proofs.Cases.{case_bears}
-use Rattle.side_bits.proofs.laws.cases_bear.Goals as goal
-
-pub returns : goal.returns
-returns c = λ p scope γ δ net path h n w t x alts on piece results g. case_bears c.same_values.ensures c.number_of_made_bits.ensures.whole p scope γ δ net path h n w t x alts on piece results g

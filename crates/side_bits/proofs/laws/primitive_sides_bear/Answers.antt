@@ -1,5 +1,0 @@
-use Rattle.side_bits.proofs.Words.{word_side}
-use Rattle.side_bits.proofs.laws.primitive_sides_bear.Goals as goal
-
-pub returns : goal.returns
-returns c = λ q types xs on count o order scope γ δ net path h n w t piece g. word_side o order scope γ δ net path h c.same_values.ensures c.fields_keep_same.ensures n w t piece q types xs on count g

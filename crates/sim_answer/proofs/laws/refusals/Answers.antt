@@ -1,8 +1,0 @@
-use Rattle.sim_answer.proofs.Refusals.{nothing_refuses, one_fault}
-use Rattle.sim_answer.proofs.laws.refusals.Goals as goal
-
-pub returns-clause-stimulus : goal.returns-clause-stimulus
-returns-clause-stimulus c = nothing_refuses c.at_most_one_meaning.ensures.ports c.no_fault.ensures
-
-pub returns-clause-one : goal.returns-clause-one
-returns-clause-one c = one_fault c.at_most_one_meaning.ensures.ports c.no_fault.ensures c.one_fault.ensures

@@ -1,5 +1,0 @@
-use Rattle.typing_laws.proofs.Typed.{part_typed}
-use Rattle.typing_laws.proofs.context_laws.parts_are_typed.Goals as goal
-
-pub returns : goal.returns
-returns c s kinds ks vars vs e x t p h g d r = part_typed r h g t d

@@ -1,5 +1,0 @@
-use Rattle.typing_laws.proofs.Complete.{part_complete, plug_complete}
-use Rattle.typing_laws.proofs.context_laws.plug_keeps_complete.Goals as goal
-
-pub returns : goal.returns
-returns c = record { part = λ datas e x p. part_complete p datas e x; kept = λ datas e x y p. plug_complete p datas e x y }

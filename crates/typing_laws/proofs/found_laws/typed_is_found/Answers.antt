@@ -1,5 +1,0 @@
-use Rattle.typing_laws.proofs.TypedFound.{typed_found}
-use Rattle.typing_laws.proofs.found_laws.typed_is_found.Goals as goal
-
-pub returns : goal.returns
-returns c s kinds vars e t h g d = let at = typed_found e d h g in (at.type, at.is, at.same)

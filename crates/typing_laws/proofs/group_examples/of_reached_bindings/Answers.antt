@@ -1,5 +1,0 @@
-use Rattle.typing_laws.proofs.GroupShown.{first_reached, second_reached, third_not_reached}
-use Rattle.typing_laws.proofs.group_examples.of_reached_bindings.Goals as goal
-
-pub returns : goal.returns
-returns c = record { first = first_reached; second = second_reached; third = third_not_reached }

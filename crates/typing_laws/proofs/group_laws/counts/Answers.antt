@@ -1,6 +1,0 @@
-use Rattle.chw_typing.proofs.Renamed.{count_renamed}
-use Rattle.chw_typing.proofs.TermsPut.{count_put}
-use Rattle.typing_laws.proofs.group_laws.counts.Goals as goal
-
-pub returns : goal.returns
-returns c = record { renamed = count_renamed; put = count_put }

@@ -1,5 +1,0 @@
-use Rattle.typing_laws.proofs.Free.{free_occur, free_distinct}
-use Rattle.typing_laws.proofs.group_laws.free_variables.Goals as goal
-
-pub returns : goal.returns
-returns c = record { occurring = free_occur; distinct = free_distinct }

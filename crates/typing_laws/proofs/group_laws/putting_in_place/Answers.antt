@@ -1,5 +1,0 @@
-use Rattle.typing_laws.proofs.Exchanged.{put_in_place, in_place_absent}
-use Rattle.typing_laws.proofs.group_laws.putting_in_place.Goals as goal
-
-pub returns : goal.returns
-returns c = record { put = put_in_place; absent = in_place_absent }

@@ -1,9 +1,0 @@
-use Rattle.typing_laws.proofs.NamedParts.{element_representable, fields_representable, fields_ports}
-use Rattle.typing_laws.proofs.named_laws.parts_of_named_types.Goals as goal
-
-pub returns : goal.returns
-returns c = record {
-  elements = λ datas n t r. element_representable r;
-  fields = λ datas d it ts f known field r. fields_representable it f known field r;
-  ports = λ datas d it ts f known field p. fields_ports it f known field p;
-}

@@ -1,5 +1,0 @@
-use Rattle.typing_laws.proofs.PartPlaces.{spine_behind}
-use Rattle.typing_laws.proofs.part_laws.spines_of_parts.Goals as goal
-
-pub returns : goal.returns
-returns c = λ e x p i q h. spine_behind p e x i q h

@@ -1,5 +1,0 @@
-use Rattle.typing_laws.proofs.PathSpines.{spine_argument, with_spine_argument}
-use Rattle.typing_laws.proofs.path_laws.arguments.Goals as goal
-
-pub returns : goal.returns
-returns c = record { found = λ e a args i h. spine_argument args e a i h; changed = λ e a x args i h. with_spine_argument args e a x i h }

@@ -1,5 +1,0 @@
-use Rattle.typing_laws.proofs.Order.{parts_apart}
-use Rattle.typing_laws.proofs.path_laws.parts_apart.Goals as goal
-
-pub returns : goal.returns
-returns c e x p q h = parts_apart p q e x h

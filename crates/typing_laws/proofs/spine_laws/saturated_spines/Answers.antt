@@ -1,5 +1,0 @@
-use Rattle.typing_laws.proofs.Saturated.{schema_at_arguments, con_at_arguments, prim_at_arguments}
-use Rattle.typing_laws.proofs.spine_laws.saturated_spines.Goals as goal
-
-pub returns : goal.returns
-returns c = record { schema = schema_at_arguments; con = con_at_arguments; prim = prim_at_arguments }

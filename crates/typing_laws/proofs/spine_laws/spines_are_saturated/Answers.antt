@@ -1,5 +1,0 @@
-use Rattle.typing_laws.proofs.Asked.{spine_takes, con_takes}
-use Rattle.typing_laws.proofs.spine_laws.spines_are_saturated.Goals as goal
-
-pub returns : goal.returns
-returns c = record { spine = spine_takes; con = con_takes }

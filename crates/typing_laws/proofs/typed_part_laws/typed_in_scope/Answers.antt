@@ -1,5 +1,0 @@
-use Rattle.typing_laws.proofs.InScope.{in_scope}
-use Rattle.typing_laws.proofs.typed_part_laws.typed_in_scope.Goals as goal
-
-pub returns : goal.returns
-returns c s kinds vars e t x d h = in_scope d x h

@@ -1,5 +1,0 @@
-use Rattle.wire_order.proofs.Sides.{side_settles}
-use Rattle.wire_order.proofs.laws.sides_settle.Goals as goal
-
-pub returns : goal.returns
-returns c = λ e o order scope net path n w t piece x it side calls_none g l known. side_settles c.same_values.ensures o order scope net path n w t piece x it known side calls_none g l
