@@ -17,7 +17,7 @@ use Rattle.chw_terms.specs.TermView.{tree_of, applied}
 use Rattle.chw_typing.specs.HeadTypes.{from_each}
 use Rattle.chw_typing.specs.Typing.{HasType}
 use Rattle.chw_typing.specs.Finding.{Finds}
-use Rattle.chw_typing.specs.FoundLaws.{FoundIsType, OneFound}
+use Rattle.chw_typing.specs.FoundLaws.{OneFound}
 use Rattle.rewriting.specs.Calls.{IsCall, call_origin, to_lambdas}
 use Rattle.rewriting.specs.Named.{IsNamed}
 use Rattle.rewriting.specs.Origins.{MadeOf, Origins, origin_of, setting_at, under_each}
@@ -26,8 +26,7 @@ use Rattle.rewriting.specs.Shapes.{IsVariable}
 use Rattle.rewriting.specs.Spots.{Spot}
 use Rattle.rewriting.proofs.Spines.{IsBare, head_is, args_are}
 use Rattle.rule_parts.proofs.Heads.{bare}
-use Rattle.term_types.specs.Answers.{HasNoType}
-use Rattle.specialise.specs.Calls.{HaveTypes, NoneNeedsName, AnswersTypes}
+use Rattle.specialise.specs.Calls.{HaveTypes, IsPlain, NoneNeedsName, AnswersTypes}
 use Rattle.specialise.specs.Closed.{closed}
 use Rattle.specialise.specs.Seeds.{IsOfCall}
 use Rattle.specialise.proofs.Lambdas.{origin_under}
@@ -65,11 +64,6 @@ no_global (Case e alts) d none q = absurd cc
 bare_global : (d : ℕ) → IsBare (global d)
 bare_global d = record { itself = refl; alone = refl }
 
--- the name of a definition on arguments none of which needs a name
-abbrev pub IsPlain : Origins → Spot → TermTree → Type 0
-IsPlain o at e =
-    (d : ℕ) × (args : List Arg) × (e ≡ applied (global d) args) × NoneNeedsName o at args
-
 pub not_plain : {o : Origins} {at : Spot} {e : TermTree} (h : Head) (args : List Arg)
     → ((d : _) → h ≡ Global d → ⊥) → applied (tree_of h) args ≡ e → IsPlain o at e → ⊥
 not_plain h args none q p =
@@ -90,13 +84,7 @@ plain_needs_none {o} {at} h args q p =
     args_are (tree_of h) (global p.0) args p.1 (bare h) (bare_global p.0) (q ∙ p.2) in
     subst (NoneNeedsName o at) (sym same) p.3
 
--- without a type, or with one that isn't named, it is none
-pub untyped_call : {o : Origins} {at : Spot} {e : TermTree} {types : List TypeTree}
-    {gives : TypeTree} → FoundIsType → HasNoType (setting_at o) [] at.vars e
-    → IsCall o at e types gives → ⊥
-untyped_call {o} {at} {e} {types} {gives} is none c =
-    none gives (is (setting_at o) [] at.vars e gives c.has)
-
+-- one whose type isn't named is none
 pub named_call : {o : Origins} {at : Spot} {e : TermTree} {types : List TypeTree}
     {gives : TypeTree} (t : TypeTree) → OneFound → Finds (setting_at o) [] at.vars e t
     → IsCall o at e types gives → IsNamed o.program.datas at.mode t

@@ -10,6 +10,7 @@ use Rattle.rewriting.specs.Named.{IsNamed}
 use Rattle.rewriting.specs.Origins.{Origins}
 use Rattle.rewriting.specs.Spots.{Spot}
 use Rattle.rewriting.specs.Operands.{NeedsName}
+use Rattle.rule_parts.specs.Cores.{HasTypeAt}
 
 -- the name of a definition on arguments
 abbrev pub IsOnGlobal : TermTree → Type 0
@@ -35,3 +36,12 @@ AnswersTypes o at xs answer =
 -- no argument needs a name
 abbrev pub NoneNeedsName : Origins → Spot → List Arg → Type 0
 NoneNeedsName o at args = (a : TermTree) → Contains args (OfTerm a) → NeedsName o at a → ⊥
+
+-- a call on arguments none of which needs a name
+abbrev pub IsPlain : Origins → Spot → TermTree → Type 0
+IsPlain o at e =
+    (d : ℕ) × (args : List Arg) × (e ≡ applied (global d) args) × NoneNeedsName o at args
+
+-- each argument that is a term has a type there
+abbrev pub HaveTypesAt : Origins → Spot → List Arg → Type 0
+HaveTypesAt o at args = (a : TermTree) → Contains args (OfTerm a) → HasTypeAt o at a

@@ -4,8 +4,7 @@ ghost use Rattle.chw_types.specs.References.{HasNoCycle};
 ghost use Rattle.chw_types.specs.TypeTree.{TypeTree, fun};
 ghost use Rattle.chw_terms.specs.declared.term.Arg.{Arg};
 ghost use Rattle.chw_terms.specs.declared.term.Arg.TheVariants.{OfTerm};
-ghost use Rattle.chw_terms.specs.TermTree.{TermTree, global, lam};
-ghost use Rattle.chw_terms.specs.TermView.{applied};
+ghost use Rattle.chw_terms.specs.TermTree.{TermTree, lam};
 ghost use Rattle.rewriting.specs.Calls.{IsCall};
 ghost use Rattle.rewriting.specs.Named.{IsNamed};
 ghost use Rattle.rewriting.specs.Operands.{NeedsName};
@@ -17,15 +16,16 @@ ghost use Rattle.chw_typing.specs.Finding.{Finds};
 ghost use Rattle.rewriting.specs.Origins.{origins_of, setting_at, under_each};
 ghost use Rattle.rewriting.specs.Spots.{spot_of};
 ghost use Rattle.rewriting.specs.Runs.{sort_at};
+ghost use Rattle.rule_parts.specs.Cores.{HasTypeAt};
 ghost use Rattle.term_types.specs.Answers.{IsReady};
 ghost use Rattle.term_types.specs.Signatures.{IsSignature};
-ghost use Rattle.specialise.specs.Calls.{HasNamedType, AnswersTypes, NoneNeedsName};
+ghost use Rattle.specialise.specs.Calls.{HasNamedType, AnswersTypes, HaveTypesAt, IsPlain, NoneNeedsName};
 ghost use Rattle.specialise.specs.Closed.{numbers};
 ghost use Rattle.specialise.specs.Seeds.{AnswersCall};
 
 use crate::closing::close;
-use crate::lifted::type_at;
 use crate::numbers::Seed;
+use call_types::type_of_typed;
 use chw_base::{NoMemory, VarIx};
 use chw_terms::{Arg, Head, Mode, Place, Scene, Sort, Term};
 use chw_types::Ty;
@@ -81,6 +81,24 @@ fn is_variable(term: &Term) -> bool
     }
 }
 
+// The type that is found for a term that has one at the place.
+fn type_found(
+    alloc: Global,
+    scene: &Scene,
+    signature: &Signature,
+    place: &Place,
+    term: &Term,
+) -> Result<Ty, NoMemory>
+    requires ready { IsReady (setting_in scene.now) [] (reverse place.now.vars) }
+    requires table { IsSignature scene.now.program.now signature.now }
+    requires typed { HasTypeAt (origins_of scene.now) (spot_of place.now) term.now }
+    ensures { IfOk result (λ t. Finds (setting_at (origins_of scene.now)) [] (reverse place.now.vars) term.now t) }
+{
+    settings_of_scenes();
+    let vars = place.vars.as_slice();
+    type_of_typed(alloc, scene, signature, vars, term)
+}
+
 // Whether the term needs a name at the place: it is no variable, and its type is named there.
 fn needs_name(
     alloc: Global,
@@ -92,14 +110,13 @@ fn needs_name(
     requires order { HasNoCycle scene.now.program.now.datas }
     requires ready { IsReady (setting_in scene.now) [] (reverse place.now.vars) }
     requires table { IsSignature scene.now.program.now signature.now }
+    requires typed { HasTypeAt (origins_of scene.now) (spot_of place.now) term.now }
     ensures { IfOk result (λ yes. IsTrue yes ↔ NeedsName (origins_of scene.now) (spot_of place.now) term.now) }
 {
     if is_variable(term) {
         return Ok(false);
     }
-    let Some(ty) = type_at(alloc, scene, signature, place, term)? else {
-        return Ok(false);
-    };
+    let ty = type_found(alloc, scene, signature, place, term)?;
     settings_of_scenes();
     found_is_type();
     one_type();
@@ -118,6 +135,7 @@ fn argument_needs_name(
     requires order { HasNoCycle scene.now.program.now.datas }
     requires ready { IsReady (setting_in scene.now) [] (reverse place.now.vars) }
     requires table { IsSignature scene.now.program.now signature.now }
+    requires typed { (a : TermTree) → arg.now ≡ OfTerm a → HasTypeAt (origins_of scene.now) (spot_of place.now) a }
     ensures { IfOk result (λ yes. IsTrue yes ↔ (a : TermTree) × (arg.now ≡ OfTerm a) × NeedsName (origins_of scene.now) (spot_of place.now) a) }
 {
     match arg {
@@ -137,6 +155,7 @@ fn none_needs_name(
     requires order { HasNoCycle scene.now.program.now.datas }
     requires ready { IsReady (setting_in scene.now) [] (reverse place.now.vars) }
     requires table { IsSignature scene.now.program.now signature.now }
+    requires typed { HaveTypesAt (origins_of scene.now) (spot_of place.now) args.now }
     ensures { IfOk result (λ yes. IsTrue yes ↔ NoneNeedsName (origins_of scene.now) (spot_of place.now) args.now) }
 {
     for arg in args {
@@ -190,7 +209,7 @@ fn named_types(
     Ok(Some(types))
 }
 
-// The type of a call, where it is found and named there.
+// The type that is found for a call, where it is named there.
 fn named_result(
     alloc: Global,
     scene: &Scene,
@@ -201,16 +220,14 @@ fn named_result(
     requires order { HasNoCycle scene.now.program.now.datas }
     requires ready { IsReady (setting_in scene.now) [] (reverse place.now.vars) }
     requires table { IsSignature scene.now.program.now signature.now }
+    requires typed { HasTypeAt (origins_of scene.now) (spot_of place.now) at.now }
     ensures { IfOk result (λ r. MatchOption r
         ((types : List TypeTree) (gives : TypeTree) → IsCall (origins_of scene.now) (spot_of place.now) at.now types gives → ⊥)
         (λ t. Finds (setting_at (origins_of scene.now)) [] (reverse place.now.vars) at.now t
         × IsNamed scene.now.program.now.datas place.now.mode t)) }
 {
-    found_is_type();
     one_found();
-    let Some(gives) = type_at(alloc, scene, signature, place, at)? else {
-        return Ok(None);
-    };
+    let gives = type_found(alloc, scene, signature, place, at)?;
     if is_named(alloc, scene.program.datas.as_slice(), place.mode, &gives)? {
         Ok(Some(gives))
     } else {
@@ -218,8 +235,8 @@ fn named_result(
     }
 }
 
-// Whether the term is the name of a definition on arguments none of which needs a name.
-fn is_plain(
+/// Whether the term is the name of a definition on arguments none of which needs a name.
+pub(crate) fn is_plain(
     alloc: Global,
     scene: &Scene,
     signature: &Signature,
@@ -229,8 +246,8 @@ fn is_plain(
     requires order { HasNoCycle scene.now.program.now.datas }
     requires ready { IsReady (setting_in scene.now) [] (reverse place.now.vars) }
     requires table { IsSignature scene.now.program.now signature.now }
-    ensures { IfOk result (λ yes. IsTrue yes ↔ (d : ℕ) × (args : List Arg) × (at.now ≡ applied (global d) args)
-        × NoneNeedsName (origins_of scene.now) (spot_of place.now) args) }
+    requires typed { HasTypeAt (origins_of scene.now) (spot_of place.now) at.now }
+    ensures { IfOk result (λ yes. IsTrue yes ↔ IsPlain (origins_of scene.now) (spot_of place.now) at.now) }
 {
     match &at.head {
         Head::Global(_) => none_needs_name(alloc, scene, signature, place, &at.args),
@@ -252,8 +269,7 @@ fn seed_of(
     requires ready { IsReady (setting_in scene.now) [] (reverse place.now.vars) }
     requires table { IsSignature scene.now.program.now signature.now }
     requires free { numbers free.now ≡ free_in at.now }
-    requires plain { (d : ℕ) × (args : List Arg) × (at.now ≡ applied (global d) args)
-        × NoneNeedsName (origins_of scene.now) (spot_of place.now) args }
+    requires plain { IsPlain (origins_of scene.now) (spot_of place.now) at.now }
     requires found { Finds (setting_at (origins_of scene.now)) [] (reverse place.now.vars) at.now gives }
     requires named { IsNamed scene.now.program.now.datas place.now.mode gives }
     ensures { IfOk result (AnswersCall (origins_of scene.now) (spot_of place.now) at.now) }
@@ -267,8 +283,8 @@ fn seed_of(
     Ok(Some(Seed { origin, ty, sort }))
 }
 
-/// What the call of a definition becomes a made definition of: the call under a lambda for each of its free variables, with origins for
-/// made definitions. These are the free variables.
+/// What a call on arguments none of which needs a name becomes a made definition of: the call under a lambda for each of its free
+/// variables, with origins for made definitions. These are the free variables.
 pub(crate) fn call_seed(
     alloc: Global,
     scene: &Scene,
@@ -281,12 +297,10 @@ pub(crate) fn call_seed(
     requires ready { IsReady (setting_in scene.now) [] (reverse place.now.vars) }
     requires table { IsSignature scene.now.program.now signature.now }
     requires free { numbers free.now ≡ free_in at.now }
+    requires typed { HasTypeAt (origins_of scene.now) (spot_of place.now) at.now }
+    requires plain { IsPlain (origins_of scene.now) (spot_of place.now) at.now }
     ensures { IfOk result (AnswersCall (origins_of scene.now) (spot_of place.now) at.now) }
 {
-    // The arguments first: in a call on calls these need names, and the type of the whole isn't looked for.
-    if !is_plain(alloc, scene, signature, place, at)? {
-        return Ok(None);
-    }
     let Some(gives) = named_result(alloc, scene, signature, place, at)? else {
         return Ok(None);
     };

@@ -17,12 +17,12 @@ ghost use Rattle.rewriting.specs.Spots.{HasLets, spot_of};
 ghost use Rattle.rule_parts.specs.Cores.{HasTypeAt};
 ghost use Rattle.term_types.specs.Answers.{IsReady};
 ghost use Rattle.term_types.specs.Signatures.{IsSignature};
-ghost use Rattle.specialise.specs.Calls.{IsOnGlobal};
+ghost use Rattle.specialise.specs.Calls.{IsOnGlobal, IsPlain};
 ghost use Rattle.specialise.specs.Closed.{closed, numbers};
 ghost use Rattle.specialise.specs.Seeds.{HasLambdas, IsNumbered, IsOfCall, made_of_seed};
 ghost use Rattle.specialise.specs.Special.{AnswersSpecial};
 
-use crate::calls::call_seed;
+use crate::calls::{call_seed, is_plain};
 use crate::closing::close;
 use crate::lifted::{Lifted, as_lifted, is_of_circuit, lifted_type, lifting};
 use crate::numbers::{Seed, number_for};
@@ -84,6 +84,8 @@ fn called_on(
     requires ready { IsReady (setting_in scene.now) [] (reverse place.now.vars) }
     requires table { IsSignature scene.now.program.now signature.now }
     requires free { numbers free.now ≡ free_in at.now }
+    requires typed { HasTypeAt (origins_of scene.now) (spot_of place.now) at.now }
+    requires plain { IsPlain (origins_of scene.now) (spot_of place.now) at.now }
     ensures { IfOk result (λ r. MatchOption r
         ((types : List TypeTree) (gives : TypeTree) → IsCall (origins_of scene.now) (spot_of place.now) at.now types gives → ⊥)
         (λ s. (it : MadeOf) × (m : ℕ) × IsOfCall (origins_of scene.now) (spot_of place.now) at.now it
@@ -119,6 +121,10 @@ fn special_call(
     ensures { IfOk result (AnswersSpecial scene.now.program.now table.now (spot_of place.now) at.now) }
 {
     if !has_lets(place.mode) {
+        return Ok(None);
+    }
+    // The arguments first: in a call on calls these need names, and its free variables aren't looked for.
+    if !is_plain(alloc, scene, signature, place, at)? {
         return Ok(None);
     }
     let free = free_in(alloc, at)?;

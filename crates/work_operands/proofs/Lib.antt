@@ -9,3 +9,4 @@ pub mod Searching
 pub mod Shapes
 pub mod Spines
 pub mod Standing
+pub mod Typed

@@ -1,6 +1,6 @@
 -- An argument that has got its name.
 use Rattle.std.proofs.Common.{◌≡◌, ◌∙◌, sym, refl, ap, inl, inr, arith, ℕ, zero, suc, ◌-◌}
-use Rattle.std.proofs.Common.{◌<◌, List, [], ◌∷◌, ◌++◌, length, replicate, set, Some}
+use Rattle.std.proofs.Common.{◌<◌, List, [], ◌∷◌, ◌++◌, length, replicate, set, take, drop, Some}
 use Rattle.std.specs.List.{slice_get}
 use Rattle.std.proofs.lemmas.List.{length-map}
 use Rattle.std.proofs.lemmas.Option.{slice_get_within}
@@ -80,3 +80,12 @@ earlier_argument i j n h = let l = earlier_zeros (n - 1 - i) (n - 1 - j) h in om
 pub within : (args : List Arg) (i : ℕ) (x : TermTree) → slice_get args i ≡ Some (OfTerm x)
     → i < length args
 within args i x e = slice_get_within args i (OfTerm x) e
+
+-- arguments under one more binder, one of which has got a name
+pub one_named : (args : List Arg) (n : ℕ) (a : Arg) → n < length args
+    → (shift_args (take n args) 0 1 ++ a ∷ []) ++ shift_args (drop 1 (drop n args)) 0 1
+    ≡ set (shift_args args 0 1) n a
+one_named [] n a l = absurd (omega (arith, l))
+one_named (x ∷ args) zero a l = refl
+one_named (x ∷ args) (suc n) a l =
+    ap (λ rest. rename_arg (raised 0 1) x ∷ rest) (one_named args n a (omega (arith, l)))

@@ -1,45 +1,29 @@
 -- Which terms need names.
-use Rattle.std.proofs.Common.{◌≡◌, List, [], sym, subst, Option, Some, None, Result, Ok, Err}
-use Rattle.std.specs.Prelude.{IfOk, IfSome, IfNone, MatchOption}
+use Rattle.std.proofs.Common.{◌≡◌, List, [], sym, subst, Result}
+use Rattle.std.specs.Prelude.{IfOk}
 use Rattle.chw_types.specs.TypeTree.{TypeTree}
 use Rattle.chw_terms.specs.TermTree.{TermTree}
 use Rattle.chw_typing.specs.Laws.{OneType, TypesAreTermTypes}
 use Rattle.chw_typing.specs.Scopes.{Setting}
 use Rattle.chw_typing.specs.Finding.{Finds}
 use Rattle.chw_typing.specs.FoundLaws.{FoundIsType}
-use Rattle.term_types.specs.Answers.{IsReady, HasNoType}
+use Rattle.term_types.specs.Answers.{IsReady}
 use Rattle.rewriting.specs.SceneLaws.{SameKeepsNamed}
 use Rattle.rewriting.specs.Named.{IsNamed}
 use Rattle.rewriting.specs.Origins.{Origins, setting_at}
 use Rattle.rewriting.specs.Spots.{Spot}
 use Rattle.rewriting.specs.Operands.{NeedsName}
 use Rattle.rewriting.specs.Shapes.{IsVariable}
-use Rattle.work_operands.specs.Firsts.{AnswersType, NeedsNameOf}
+use Rattle.work_operands.specs.Firsts.{NeedsNameOf}
 
--- both clauses on an answer
-both : {X E : Type 0} (P : Type 0) (Q : X → Type 0) (r : Result (Option X) E)
-    → IfOk r (λ o. IfSome o Q) → IfOk r (λ o. IfNone o P) → IfOk r (λ o. MatchOption o P Q)
-both P Q (Err e) some none = tt
-both P Q (Ok None) some none = none
-both P Q (Ok (Some x)) some none = some
-
--- the type of a term at a place, over what is the setting there and among what are the variables
-pub type_answer : {E : Type 0} (o : Origins) (at : Spot) (s : Setting) (vars : List TypeTree)
-    (x : TermTree) (r : Result (Option TypeTree) E) → setting_at o ≡ s → vars ≡ at.vars
-    → IfOk r (λ a. IfSome a (λ t. Finds s [] vars x t))
-    → IfOk r (λ a. IfNone a (HasNoType s [] vars x)) → IfOk r (AnswersType o at x)
-type_answer o at s vars x r q p some none =
-    subst (λ s. IfOk r (Answer s at.vars)) (sym q)
-    (subst (λ vars. IfOk r (Answer s vars)) p
-    (both (HasNoType s [] vars x) (λ t. Finds s [] vars x t) r some none))
-  where
-    Answer : Setting → List TypeTree → Option TypeTree → Type 0
-    Answer s vars a = MatchOption a (HasNoType s [] vars x) (λ t. Finds s [] vars x t)
-
--- a term without a type needs none
-pub untyped_needs_none : {o : Origins} {at : Spot} {x : TermTree}
-    → HasNoType (setting_at o) [] at.vars x → NeedsName o at x → ⊥
-untyped_needs_none none needs = none needs.type needs.has
+-- the type that is found for a term at a place, over what is the setting there and among what are
+-- the variables
+pub found_there : {E : Type 0} (o : Origins) (at : Spot) (s : Setting) (vars : List TypeTree)
+    (x : TermTree) (r : Result TypeTree E) → setting_at o ≡ s → vars ≡ at.vars
+    → IfOk r (λ t. Finds s [] vars x t) → IfOk r (λ t. Finds (setting_at o) [] at.vars x t)
+found_there o at s vars x r q p found =
+    subst (λ s. IfOk r (λ t. Finds s [] at.vars x t)) (sym q)
+    (subst (λ vars. IfOk r (λ t. Finds s [] vars x t)) p found)
 
 -- one that is no variable does where the type that is found is named
 pub needs_found : {o : Origins} {at : Spot} (x : TermTree) (t : TypeTree) → FoundIsType

@@ -11,12 +11,11 @@ use Rattle.chw_terms.specs.TermTree.{TermTree, global, made}
 use Rattle.chw_terms.specs.TermView.{applied}
 use Rattle.chw_typing.specs.Finding.{Finds}
 use Rattle.rewriting.specs.Origins.{Origins, setting_at}
-use Rattle.term_types.specs.Answers.{HasNoType}
 use Rattle.rewriting.specs.Spots.{Spot, IsOnWords, TakesElement}
 use Rattle.rewriting.specs.Calls.{OfWhole}
 use Rattle.rewriting.specs.Operands.{IsSignal, NeedsName, NoneNeedsName}
 use Rattle.rewriting.specs.Operands.{IsOperand, OfOperands}
-use Rattle.rule_parts.specs.Cores.{MakesOf}
+use Rattle.rule_parts.specs.Cores.{MakesOf, HasTypeAt}
 use Rattle.work_operands.specs.declared.finding.Named.{Named}
 use Rattle.work_operands.specs.declared.operands.Operands.{Operands}
 use Rattle.work_operands.specs.declared.operands.Operands.TheVariants.{Each, OfPrim}
@@ -31,12 +30,14 @@ IsAmong (OfPrim p) i = IsOnWords p ⊎ (TakesElement p ⊎ IsSignal p i)
 abbrev pub NeedsNameOf : Origins → Spot → TermTree → TypeTree → Type 0
 NeedsNameOf o at x t = NeedsName o at x × Finds (setting_at o) [] at.vars x t
 
--- the answer is the type that is found for the term, or nothing where it has none
-abbrev pub AnswersType : Origins → Spot → TermTree → Option TypeTree → Type 0
-AnswersType o at x answer =
-    MatchOption answer
-    (HasNoType (setting_at o) [] at.vars x)
-    (λ t. Finds (setting_at o) [] at.vars x t)
+-- each of the arguments that is a term has a type at the place
+abbrev pub AllTyped : Origins → Spot → List Arg → Type 0
+AllTyped o at args =
+    (i : ℕ) (x : TermTree) → slice_get args i ≡ Some (OfTerm x) → HasTypeAt o at x
+
+-- the same of the elements of a vector
+abbrev pub AllElementsTyped : Origins → Spot → List TermTree → Type 0
+AllElementsTyped o at es = (i : ℕ) (x : TermTree) → slice_get es i ≡ Some x → HasTypeAt o at x
 
 -- the answer is the type of the name that the term needs, or nothing where it needs none
 abbrev pub AnswersName : Origins → Spot → TermTree → Option TypeTree → Type 0

@@ -10,7 +10,7 @@ ghost use Rattle.rewriting.specs.Spots.{spot_of};
 ghost use Rattle.rewriting.specs.Shapes.{shift_args};
 ghost use Rattle.term_types.specs.Answers.{IsReady};
 ghost use Rattle.term_types.specs.Signatures.{IsSignature};
-ghost use Rattle.work_operands.specs.Firsts.{AnswersArguments, IsFirstArg, NoneNamed};
+ghost use Rattle.work_operands.specs.Firsts.{AllTyped, AnswersArguments, IsFirstArg, NoneNamed};
 ghost use Rattle.work_operands.specs.Named.{with_arg_named};
 
 use crate::finding::{Named, first_argument};
@@ -44,8 +44,12 @@ fn args_with_name(alloc: Global, args: &[Arg], number: usize) -> Result<Vec<Arg>
     requires { number < length args.now }
     ensures { IfOk result (λ made. made.items ≡ set (shift_args args.now 0 1) number (OfTerm (var 0))) }
 {
-    let mut under = args_under(alloc, args)?;
-    under[number] = Arg::OfTerm(new_name(alloc));
+    let (before, from) = args.split_at(number);
+    let (_, behind) = from.split_at(1);
+    let mut under = args_under(alloc, before)?;
+    under.push(Arg::OfTerm(new_name(alloc)))?;
+    let mut others = args_under(alloc, behind)?;
+    under.append(&mut others)?;
     Ok(under)
 }
 
@@ -98,6 +102,7 @@ fn first_among<'t>(
     requires order { HasNoCycle scene.now.program.now.datas }
     requires ready { IsReady (setting_in scene.now) [] (reverse place.now.vars) }
     requires table { IsSignature scene.now.program.now signature.now }
+    requires typed { AllTyped (origins_of scene.now) (spot_of place.now) args.now }
     ensures { IfOk result (λ r. MatchOption r
         (NoneNamed (origins_of scene.now) (spot_of place.now) among args.now count)
         (λ it. (count ≤ length args.now) × IsFirstArg (origins_of scene.now) (spot_of place.now) among (take count args.now) it.number it.ty it.part.now)) }
@@ -124,6 +129,7 @@ pub(crate) fn name_argument(
     requires order { HasNoCycle scene.now.program.now.datas }
     requires ready { IsReady (setting_in scene.now) [] (reverse place.now.vars) }
     requires table { IsSignature scene.now.program.now signature.now }
+    requires typed { AllTyped (origins_of scene.now) (spot_of place.now) args.now }
     ensures { IfOk result (AnswersArguments (origins_of scene.now) (spot_of place.now) among of args.now count) }
 {
     match first_among(alloc, scene, signature, place, among, args, count)? {

@@ -1,15 +1,20 @@
 //! Which terms need names, and the first of some.
-ghost use Rattle.std.specs.Prelude.{◌↔◌, [], reverse, length, IfOk, IsTrue, MatchOption};
+ghost use Rattle.std.specs.Prelude.{◌≡◌, ◌↔◌, [], reverse, length, IfOk, IsTrue, MatchOption};
 ghost use Rattle.chw_types.specs.References.{HasNoCycle};
+ghost use Rattle.chw_terms.specs.declared.term.Arg.TheVariants.{OfTerm};
+ghost use Rattle.chw_terms.specs.TermTree.{TermTree};
+ghost use Rattle.chw_typing.specs.Finding.{Finds};
 ghost use Rattle.chw_typing.specs.Scopes.{setting_in};
-ghost use Rattle.rewriting.specs.Origins.{origins_of};
+ghost use Rattle.rewriting.specs.Origins.{origins_of, setting_at};
 ghost use Rattle.rewriting.specs.Spots.{spot_of};
 ghost use Rattle.rewriting.specs.Shapes.{IsVariable, IsLet};
+ghost use Rattle.rule_parts.specs.Cores.{HasTypeAt};
 ghost use Rattle.term_types.specs.Answers.{IsReady};
 ghost use Rattle.term_types.specs.Signatures.{IsSignature};
-ghost use Rattle.work_operands.specs.Firsts.{AnswersType, AnswersName, AnswersFirstArg, AnswersFirstElement, AnswersArg};
+ghost use Rattle.work_operands.specs.Firsts.{AllTyped, AllElementsTyped, AnswersName, AnswersFirstArg, AnswersFirstElement, AnswersArg};
 
 use crate::operands::{Operands, is_among};
+use call_types::type_of_typed;
 use chw_base::NoMemory;
 use chw_terms::{Arg, Head, Place, Scene, Term};
 use chw_types::Ty;
@@ -18,7 +23,7 @@ use chw_typing::laws::{one_type, types_are_term_types};
 use rewriting::scene_laws::{names_of_modes, settings_of_scenes};
 use rule_parts::named::is_named;
 use std::alloc::Global;
-use term_types::{Signature, type_of_in};
+use term_types::Signature;
 
 /// A part that gets a name: its number, its type, and the part.
 #[derive(Drop)]
@@ -48,23 +53,24 @@ pub(crate) fn is_let(term: &Term) -> bool
     }
 }
 
-/// The type of a term at a place.
-pub(crate) fn type_at(
+/// The type that is found at a place for a term that has one there.
+pub(crate) fn found_at(
     alloc: Global,
     scene: &Scene,
     signature: &Signature,
     place: &Place,
     term: &Term,
-) -> Result<Option<Ty>, NoMemory>
+) -> Result<Ty, NoMemory>
     requires ready { IsReady (setting_in scene.now) [] (reverse place.now.vars) }
     requires table { IsSignature scene.now.program.now signature.now }
-    ensures { IfOk result (AnswersType (origins_of scene.now) (spot_of place.now) term.now) }
+    requires typed { HasTypeAt (origins_of scene.now) (spot_of place.now) term.now }
+    ensures { IfOk result (λ t. Finds (setting_at (origins_of scene.now)) [] (spot_of place.now).vars term.now t) }
 {
     settings_of_scenes();
-    type_of_in(alloc, scene, signature, &[], place.vars.as_slice(), term)
+    type_of_typed(alloc, scene, signature, place.vars.as_slice(), term)
 }
 
-/// The type of the name that a term needs at a place, if it needs one: it is no variable, and its type is named there.
+/// The type of the name that a term needs at a place, where it has a type, if it needs one: it is no variable, and its type is named there.
 pub(crate) fn name_needed(
     alloc: Global,
     scene: &Scene,
@@ -75,14 +81,13 @@ pub(crate) fn name_needed(
     requires order { HasNoCycle scene.now.program.now.datas }
     requires ready { IsReady (setting_in scene.now) [] (reverse place.now.vars) }
     requires table { IsSignature scene.now.program.now signature.now }
+    requires typed { HasTypeAt (origins_of scene.now) (spot_of place.now) term.now }
     ensures { IfOk result (AnswersName (origins_of scene.now) (spot_of place.now) term.now) }
 {
     if is_variable(term) {
         return Ok(None);
     }
-    let Some(ty) = type_at(alloc, scene, signature, place, term)? else {
-        return Ok(None);
-    };
+    let ty = found_at(alloc, scene, signature, place, term)?;
     settings_of_scenes();
     found_is_type();
     one_type();
@@ -94,7 +99,7 @@ pub(crate) fn name_needed(
     Ok(None)
 }
 
-// The name that the argument of this number needs, if it is an operand and needs one.
+// The name that the argument of this number needs, if it is an operand and needs one. If it is a term, it has a type.
 fn argument_named<'t>(
     alloc: Global,
     scene: &Scene,
@@ -107,6 +112,7 @@ fn argument_named<'t>(
     requires order { HasNoCycle scene.now.program.now.datas }
     requires ready { IsReady (setting_in scene.now) [] (reverse place.now.vars) }
     requires table { IsSignature scene.now.program.now signature.now }
+    requires typed { (x : TermTree) → arg.now ≡ OfTerm x → HasTypeAt (origins_of scene.now) (spot_of place.now) x }
     ensures { IfOk result (AnswersArg (origins_of scene.now) (spot_of place.now) among number arg.now) }
 {
     let Arg::OfTerm(part) = arg else {
@@ -133,6 +139,7 @@ pub(crate) fn first_argument<'t>(
     requires order { HasNoCycle scene.now.program.now.datas }
     requires ready { IsReady (setting_in scene.now) [] (reverse place.now.vars) }
     requires table { IsSignature scene.now.program.now signature.now }
+    requires typed { AllTyped (origins_of scene.now) (spot_of place.now) args.now }
     ensures { IfOk result (AnswersFirstArg (origins_of scene.now) (spot_of place.now) among args.now) }
 {
     for (number, arg) in args.iter().enumerate() {
@@ -155,6 +162,7 @@ pub(crate) fn first_element<'t>(
     requires order { HasNoCycle scene.now.program.now.datas }
     requires ready { IsReady (setting_in scene.now) [] (reverse place.now.vars) }
     requires table { IsSignature scene.now.program.now signature.now }
+    requires typed { AllElementsTyped (origins_of scene.now) (spot_of place.now) elements.now }
     ensures { IfOk result (AnswersFirstElement (origins_of scene.now) (spot_of place.now) elements.now) }
 {
     for (number, part) in elements.iter().enumerate() {

@@ -8,6 +8,7 @@ ghost use Rattle.chw_typing.specs.Scopes.{setting_in};
 ghost use Rattle.rewriting.specs.Origins.{origins_of};
 ghost use Rattle.rewriting.specs.Spots.{spot_of};
 ghost use Rattle.rewriting.specs.Shapes.{shift_alts};
+ghost use Rattle.rule_parts.specs.Cores.{HasTypeAt};
 ghost use Rattle.term_types.specs.Answers.{IsReady};
 ghost use Rattle.term_types.specs.Signatures.{IsSignature};
 ghost use Rattle.work_operands.specs.Firsts.{AnswersPart};
@@ -66,6 +67,7 @@ pub(crate) fn name_scrutinee(
     requires order { HasNoCycle scene.now.program.now.datas }
     requires ready { IsReady (setting_in scene.now) [] (reverse place.now.vars) }
     requires table { IsSignature scene.now.program.now signature.now }
+    requires typed { HasTypeAt (origins_of scene.now) (spot_of place.now) (case_of on.now (alts_of alts.now)) }
     ensures { IfOk result (AnswersPart (origins_of scene.now) (spot_of place.now) (case_of on.now (alts_of alts.now))) }
 {
     let Some(ty) = name_needed(alloc, scene, signature, place, on)? else {
@@ -147,6 +149,7 @@ pub(crate) fn name_element(
     requires order { HasNoCycle scene.now.program.now.datas }
     requires ready { IsReady (setting_in scene.now) [] (reverse place.now.vars) }
     requires table { IsSignature scene.now.program.now signature.now }
+    requires typed { HasTypeAt (origins_of scene.now) (spot_of place.now) (vec_lit ty.now (terms_of elements.now)) }
     ensures { IfOk result (AnswersPart (origins_of scene.now) (spot_of place.now) (vec_lit ty.now (terms_of elements.now))) }
 {
     if !has_lets(place.mode) {

@@ -5,16 +5,16 @@ ghost use Rattle.chw_typing.specs.Scopes.{setting_in};
 ghost use Rattle.rewriting.specs.Origins.{origins_of};
 ghost use Rattle.rewriting.specs.Spots.{spot_of, HasLets};
 ghost use Rattle.rewriting.specs.Operands.{NoneNeedsName};
+ghost use Rattle.rule_parts.specs.Cores.{HasTypeAt};
 ghost use Rattle.term_types.specs.Answers.{IsReady};
 ghost use Rattle.term_types.specs.Signatures.{IsSignature};
 ghost use Rattle.work_operands.specs.Firsts.{AnswersWhole};
 
 use crate::arguments::new_name;
-use crate::finding::{is_let, is_variable, type_at};
+use crate::finding::{found_at, is_let, is_variable};
 use crate::operands::has_lets;
 use chw_base::NoMemory;
 use chw_terms::{Place, Scene, Term};
-use chw_typing::found_laws::found_is_type;
 use rule_parts::copies::let_one;
 use std::alloc::Global;
 use term_types::Signature;
@@ -36,6 +36,7 @@ pub(crate) fn name_result(
 ) -> Result<Option<Term>, NoMemory>
     requires ready { IsReady (setting_in scene.now) [] (reverse place.now.vars) }
     requires table { IsSignature scene.now.program.now signature.now }
+    requires typed { HasTypeAt (origins_of scene.now) (spot_of place.now) at.now }
     requires none { NoneNeedsName (origins_of scene.now) (spot_of place.now) at.now }
     ensures { IfOk result (AnswersWhole (origins_of scene.now) (spot_of place.now) Anf at.now) }
 {
@@ -48,9 +49,6 @@ pub(crate) fn name_result(
     if is_let(at) {
         return Ok(None);
     }
-    found_is_type();
-    let Some(ty) = type_at(alloc, scene, signature, place, at)? else {
-        return Ok(None);
-    };
+    let ty = found_at(alloc, scene, signature, place, at)?;
     Ok(Some(let_one(alloc, ty, at, new_name(alloc))?))
 }

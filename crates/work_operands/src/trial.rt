@@ -7,6 +7,7 @@ ghost use Rattle.chw_terms.specs.TermView.{tree_of, applied};
 ghost use Rattle.chw_typing.specs.Scopes.{setting_in};
 ghost use Rattle.rewriting.specs.Origins.{origins_of};
 ghost use Rattle.rewriting.specs.Spots.{spot_of};
+ghost use Rattle.rule_parts.specs.Cores.{HasTypeAt};
 ghost use Rattle.term_types.specs.Answers.{IsReady};
 ghost use Rattle.term_types.specs.Signatures.{IsSignature};
 ghost use Rattle.work_operands.specs.Firsts.{AnswersOperand, AnswersWhole, IsName};
@@ -35,6 +36,7 @@ fn name_of_prim(
     requires order { HasNoCycle scene.now.program.now.datas }
     requires ready { IsReady (setting_in scene.now) [] (reverse place.now.vars) }
     requires table { IsSignature scene.now.program.now signature.now }
+    requires typed { HasTypeAt (origins_of scene.now) (spot_of place.now) (applied (prim which) args.now) }
     ensures { IfOk result (AnswersOperand (origins_of scene.now) (spot_of place.now) (applied (prim which) args.now)) }
 {
     let among = Operands::OfPrim(which);
@@ -55,6 +57,7 @@ fn name_of_con(
     requires order { HasNoCycle scene.now.program.now.datas }
     requires ready { IsReady (setting_in scene.now) [] (reverse place.now.vars) }
     requires table { IsSignature scene.now.program.now signature.now }
+    requires typed { HasTypeAt (origins_of scene.now) (spot_of place.now) (applied (con which.number) args.now) }
     ensures { IfOk result (AnswersOperand (origins_of scene.now) (spot_of place.now) (applied (con which.number) args.now)) }
 {
     if !has_lets(place.mode) {
@@ -89,6 +92,7 @@ fn name_in_call(
     requires order { HasNoCycle scene.now.program.now.datas }
     requires ready { IsReady (setting_in scene.now) [] (reverse place.now.vars) }
     requires table { IsSignature scene.now.program.now signature.now }
+    requires typed { HasTypeAt (origins_of scene.now) (spot_of place.now) (applied of args.now) }
     requires call { IsName of }
     ensures { IfOk result (AnswersOperand (origins_of scene.now) (spot_of place.now) (applied of args.now)) }
 {
@@ -119,6 +123,7 @@ fn name_operand(
     requires order { HasNoCycle scene.now.program.now.datas }
     requires ready { IsReady (setting_in scene.now) [] (reverse place.now.vars) }
     requires table { IsSignature scene.now.program.now signature.now }
+    requires typed { HasTypeAt (origins_of scene.now) (spot_of place.now) at.now }
     ensures { IfOk result (AnswersOperand (origins_of scene.now) (spot_of place.now) at.now) }
 {
     let args = at.args.as_slice();
@@ -159,7 +164,8 @@ fn name_operand(
 /// named in the place's mode.
 ///
 /// No data type leads back to itself and the scene is sound, as in every typed program, and terms have the types of the variables in
-/// scope at the place. The signature is that of the scene's program, which is made once for many terms.
+/// scope at the place. The term has a type there, so the types of its operands are found by their heads where these are calls. The
+/// signature is that of the scene's program, which is made once for many terms.
 /// Where a number would pass 32 bits, the answer is want of memory.
 pub fn try_operands(
     alloc: Global,
@@ -171,6 +177,7 @@ pub fn try_operands(
     requires order { HasNoCycle scene.now.program.now.datas }
     requires ready { IsReady (setting_in scene.now) [] (reverse place.now.vars) }
     requires table { IsSignature scene.now.program.now signature.now }
+    requires typed { HasTypeAt (origins_of scene.now) (spot_of place.now) at.now }
     ensures { IfOk result (AnswersWhole (origins_of scene.now) (spot_of place.now) Anf at.now) }
 {
     if let Some(made) = name_operand(alloc, scene, signature, at, place)? {

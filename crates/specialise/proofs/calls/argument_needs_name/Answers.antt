@@ -10,3 +10,6 @@ returns-in-OfTerm c =
 pub returns-in-OfType : goal.returns-in-OfType
 returns-in-OfType c =
     (λ t. absurd cc, λ n. let is = n.1 in let other = c.in-OfType.is in absurd cc)
+
+pub needs_name-requires-clause-typed : goal.needs_name-requires-clause-typed
+needs_name-requires-clause-typed c = c.requires.typed c.in-OfTerm.term c.in-OfTerm.is

@@ -6,17 +6,7 @@ use Rattle.rewriting.specs.Named.{IsNamed}
 use Rattle.rewriting.specs.Origins.{origins_of, setting_at}
 use Rattle.rewriting.specs.Spots.{spot_of}
 use Rattle.term_types.proofs.Matched.{of_none, of_some}
-use Rattle.specialise.proofs.Called.{called_plain}
 use Rattle.specialise.proofs.calls.call_seed.Goals as goal
-
-pub returns-then-not-branch : goal.returns-then-not-branch
-returns-then-not-branch c = λ types gives call.
-    let yes = c.in_ok-is_plain.ensures.1 (called_plain call) in
-    let no = c.if-not-branch.true in
-    absurd cc
-
-pub seed_of-requires-clause-plain : goal.seed_of-requires-clause-plain
-seed_of-requires-clause-plain c = c.in_ok-is_plain.ensures.0 c.if-not-branch.false
 
 pub returns-in_default : goal.returns-in_default
 returns-in_default c =

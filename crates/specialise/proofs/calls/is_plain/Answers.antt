@@ -2,8 +2,11 @@ use Rattle.std.proofs.Common.{◌↔◌, IsTrue, subst, sym}
 use Rattle.term_types.proofs.Matched.{ok_more}
 use Rattle.rewriting.specs.Origins.{origins_of}
 use Rattle.rewriting.specs.Spots.{spot_of}
-use Rattle.specialise.specs.Calls.{NoneNeedsName}
-use Rattle.specialise.proofs.Called.{IsPlain, not_plain, plain_there, plain_needs_none}
+use Rattle.chw_terms.specs.TermView.{tree_of}
+use Rattle.specialise.specs.Calls.{HaveTypesAt, NoneNeedsName}
+use Rattle.specialise.proofs.Needs.{arguments_typed}
+use Rattle.specialise.specs.Calls.{IsPlain}
+use Rattle.specialise.proofs.Called.{not_plain, plain_there, plain_needs_none}
 use Rattle.specialise.proofs.calls.is_plain.Goals as goal
 
 pub returns-in-Global : goal.returns-in-Global
@@ -30,3 +33,11 @@ returns-in_default c = (
   λ p. absurd (not_plain c.at.inside.head c.at.inside.args.items c.in_default.not-Global
       c.at.view_is p),
 )
+
+pub none_needs_name-requires-clause-typed : goal.none_needs_name-requires-clause-typed
+none_needs_name-requires-clause-typed c =
+    let o = origins_of c.args.scene.now in
+    let at = spot_of c.args.place.now in
+    subst (HaveTypesAt o at) (sym c.deref.ensures.value)
+    (arguments_typed o at (tree_of c.at.inside.head) c.args.at.now c.at.inside.args.items
+    c.at.view_is c.requires.typed)

@@ -1,5 +1,7 @@
 use Rattle.std.proofs.Common.{refl, arith}
-use Rattle.specialise.proofs.Needs.{none_more, none_of_all, one_needs}
+use Rattle.rewriting.specs.Origins.{origins_of}
+use Rattle.rewriting.specs.Spots.{spot_of}
+use Rattle.specialise.proofs.Needs.{argument_typed, none_more, none_of_all, one_needs}
 use Rattle.specialise.proofs.calls.none_needs_name.Goals as goal
 
 pub returns-then-branch : goal.returns-then-branch
@@ -23,3 +25,8 @@ returns c = (
       c.loop-arg.invariant,
   λ n. refl,
 )
+
+pub argument_needs_name-requires-clause-typed : goal.argument_needs_name-requires-clause-typed
+argument_needs_name-requires-clause-typed c =
+    argument_typed (origins_of c.args.scene.now) (spot_of c.args.place.now) c.args.args.now c.loop-arg.arg-index c.arg-item.result c.loop-arg-test.true
+    c.arg-item.is c.requires.typed

@@ -5,6 +5,7 @@ use Rattle.rewriting.specs.Spots.{spot_of}
 use Rattle.term_types.proofs.Matched.{not_true}
 use Rattle.specialise.specs.Special.{AnswersSpecial}
 use Rattle.specialise.specs.Closed.{numbers}
+use Rattle.specialise.proofs.Called.{called_plain}
 use Rattle.specialise.proofs.Numbering.{AnswersCalled, call_answer, call_in, none_special}
 use Rattle.specialise.proofs.trial.special_call.Goals as goal
 
@@ -14,6 +15,16 @@ returns-then-not-has_lets c =
     (spot_of c.args.place.now) c.args.at.now c.requires.same
     (λ e' i. not_true c.has_lets.result c.if-not-has_lets.true
     (c.has_lets.ensures.1 (call_in c.requires.call i).lets))
+
+pub returns-then-not-branch : goal.returns-then-not-branch
+returns-then-not-branch c =
+    none_special c.args.scene.now.program.now c.args.scene.now.made.now c.args.table.now
+    (spot_of c.args.place.now) c.args.at.now c.requires.same
+    (λ e' i. let yes = c.in_ok-is_plain.ensures.1 (called_plain (call_in c.requires.call i).call) in
+    let no = c.if-not-branch.true in absurd cc)
+
+pub called_on-outcome-requires-clause-plain : goal.called_on-outcome-requires-clause-plain
+called_on-outcome-requires-clause-plain c = c.in_ok-is_plain.ensures.0 c.if-not-branch.false
 
 pub called_on-outcome-requires-clause-free : goal.called_on-outcome-requires-clause-free
 called_on-outcome-requires-clause-free c = ap numbers c.deref.ensures.value ∙ c.in_ok-free.ensures

@@ -1,4 +1,4 @@
-use Rattle.std.proofs.Common.{◌≡◌, subst}
+use Rattle.std.proofs.Common.{◌≡◌, ◌∙◌, Some, ap, subst}
 use Rattle.chw_terms.specs.declared.term.Arg.TheVariants.{OfTerm}
 use Rattle.chw_terms.specs.TermTree.{TermTree}
 use Rattle.rewriting.specs.Origins.{origins_of}
@@ -6,8 +6,16 @@ use Rattle.rewriting.specs.Spots.{spot_of}
 use Rattle.rewriting.specs.Operands.{NeedsName}
 use Rattle.term_types.proofs.Matched.{of_none}
 use Rattle.work_operands.specs.Firsts.{IsAmong, IsNamedPart, AnswersArg}
-use Rattle.work_operands.proofs.Searching.{none_more, first_arg}
+use Rattle.work_operands.proofs.Searching.{item, none_more, first_arg}
 use Rattle.work_operands.proofs.finding.first_argument.Goals as goal
+
+pub argument_named-requires-clause-typed : goal.argument_named-requires-clause-typed
+argument_named-requires-clause-typed c x is =
+    let n = c.loop-number.number in
+    let arg = c.index-args-number.result in
+    c.requires.typed n x
+    (item c.args.args.now n arg c.loop-number-test.true c.index-args-number.is
+    ∙ ap (λ a. Some a) is)
 
 pub returns-in-Some : goal.returns-in-Some
 returns-in-Some c =

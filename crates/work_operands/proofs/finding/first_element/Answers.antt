@@ -4,8 +4,15 @@ use Rattle.rewriting.specs.Spots.{spot_of}
 use Rattle.rewriting.specs.Operands.{NeedsName}
 use Rattle.term_types.proofs.Matched.{of_none}
 use Rattle.work_operands.specs.Firsts.{AnswersName, NeedsNameOf}
-use Rattle.work_operands.proofs.Searching.{no_element_more, first_element}
+use Rattle.work_operands.proofs.Searching.{item, no_element_more, first_element}
 use Rattle.work_operands.proofs.finding.first_element.Goals as goal
+
+pub name_needed-requires-clause-typed : goal.name_needed-requires-clause-typed
+name_needed-requires-clause-typed c =
+    let n = c.loop-number.number in
+    let e = c.index-elements-number.result in
+    c.requires.typed n e
+    (item c.args.elements.now n e c.loop-number-test.true c.index-elements-number.is)
 
 pub returns-in-Some : goal.returns-in-Some
 returns-in-Some c =

@@ -9,6 +9,7 @@ use Rattle.rewriting.specs.Operands.{OfOperands}
 use Rattle.term_types.proofs.Matched.{of_none, not_true}
 use Rattle.work_operands.specs.Firsts.{AnswersFirstElement, NoElementBefore, IsFirstElement}
 use Rattle.work_operands.proofs.CasesAndVectors.{element_named, elements_stay}
+use Rattle.work_operands.proofs.Typed.{elements_typed}
 use Rattle.work_operands.proofs.parts.name_element.Goals as goal
 
 pub returns-then-not-has_lets : goal.returns-then-not-has_lets
@@ -16,6 +17,11 @@ returns-then-not-has_lets c =
     elements_stay c.args.ty.now c.args.elements.now
     (λ m.
     absurd (not_true c.has_lets.result c.if-not-has_lets.true (c.has_lets.ensures.1 m)))
+
+pub first_element-requires-clause-typed : goal.first_element-requires-clause-typed
+first_element-requires-clause-typed c =
+    elements_typed (origins_of c.args.scene.now) (spot_of c.args.place.now) c.args.ty.now
+    c.args.elements.now c.requires.typed
 
 pub returns-in_default : goal.returns-in_default
 returns-in_default c =

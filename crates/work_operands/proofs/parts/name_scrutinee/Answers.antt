@@ -9,7 +9,13 @@ use Rattle.term_types.proofs.Matched.{of_none}
 use Rattle.work_operands.specs.Firsts.{AnswersName, NeedsNameOf}
 use Rattle.work_operands.specs.Named.{let_of}
 use Rattle.work_operands.proofs.CasesAndVectors.{scrutinee_named, scrutinee_stays}
+use Rattle.work_operands.proofs.Typed.{scrutinee_typed}
 use Rattle.work_operands.proofs.parts.name_scrutinee.Goals as goal
+
+pub name_needed-requires-clause-typed : goal.name_needed-requires-clause-typed
+name_needed-requires-clause-typed c =
+    scrutinee_typed (origins_of c.args.scene.now) (spot_of c.args.place.now) c.args.on.now
+    (alts_of c.args.alts.now) c.requires.typed
 
 pub returns-in_default : goal.returns-in_default
 returns-in_default c =

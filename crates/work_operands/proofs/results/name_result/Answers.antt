@@ -1,12 +1,9 @@
-use Rattle.std.proofs.Common.{◌∙◌, inr, [], ap, sym, subst}
+use Rattle.std.proofs.Common.{◌∙◌, inr, ap, sym, subst}
 use Rattle.chw_terms.specs.declared.rule.Rule.TheVariants.{Anf}
-use Rattle.chw_typing.specs.Finding.{Finds}
-use Rattle.rewriting.specs.Origins.{origins_of, setting_at}
+use Rattle.rewriting.specs.Origins.{origins_of}
 use Rattle.rewriting.specs.Spots.{spot_of}
 use Rattle.rewriting.specs.Calls.{OfWhole, anf_result}
-use Rattle.term_types.proofs.Matched.{of_none, not_true}
-use Rattle.term_types.specs.Answers.{HasNoType}
-use Rattle.work_operands.specs.Firsts.{AnswersType}
+use Rattle.term_types.proofs.Matched.{not_true}
 use Rattle.work_operands.specs.Named.{let_of}
 use Rattle.work_operands.proofs.AtResults.{only_results}
 use Rattle.work_operands.proofs.results.name_result.Goals as goal
@@ -27,29 +24,16 @@ pub returns-then-is_let : goal.returns-then-is_let
 returns-then-is_let c e' m =
     only_results c.requires.none (λ r. r.no_let (c.is_let.ensures.0 c.if-is_let.true)) m
 
-pub returns-in_default : goal.returns-in_default
-returns-in_default c e' m =
-    let o = origins_of c.args.scene.now in
-    let at = spot_of c.args.place.now in
-    let e = c.args.at.now in
-    let untyped : HasNoType (setting_at o) [] at.vars e =
-    of_none (HasNoType (setting_at o) [] at.vars e) (Finds (setting_at o) [] at.vars e)
-    c.in_ok-ty.field-0 c.in_default.not-Some c.in_ok-ty.ensures in
-    only_results c.requires.none
-    (λ r. untyped r.type (c.found_is_type.ensures (setting_at o) [] at.vars e r.type r.found)) m
-
 pub returns : goal.returns
 returns c =
     let o = origins_of c.args.scene.now in
     let at = spot_of c.args.place.now in
     let e = c.args.at.now in
-    let t = c.in-Some.ty in
-    let found : Finds (setting_at o) [] at.vars e t =
-    subst (AnswersType o at e) c.in-Some.is c.in_ok-ty.ensures in
+    let t = c.in_ok-ty.ty in
     let result = c.is_result.ensures.0 c.if-not-is_result.false in
     let made = c.in_ok-let_one.ensures ∙ ap (let_of t e) c.new_name.ensures in
     inr (subst (OfWhole o at Anf e) (sym made)
     (anf_result result.0 result.1
     (λ v. not_true c.is_variable.result c.if-is_variable.false (c.is_variable.ensures.1 v))
     (λ v. not_true c.is_let.result c.if-is_let.false (c.is_let.ensures.1 v))
-    c.requires.none found))
+    c.requires.none c.in_ok-ty.ensures))

@@ -2,7 +2,13 @@ use Rattle.rewriting.specs.Origins.{origins_of}
 use Rattle.rewriting.specs.Spots.{spot_of}
 use Rattle.term_types.proofs.Matched.{not_true}
 use Rattle.work_operands.proofs.Heads.{call_answers, call_stays}
+use Rattle.work_operands.proofs.Typed.{arguments_typed}
 use Rattle.work_operands.proofs.trial.name_in_call.Goals as goal
+
+pub name_argument-requires-clause-typed : goal.name_argument-requires-clause-typed
+name_argument-requires-clause-typed c =
+    arguments_typed (origins_of c.args.scene.now) (spot_of c.args.place.now) c.args.of
+    c.args.args.now c.requires.typed
 
 pub returns-then-not-has_lets : goal.returns-then-not-has_lets
 returns-then-not-has_lets c =

@@ -1,11 +1,18 @@
 use Rattle.std.proofs.Common.{◌≡◌, ◌∙◌, Some, None, sym, subst}
 use Rattle.chw_terms.specs.Constructors.{con_at}
+use Rattle.chw_terms.specs.TermTree.{con}
 use Rattle.con_places.specs.Constructing.{constructor_of}
 use Rattle.rewriting.specs.Origins.{origins_of}
 use Rattle.rewriting.specs.Spots.{spot_of}
 use Rattle.term_types.proofs.Matched.{not_true}
 use Rattle.work_operands.proofs.Heads.{con_answers, con_stays}
+use Rattle.work_operands.proofs.Typed.{arguments_typed}
 use Rattle.work_operands.proofs.trial.name_of_con.Goals as goal
+
+pub name_argument-requires-clause-typed : goal.name_argument-requires-clause-typed
+name_argument-requires-clause-typed c =
+    arguments_typed (origins_of c.args.scene.now) (spot_of c.args.place.now)
+    (con c.args.which.number) c.args.args.now c.requires.typed
 
 pub returns-then-not-has_lets : goal.returns-then-not-has_lets
 returns-then-not-has_lets c =

@@ -1,7 +1,14 @@
+use Rattle.chw_terms.specs.TermTree.{prim}
 use Rattle.rewriting.specs.Origins.{origins_of}
 use Rattle.rewriting.specs.Spots.{spot_of}
 use Rattle.work_operands.proofs.Heads.{prim_answers}
+use Rattle.work_operands.proofs.Typed.{arguments_typed}
 use Rattle.work_operands.proofs.trial.name_of_prim.Goals as goal
+
+pub name_argument-requires-clause-typed : goal.name_argument-requires-clause-typed
+name_argument-requires-clause-typed c =
+    arguments_typed (origins_of c.args.scene.now) (spot_of c.args.place.now) (prim c.args.which)
+    c.args.args.now c.requires.typed
 
 pub returns : goal.returns
 returns c =

@@ -7,10 +7,20 @@ use Rattle.rewriting.specs.Origins.{origins_of}
 use Rattle.rewriting.specs.Spots.{spot_of}
 use Rattle.rewriting.specs.Operands.{NoneNeedsName}
 use Rattle.rule_parts.proofs.Heads.{bare}
+use Rattle.rule_parts.specs.Cores.{HasTypeAt}
 use Rattle.work_operands.specs.Firsts.{AnswersOperand}
 use Rattle.work_operands.proofs.CasesAndVectors.{case_behind, vector_behind}
 use Rattle.work_operands.proofs.Spines.{HasNoOperands, other_needs_none}
+use Rattle.work_operands.proofs.Typed.{core_typed}
 use Rattle.work_operands.proofs.trial.name_operand.Goals as goal
+
+pub name_of_prim-requires-clause-typed : goal.name_of_prim-requires-clause-typed
+name_of_prim-requires-clause-typed c =
+    let whole : applied (prim c.in-PrimOf.which) c.as_slice-args.result.now ≡ c.args.at.now =
+    (λ i. applied (tree_of (sym c.in-PrimOf.is i)) (c.as_slice-args.ensures.value i))
+    ∙ c.at.view_is in
+    subst (HasTypeAt (origins_of c.args.scene.now) (spot_of c.args.place.now)) (sym whole)
+    c.requires.typed
 
 pub returns-in-PrimOf : goal.returns-in-PrimOf
 returns-in-PrimOf c =
@@ -22,6 +32,14 @@ returns-in-PrimOf c =
     let at = spot_of c.args.place.now in
     subst (λ e. IfOk c.name_of_prim.result (AnswersOperand o at e)) whole c.name_of_prim.ensures
 
+pub name_of_con-requires-clause-typed : goal.name_of_con-requires-clause-typed
+name_of_con-requires-clause-typed c =
+    let whole : applied (con c.in-Con.which.number) c.as_slice-args.result.now ≡ c.args.at.now =
+    (λ i. applied (tree_of (sym c.in-Con.is i)) (c.as_slice-args.ensures.value i))
+    ∙ c.at.view_is in
+    subst (HasTypeAt (origins_of c.args.scene.now) (spot_of c.args.place.now)) (sym whole)
+    c.requires.typed
+
 pub returns-in-Con : goal.returns-in-Con
 returns-in-Con c =
     let args = c.as_slice-args.result.now in
@@ -32,6 +50,14 @@ returns-in-Con c =
     let at = spot_of c.args.place.now in
     subst (λ e. IfOk c.name_of_con.result (AnswersOperand o at e)) whole c.name_of_con.ensures
 
+pub name_in_call-requires-clause-typed : goal.name_in_call-requires-clause-typed
+name_in_call-requires-clause-typed c =
+    let head = c.global.ensures ∙ sym (ap tree_of c.in-Global.is) in
+    let whole : applied c.global.result c.as_slice-args.result.now ≡ c.args.at.now =
+    (λ i. applied (head i) (c.as_slice-args.ensures.value i)) ∙ c.at.view_is in
+    subst (HasTypeAt (origins_of c.args.scene.now) (spot_of c.args.place.now)) (sym whole)
+    c.requires.typed
+
 pub returns-in-Global : goal.returns-in-Global
 returns-in-Global c =
     let head = c.global.ensures ∙ sym (ap tree_of c.in-Global.is) in
@@ -40,6 +66,14 @@ returns-in-Global c =
     let o = origins_of c.args.scene.now in
     let at = spot_of c.args.place.now in
     subst (λ e. IfOk c.name_in_call.result (AnswersOperand o at e)) whole c.name_in_call.ensures
+
+pub name_in_call-requires-in-Made-clause-typed : goal.name_in_call-requires-in-Made-clause-typed
+name_in_call-requires-in-Made-clause-typed c =
+    let head = c.made.ensures ∙ sym (ap tree_of c.in-Made.is) in
+    let whole : applied c.made.result c.as_slice-args.result.now ≡ c.args.at.now =
+    (λ i. applied (head i) (c.as_slice-args.ensures.value i)) ∙ c.at.view_is in
+    subst (HasTypeAt (origins_of c.args.scene.now) (spot_of c.args.place.now)) (sym whole)
+    c.requires.typed
 
 pub returns-in-Made : goal.returns-in-Made
 returns-in-Made c =
@@ -50,6 +84,20 @@ returns-in-Made c =
     let at = spot_of c.args.place.now in
     subst (λ e. IfOk c.name_in_call-in-Made.result (AnswersOperand o at e)) whole
     c.name_in_call-in-Made.ensures
+
+pub name_scrutinee-requires-clause-typed : goal.name_scrutinee-requires-clause-typed
+name_scrutinee-requires-clause-typed c =
+    let o = origins_of c.args.scene.now in
+    let at = spot_of c.args.place.now in
+    let args = c.as_slice-args.result.now in
+    let e = c.deref.result.now in
+    let alts = alts_of c.deref-in-Case.result.now in
+    let head : case_of e alts ≡ tree_of c.at.inside.head =
+    (λ i. case_of (c.deref.ensures i) (alts_of (c.deref-in-Case.ensures.value i)))
+    ∙ sym (ap tree_of c.in-Case.is) in
+    let whole : applied (case_of e alts) args ≡ c.args.at.now =
+    (λ i. applied (head i) (c.as_slice-args.ensures.value i)) ∙ c.at.view_is in
+    core_typed o at (case_of e alts) args (subst (HasTypeAt o at) (sym whole) c.requires.typed)
 
 pub returns-in_ok-made-in-Case : goal.returns-in_ok-made-in-Case
 returns-in_ok-made-in-Case c =
@@ -71,6 +119,20 @@ returns-in_ok-made-in-Case c =
     (λ (r : Option TermTree). r ≡ option_map (λ e. applied e args) made)
     (AnswersOperand o at c.args.at.now)
     (λ r is. subst (AnswersOperand o at c.args.at.now) (sym is) all) c.with_rest.ensures
+
+pub name_element-requires-clause-typed : goal.name_element-requires-clause-typed
+name_element-requires-clause-typed c =
+    let o = origins_of c.args.scene.now in
+    let at = spot_of c.args.place.now in
+    let args = c.as_slice-args.result.now in
+    let t = c.in-VecLit.ty in
+    let es = terms_of c.deref-in-VecLit.result.now in
+    let head : vec_lit t es ≡ tree_of c.at.inside.head =
+    (λ i. vec_lit t (terms_of (c.deref-in-VecLit.ensures.value i)))
+    ∙ sym (ap tree_of c.in-VecLit.is) in
+    let whole : applied (vec_lit t es) args ≡ c.args.at.now =
+    (λ i. applied (head i) (c.as_slice-args.ensures.value i)) ∙ c.at.view_is in
+    core_typed o at (vec_lit t es) args (subst (HasTypeAt o at) (sym whole) c.requires.typed)
 
 pub returns-in_ok-made-in-VecLit : goal.returns-in_ok-made-in-VecLit
 returns-in_ok-made-in-VecLit c =
