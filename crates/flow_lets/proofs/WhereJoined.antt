@@ -1,18 +1,16 @@
 -- Whether the rule makes something of a term.
-use Rattle.std.proofs.Common.{◌≡◌, sym, refl, subst, List, Option, None, Some, IsTrue, true, false}
+use Rattle.std.proofs.Common.{refl, List, None, Some, IsTrue, true, false}
 use Rattle.std.specs.Prelude.{Bool, ◌↔◌}
 use Rattle.std.proofs.lemmas.Bool.{false≢true}
 use Rattle.chw_terms.specs.declared.rule.Rule.TheVariants.{Flat}
 use Rattle.chw_terms.specs.declared.term.Arg.{Arg}
 use Rattle.chw_terms.specs.TermTree.{TermTree, letrec, Group}
 use Rattle.chw_terms.specs.TermView.{applied}
-use Rattle.rewriting.specs.Instances.{Makes}
 use Rattle.rewriting.specs.Origins.{Origins}
 use Rattle.rewriting.specs.Spots.{Spot}
-use Rattle.rewriting.specs.Shapes.{IsOfHead}
 use Rattle.rule_parts.specs.Cores.{Answers, AnswersCore, of_core}
 use Rattle.rule_parts.proofs.Heads.{of_head}
-use Rattle.flow_lets.specs.Flat.{AnswersFlat, AnswersLetrec, JoinsAt, JoinsCore}
+use Rattle.flow_lets.specs.Flat.{JoinsAt, JoinsCore}
 use Rattle.flow_lets.proofs.Flat.{bare_lets}
 
 -- of a letrec of which something is made, and of one of which nothing is

@@ -1,5 +1,5 @@
 -- Where the rule that joins letrecs has an instance.
-use Rattle.std.proofs.Common.{◌≡◌, refl, None, Some, IsTrue, true, false}
+use Rattle.std.proofs.Common.{refl, None, Some, IsTrue, true, false}
 use Rattle.std.specs.Prelude.{Bool, ◌↔◌}
 use Rattle.std.proofs.lemmas.Bool.{false≢true}
 use Rattle.chw_terms.specs.declared.rule.Rule.TheVariants.{Flat}
