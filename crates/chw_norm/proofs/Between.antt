@@ -1,8 +1,7 @@
 -- What stands between two steps of a run.
-use Rattle.std.proofs.Common.{◌≡◌, inl, inr, ℕ, zero, suc, ◌≤◌, refl, sym, ap, subst, arith, List, []}
-use Rattle.std.proofs.Common.{◌∷◌, length}
-use Rattle.std.specs.Prelude.{IsSome, IfOk, Option, Result}
-use Rattle.std.proofs.lemmas.Result.{IfOk-weaker}
+use Rattle.std.proofs.Common.{◌≡◌, inl, inr, ◌≤◌, refl, sym, ap, subst, arith, List}
+use Rattle.std.proofs.Common.{length}
+use Rattle.std.specs.Prelude.{IsSome}
 use Rattle.chw_base.specs.declared.limits.TheConstants.{MADE_DEFINITIONS}
 use Rattle.chw_terms.specs.declared.program.Program.{Program}
 use Rattle.chw_terms.specs.declared.scene.Made.{Made}
@@ -12,16 +11,13 @@ use Rattle.chw_terms.specs.Tidy.{IsTidy}
 use Rattle.chw_typing.specs.Programs.{IsTyped}
 use Rattle.rewriting.specs.Origins.{made_of}
 use Rattle.rewriting.specs.Typed.{IsTypedScene}
-use Rattle.chw_typing.specs.Paths.{IsEarlier}
 use Rattle.term_types.specs.Signatures.{IsSignature}
 use Rattle.rewriting.specs.Runs.{IsOpening, StepsTo}
-use Rattle.rewriting.specs.Steps.{IsFirst, origins_in, Where}
+use Rattle.rewriting.specs.Steps.{IsFirst, origins_in}
 use Rattle.rule_types.specs.States.{IsTypedState}
-use Rattle.made_states.specs.Laws.{AnyStepIsSought, AnyStepKeepsState}
+use Rattle.made_states.specs.Laws.{AnyStepKeepsState}
 use Rattle.rule_trials.specs.Trials.{built}
 use Rattle.opening.specs.Laws.{OpeningIsTyped}
-use Rattle.step_order.specs.Sought.{IsSought}
-use Rattle.chw_norm.specs.FoundSteps.{FindsFrom, FindsNext}
 use Rattle.norm_lines.specs.Places.{where_of}
 use Rattle.chw_norm.specs.declared.place.Found.{Found}
 use Rattle.norm_lines.specs.declared.place.StepAt.{StepAt}
@@ -48,16 +44,16 @@ between_first law r tidy typed table opens bounds =
     }
 
 -- behind a step to shallow bodies
-pub between_next : AnyStepKeepsState → (f : Found) (r r' : Progress)
-    → IsBetweenSteps r → StepsTo built r.program.now r.made (step_of f) r'.made
+pub between_next : AnyStepKeepsState → (f : Found) (put : TermTree) (r r' : Progress)
+    → IsBetweenSteps r → StepsTo built r.program.now r.made (step_of f put) r'.made
     → r'.program.now ≡ r.program.now → r'.signature ≡ r.signature
     → AreBounds r'.made r'.bounds.items → length r'.made ≤ MADE_DEFINITIONS → AreShallow r'.made
     → IsBetweenSteps r'
-between_next keep f r r' h step program table bounds few shallow = record {
+between_next keep f put r r' h step program table bounds few shallow = record {
   table = subst (λ p. IsSignature p r'.signature) (sym program)
       (subst (IsSignature r.program.now) (sym table) h.table);
   typed = subst (λ p. IsTypedState p r'.made) (sym program)
-      (keep built r.program.now r.made r'.made (step_of f) h.typed step);
+      (keep built r.program.now r.made r'.made (step_of f put) h.typed step);
   bounds = bounds;
   few = few;
   shallow = inr shallow;

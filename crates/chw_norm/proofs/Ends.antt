@@ -42,10 +42,10 @@ begins p old r is opens between = record {
 
 -- a step more
 step_led : {p : Program} {old trace new : List StepAt} {count : ℕ} {r r' : Progress} {f : Found}
-    → IsUnderway p old trace count r → Advances f trace new r r'
-    → StepsTo built p r.made (step_of f) r'.made
+    → IsUnderway p old trace count r → (m : Advances f trace new r r')
+    → StepsTo built p r.made (step_of f m.put) r'.made
 step_led {r = r} {r' = r'} {f = f} u m =
-    subst (λ q. StepsTo built q r.made (step_of f) r'.made) u.program m.leads
+    subst (λ q. StepsTo built q r.made (step_of f m.put) r'.made) u.program m.leads
 
 run_behind : {p : Program} {steps : List Step} {made made' : List Made} {s : Step}
     → ShallowRun built p steps made → StepsTo built p made s made' → IsWithinLimits made'
@@ -62,9 +62,9 @@ pub goes_on : (p : Program) (old trace new : List StepAt) (count : ℕ) (r r' : 
     → IsBetweenSteps r' → IsUnderway p old new (count + 1) r'
 goes_on p old trace new count r r' f u m within between = record {
   program = m.program ∙ u.program;
-  steps = u.steps ++ step_of f ∷ [];
-  trace = traced_behind old trace new u.steps f u.trace m.traced;
-  all = one_more u.steps (step_of f) count u.all;
+  steps = u.steps ++ step_of f m.put ∷ [];
+  trace = traced_behind old trace new u.steps f m.put u.trace m.traced;
+  all = one_more u.steps (step_of f m.put) count u.all;
   run = run_behind u.run (step_led u m) within;
   between = between;
 }
@@ -99,12 +99,12 @@ pub ends_deep :
     → length r'.made ≤ MADE_DEFINITIONS → HasDeep r'.made
     → Runs built p budget old new (Err (Fault Depth))
 ends_deep p budget old trace new count r r' f u within m few h = record {
-  steps = u.steps ++ step_of f ∷ [];
-  trace = traced_behind old trace new u.steps f u.trace m.traced;
-  within = omega (arith, one_more u.steps (step_of f) count u.all, within);
+  steps = u.steps ++ step_of f m.put ∷ [];
+  trace = traced_behind old trace new u.steps f m.put u.trace m.traced;
+  within = omega (arith, one_more u.steps (step_of f m.put) count u.all, within);
   ends = deep (record {
     before = u.steps;
-    last = step_of f;
+    last = step_of f m.put;
     are = refl;
     shallow = r.made;
     run = u.run;

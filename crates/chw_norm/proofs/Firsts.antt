@@ -3,6 +3,7 @@ use Rattle.std.proofs.Common.{◌≡◌, ◌⊎◌, inl, inr, ℕ, sym, subst, L
 use Rattle.chw_terms.specs.declared.rule.Rule.{Rule}
 use Rattle.chw_terms.specs.declared.scene.Made.{Made}
 use Rattle.chw_terms.specs.TermTree.{TermTree}
+use Rattle.rule_trials.specs.declared.trial.Change.{Change}
 use Rattle.chw_typing.specs.Paths.{IsEarlier}
 use Rattle.chw_typing.proofs.Order.{never_earlier, earlier_through}
 use Rattle.rewriting.specs.Origins.{Origins}
@@ -32,16 +33,16 @@ step_among rules o s t from path rule new h x =
     record { at = x.at; term = x.term; place = h path x.at x.term x.place; sought = x.sought; is_rule = x.is_rule; made = x.made }
 
 -- the first among some is the first among more, where what is before it is among those
-pub first_among : (rules : List Rule) (o : Origins) (adds : Additions) (s t : Places) (from path : List ℕ) (rule : Rule) (new : TermTree) (d : Option Made) → Among s t → ((q : List ℕ) (r : Rule) (e : TermTree) → IsStepAt rules o t from q r e → IsBeforeThere q r path rule → IsStepAt rules o s from q r e) → IsFirstAt rules o adds s from path rule new d → IsFirstAt rules o adds t from path rule new d
+pub first_among : (rules : List Rule) (o : Origins) (adds : Additions) (s t : Places) (from path : List ℕ) (rule : Rule) (change : Change) (d : Option Made) → Among s t → ((q : List ℕ) (r : Rule) (e : TermTree) → IsStepAt rules o t from q r e → IsBeforeThere q r path rule → IsStepAt rules o s from q r e) → IsFirstAt rules o adds s from path rule change d → IsFirstAt rules o adds t from path rule change d
 unfolding step_among
-first_among rules o adds s t from path rule new d h back f =
-    record { it = step_among rules o s t from path rule new h f.it; added = f.added; first = λ q r e x b. f.first q r e (back q r e x b) b }
+first_among rules o adds s t from path rule change d h back f =
+    record { new = f.new; changes = f.changes; it = step_among rules o s t from path rule f.new h f.it; added = f.added; first = λ q r e x b. f.first q r e (back q r e x b) b }
 
 -- places that are the same
 pub finds_same : (rules : List Rule) (o : Origins) (adds : Additions) (s t : Places) (from : List ℕ) (answer : Option Trail) → Among s t → Among t s → FindsFirst rules o adds s from answer → FindsFirst rules o adds t from answer
 finds_same rules o adds s t from None h k none = λ p r e x. none p r e (step_among rules o t s from p r e k x)
 finds_same rules o adds s t from (Some f) h k is =
-    first_among rules o adds s t from (reverse f.back.items) f.rule f.new f.definition h (λ q r e x b. step_among rules o t s from q r e k x) is
+    first_among rules o adds s t from (reverse f.back.items) f.rule f.change f.definition h (λ q r e x b. step_among rules o t s from q r e k x) is
 
 -- where there are no places there is no step
 pub no_places : (rules : List Rule) (o : Origins) (s : Places) (from : List ℕ) → ((path : List ℕ) (at : Spot) (e : TermTree) → s path at e → ⊥) → HasNoStepAt rules o (From o s) from
@@ -63,7 +64,7 @@ second_first rules o adds s t from None none more = λ p r e x. of p r e (part_s
     of p r e (inl x) = none p r e x
     of p r e (inr x) = more p r e x
 second_first rules o adds s t from (Some f) none is =
-    first_among rules o adds t (Either s t) from (reverse f.back.items) f.rule f.new f.definition (λ p at e h. inr h) (λ q r e x b. of q r e (part_step rules o s t from q r e x)) is
+    first_among rules o adds t (Either s t) from (reverse f.back.items) f.rule f.change f.definition (λ p at e h. inr h) (λ q r e x b. of q r e (part_step rules o s t from q r e x)) is
   where
     of : (p : List ℕ) (r : Rule) (e : TermTree) → IsStepAt rules o s from p r e ⊎ IsStepAt rules o t from p r e → IsStepAt rules o t from p r e
     of p r e (inl x) = absurd (none p r e x)
@@ -78,9 +79,9 @@ not_after p q r s l (inl b) = never_earlier p (earlier_through p q p l b)
 not_after p q r s l (inr b) = never_earlier p (subst (λ z. IsEarlier p z) b.0 l)
 
 -- what is first among earlier places is first among all
-pub first_first : (rules : List Rule) (o : Origins) (adds : Additions) (s t : Places) (from path : List ℕ) (rule : Rule) (new : TermTree) (d : Option Made) → AllEarlier s t → IsFirstAt rules o adds s from path rule new d → IsFirstAt rules o adds (Either s t) from path rule new d
-first_first rules o adds s t from path rule new d earlier is =
-    first_among rules o adds s (Either s t) from path rule new d (λ p at e h. inl h) (λ q r e x b. of q r e b (part_step rules o s t from q r e x)) is
+pub first_first : (rules : List Rule) (o : Origins) (adds : Additions) (s t : Places) (from path : List ℕ) (rule : Rule) (change : Change) (d : Option Made) → AllEarlier s t → IsFirstAt rules o adds s from path rule change d → IsFirstAt rules o adds (Either s t) from path rule change d
+first_first rules o adds s t from path rule change d earlier is =
+    first_among rules o adds s (Either s t) from path rule change d (λ p at e h. inl h) (λ q r e x b. of q r e b (part_step rules o s t from q r e x)) is
   where
     of : (q : List ℕ) (r : Rule) (e : TermTree) → IsBeforeThere q r path rule → IsStepAt rules o s from q r e ⊎ IsStepAt rules o t from q r e → IsStepAt rules o s from q r e
     of q r e b (inl x) = x
@@ -111,7 +112,7 @@ either_from o s t path at e (inr r) = from_among o t (Either s t) (λ p at e h. 
 pub found_in_first : (rules : List Rule) (o : Origins) (adds : Additions) (s t : Places) (from : List ℕ) (f : Trail) → AllInOrder s t → FindsFirst rules o adds (From o s) from (Some f) → FindsFirst rules o adds (From o (Either s t)) from (Some f)
 found_in_first rules o adds s t from f h is =
     finds_same rules o adds (Either (From o s) (From o t)) (From o (Either s t)) from (Some f) (either_from o s t) (from_either o s t)
-    (first_first rules o adds (From o s) (From o t) from (reverse f.back.items) f.rule f.new f.definition (from_in_order o s t h) is)
+    (first_first rules o adds (From o s) (From o t) from (reverse f.back.items) f.rule f.change f.definition (from_in_order o s t h) is)
 
 pub found_in_second : (rules : List Rule) (o : Origins) (adds : Additions) (s t : Places) (from : List ℕ) (answer : Option Trail) → FindsFirst rules o adds (From o s) from None → FindsFirst rules o adds (From o t) from answer → FindsFirst rules o adds (From o (Either s t)) from answer
 found_in_second rules o adds s t from answer none is =

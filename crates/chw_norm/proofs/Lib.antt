@@ -8,6 +8,7 @@ mod Down
 mod Ends
 mod Firsts
 mod Grown
+mod Joined
 mod Lambdas
 mod Last
 mod Looked

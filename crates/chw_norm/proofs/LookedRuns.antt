@@ -7,6 +7,7 @@ use Rattle.chw_base.specs.declared.outcome.Or.{Or}
 use Rattle.chw_base.specs.declared.outcome.Or.TheVariants.{Memory, Fault}
 use Rattle.chw_terms.specs.declared.program.Program.{Program}
 use Rattle.chw_terms.specs.declared.scene.Made.{Made}
+use Rattle.chw_terms.specs.TermTree.{TermTree}
 use Rattle.chw_typing.specs.Programs.{IsTyped}
 use Rattle.rewriting.specs.Runs.{IsOpening, opened, Step, StepsTo, top_of}
 use Rattle.rule_trials.specs.Trials.{built}
@@ -51,21 +52,21 @@ looked_at_opening p old made finder n opens start root = record {
 }
 
 -- and one more with each step
-looked_one_more : (p : Program) (old trace new : List StepAt) (made made' : List Made) (f : Found)
+looked_one_more : (p : Program) (old trace new : List StepAt) (made made' : List Made) (f : Found) (put : TermTree)
     (finder finder' : Finder) (n now next : ℕ)
     → HasLooked p old trace made finder n now
     → LooksFrom built p made finder.made.number finder.path.items now next
-    → StepsTo built p made (step_of f) made' → new ≡ trace ++ f.at ∷ [] → StandsAt finder' f.at
+    → StepsTo built p made (step_of f put) made' → new ≡ trace ++ f.at ∷ [] → StandsAt finder' f.at
     → HasLooked p old new made' finder' n next
-looked_one_more p old trace new made made' f finder finder' n now next h looks leads is stands = record {
-  steps = h.steps ++ step_of f ∷ [];
-  trace = traced_behind old trace new h.steps f h.trace is;
+looked_one_more p old trace new made made' f put finder finder' n now next h looks leads is stands = record {
+  steps = h.steps ++ step_of f put ∷ [];
+  trace = traced_behind old trace new h.steps f put h.trace is;
   opening = h.opening;
   opens = h.opens;
   searches =
-      subst (λ m. SearchesLead built p h.opening n (h.steps ++ step_of f ∷ []) made' m finder'.path.items next)
+      subst (λ m. SearchesLead built p h.opening n (h.steps ++ step_of f put ∷ []) made' m finder'.path.items next)
       (sym stands.0)
-      (subst (λ path. SearchesLead built p h.opening n (h.steps ++ step_of f ∷ []) made' f.at.made.number path next)
+      (subst (λ path. SearchesLead built p h.opening n (h.steps ++ step_of f put ∷ []) made' f.at.made.number path next)
       (sym stands.1) (then_one h.searches looks leads));
 }
 
@@ -76,9 +77,9 @@ pub looked_on : (p : Program) (old trace new : List StepAt) (r r' : Progress) (f
     → Advances f trace new r r' → StandsAt finder' f.at
     → HasLooked p old new r'.made finder' n next
 looked_on p old trace new r r' f finder finder' n now next is h looks m stands =
-    looked_one_more p old trace new r.made r'.made f finder finder' n now next h
+    looked_one_more p old trace new r.made r'.made f m.put finder finder' n now next h
     (subst (λ q. LooksFrom built q r.made finder.made.number finder.path.items now next) is looks)
-    (subst (λ q. StepsTo built q r.made (step_of f) r'.made) is m.leads) m.traced stands
+    (subst (λ q. StepsTo built q r.made (step_of f m.put) r'.made) is m.leads) m.traced stands
 
 -- a run that ends with a search
 looked_last : (p : Program) (old trace : List StepAt) (made : List Made) (finder : Finder) (n now next : ℕ)
@@ -155,7 +156,7 @@ pub suits_on : SuitsNextState → (trace new : List StepAt) (r r' : Progress) (f
     → Suits r'.program.now r'.made finder
 suits_on law trace new r r' f finder between m stands =
     subst (λ p. Suits p r'.made finder) (sym m.program)
-    (law r.program.now r.made r'.made (step_of f) finder between.typed m.leads stands.0 stands.1)
+    (law r.program.now r.made r'.made (step_of f m.put) finder between.typed m.leads stands.0 stands.1)
 
 -- the search that found this step stands at its place
 pub moved_there : (answer : Option Found) (f : Found) (finder finder' : Finder)

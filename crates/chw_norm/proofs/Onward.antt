@@ -77,18 +77,20 @@ found_from rules o adds path at e from left None answer b none is =
 found_from rules o adds path at e from left (Some f) None b first is = absurd is
 found_from rules o adds path at e from left (Some f) (Some g) b first is =
     let back = reverse f.back.items in
-    let whole : IsFirstAt rules o adds (From o (Only path at e)) from (path ++ back) f.rule f.new f.definition =
+    let whole : IsFirstAt rules o adds (From o (Only path at e)) from (path ++ back) f.rule f.change f.definition =
     record {
-      it = step_above rules o path at e from left back f.rule f.new b first.it;
+      new = first.new;
+      changes = first.changes;
+      it = step_above rules o path at e from left back f.rule first.new b first.it;
       added = first.added;
       first = λ q r new x h.
           let s = step_below rules o path at e from left q r new b x in
           first.first s.rest r new s.step (rest_before path s.rest back r f.rule (subst (λ p. IsBeforeThere p r (path ++ back) f.rule) s.is h));
     } in
-    subst (λ p. IsFirstAt rules o adds (From o (Only path at e)) from p g.rule g.new g.definition) (sym is.0)
-    (subst (λ r. IsFirstAt rules o adds (From o (Only path at e)) from (path ++ back) r g.new g.definition) (sym is.1)
+    subst (λ p. IsFirstAt rules o adds (From o (Only path at e)) from p g.rule g.change g.definition) (sym is.0)
+    (subst (λ r. IsFirstAt rules o adds (From o (Only path at e)) from (path ++ back) r g.change g.definition) (sym is.1)
     (subst (λ n. IsFirstAt rules o adds (From o (Only path at e)) from (path ++ back) f.rule n g.definition) (sym is.2)
-    (subst (λ d. IsFirstAt rules o adds (From o (Only path at e)) from (path ++ back) f.rule f.new d) (sym is.3) whole)))
+    (subst (λ d. IsFirstAt rules o adds (From o (Only path at e)) from (path ++ back) f.rule f.change d) (sym is.3) whole)))
 
 -- the place below a term at a path is the one that was found there
 pub only_there : (o : Origins) (at at' : Spot) (e x : TermTree) (path : List ℕ)
@@ -138,10 +140,12 @@ no_root (i ∷ q) h = h
 -- a rule with an instance at the place itself comes first
 pub found_here : (rules : List Rule) (p : Program) (made : List Made) (at : Spot) (e : TermTree) (from back : List ℕ)
     (t : Trial) → IsTrial rules p made at e t → back ≡ []
-    → IsFirstAt rules (origins_in p made) (Adds p made) (IsActive (origins_in p made) at e) from (reverse back) t.rule t.new t.definition
+    → IsFirstAt rules (origins_in p made) (Adds p made) (IsActive (origins_in p made) at e) from (reverse back) t.rule t.change t.definition
 found_here rules p made at e from back t is empty =
-    subst (λ q. IsFirstAt rules o (Adds p made) (IsActive o at e) from q t.rule t.new t.definition) (sym (ap reverse empty))
+    subst (λ q. IsFirstAt rules o (Adds p made) (IsActive o at e) from q t.rule t.change t.definition) (sym (ap reverse empty))
     (record {
+      new = is.new;
+      changes = is.changes;
       it = record { at = at; term = e; place = at_it; sought = root_sought from; is_rule = is.is_rule; made = is.made_new };
       added = is.adds;
       first = before;
@@ -176,7 +180,9 @@ unfolding there
 found_below rules o adds at e from None none more = λ q r new x. more q r new (not_here rules o at e from q r new none x)
 found_below rules o adds at e from (Some f) none first =
     record {
-      it = there rules o at e from (reverse f.back.items) f.rule f.new first.it;
+      new = first.new;
+      changes = first.changes;
+      it = there rules o at e from (reverse f.back.items) f.rule first.new first.it;
       added = first.added;
       first = λ q r new x h. first.first q r new (not_here rules o at e from q r new none x) h;
     }

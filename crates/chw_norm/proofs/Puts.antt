@@ -25,7 +25,7 @@ pub record IsMade (f : Found) (r g q : Progress) (bound : ℕ) : Type 0 where
   pub between : IsBetweenSteps r
   pub next : IsNext built r.program.now r.made f
   pub grown : IsGrown f.definition r g
-  pub put : IsPutAt f.at f.new g q bound
+  pub put : IsPutAt f.at next.new g q bound
 
 put_in_grown : (f : Found) (r g q : Progress) (bound : ℕ) → (m : IsMade f r g q bound)
     → q.made ≡ set (with_new r.made f.definition) f.at.made.number
@@ -34,8 +34,8 @@ put_in_grown f r g q bound m =
     m.put.made
     ∙ ap (λ ms. set ms f.at.made.number (record m.put.it { body = m.put.body })) m.grown.made
 
-leads : (f : Found) (r g q : Progress) (bound : ℕ) → IsMade f r g q bound
-    → StepsTo built r.program.now r.made (step_of f) q.made
+leads : (f : Found) (r g q : Progress) (bound : ℕ) → (m : IsMade f r g q bound)
+    → StepsTo built r.program.now r.made (step_of f m.next.new) q.made
 leads f r g q bound m =
     step_made r.program.now r.made q.made f m.put.it m.put.body m.next
     (subst (λ ms. slice_get ms f.at.made.number ≡ Some m.put.it) m.grown.made m.put.is)
@@ -47,6 +47,7 @@ pub put_is_step :
     → IsMade f r g q bound → new ≡ old ++ f.at ∷ [] → Advances f old new r q
 put_is_step f old new r g q bound m traced = record {
   program = m.put.program ∙ m.grown.program;
+  put = m.next.new;
   leads = leads f r g q bound m;
   traced = traced;
 }
@@ -93,7 +94,7 @@ put_is_deep f r g q bound m over = by (cases_lt MADE_DEPTH bound)
 pub put_between : AnyStepKeepsState → (f : Found) (r g q : Progress) (bound : ℕ)
     → IsMade f r g q bound → AreShallow q.made → IsBetweenSteps q
 put_between keep f r g q bound m shallow =
-    between_next keep f r q m.between (leads f r g q bound m)
+    between_next keep f m.next.new r q m.between (leads f r g q bound m)
     (m.put.program ∙ m.grown.program) (m.put.signature ∙ m.grown.signature) bounds
     (put_is_few f r g q bound m) shallow
   where

@@ -1,10 +1,8 @@
 -- Which states a search suits.
-use Rattle.std.proofs.Common.{◌≡◌, ℕ, sym, subst, List, [], Option, Some, None}
+use Rattle.std.proofs.Common.{◌≡◌, sym, subst, List, [], Option, Some, None}
 use Rattle.chw_terms.specs.declared.program.Program.{Program}
 use Rattle.chw_terms.specs.declared.scene.Made.{Made}
-use Rattle.chw_terms.specs.TermTree.{TermTree}
 use Rattle.rewriting.specs.Runs.{Step, StepsTo}
-use Rattle.rewriting.specs.Steps.{HasStepBy, Where}
 use Rattle.rule_types.specs.States.{IsTypedState}
 use Rattle.made_states.specs.Laws.{AnyStepIsSought}
 use Rattle.rule_trials.specs.Trials.{built}
@@ -37,6 +35,8 @@ pub first_of_all : (p : Program) (made : List Made) (finder : Finder) (answer : 
     → FindsNext built p made answer
 first_of_all p made finder None suits h = λ w new step. h w new step (suits w new step)
 first_of_all p made finder (Some f) suits h = record {
+  new = h.new;
+  changes = h.changes;
   is_first = record {
     step = h.step;
     first = λ v other step. h.first v other step (suits v other step);

@@ -77,19 +77,21 @@ found_in_made rules p made it n m from left (Some t) None at b first is = absurd
 found_in_made rules p made it n m from left (Some t) (Some f) at b first is =
     let path = reverse t.back.items in
     let w : Where = record { number = n; path = path; rule = t.rule } in
-    let whole : IsFirstIn rules p made n m from w t.new t.definition =
+    let whole : IsFirstIn rules p made n m from w t.change t.definition =
     record {
+      new = first.new;
+      changes = first.changes;
       in_it = refl;
-      step = in_step rules p made it n left path t.rule t.new at first.it;
+      step = in_step rules p made it n left path t.rule first.new at first.it;
       added = first.added;
       sought = in_sought n m from left w b refl first.it.sought;
       first = λ v other in_it s sought h.
           first.first v.path v.rule other (step_in rules p made it n m from left v other at b in_it s sought) (before_there n path t.rule v in_it h);
     } in
     let there : where_of f.at ≡ w = λ i. record { number = is.0 i; path = is.1 i; rule = is.2 i } in
-    subst (λ z. IsFirstIn rules p made n m from z f.new f.definition) (sym there)
+    subst (λ z. IsFirstIn rules p made n m from z f.change f.definition) (sym there)
     (subst (λ e. IsFirstIn rules p made n m from w e f.definition) (sym is.3)
-    (subst (IsFirstIn rules p made n m from w t.new) (sym is.4) whole))
+    (subst (IsFirstIn rules p made n m from w t.change) (sym is.4) whole))
 
 -- nothing is found in the made definitions before this number
 abbrev pub HasNoneBelow : List Rule → Program → List Made → ℕ → ℕ → List ℕ → Type 0
@@ -120,7 +122,7 @@ none_at_all rules p made n m from l none w new s sought =
 -- what is found in a made definition, where nothing is in those before it, is the first of all
 pub found_from_place : (rules : List Rule) (p : Program) (made : List Made) (n m : ℕ) (from : List ℕ) (f : Found) → HasNoneBelow rules p made n m from → FindsIn rules p made n m from (Some f) → FindsFrom rules p made m from (Some f)
 found_from_place rules p made n m from f none is =
-    record { step = is.step; added = is.added; sought = is.sought; first = first }
+    record { new = is.new; changes = is.changes; step = is.step; added = is.added; sought = is.sought; first = first }
   where
     first : (v : Where) (other : TermTree) → HasStepBy rules p made v other → IsSought m from v → IsBefore v (where_of f.at) → ⊥
     first v other s sought b = by (cases_lt v.number n) b
@@ -143,7 +145,7 @@ next_of_all rules p made m from answer start root h = of answer (subst (λ q. Fi
   where
     of : (a : Option Found) → FindsFrom rules p made 0 [] a → FindsNext rules p made a
     of None none = λ w new s. none w new s (sought_anyway w)
-    of (Some f) is = record { is_first = record { step = is.step; first = λ v other s b. is.first v other s (sought_anyway v) b }; added = is.added }
+    of (Some f) is = record { new = is.new; changes = is.changes; is_first = record { step = is.step; first = λ v other s b. is.first v other s (sought_anyway v) b }; added = is.added }
 
 -- below the leading lambdas of a typed made definition there is a typed term
 pub made_leads : PlaceOfSceneIsTyped → (scene : Scene) (m : ℕ) (it : Made) → IsTypedScene scene → slice_get scene.made.now m ≡ Some it → LeadsToTyped (setting_in scene) (mode_of it.sort) [] it.body it.ty

@@ -1,6 +1,6 @@
 -- A step of a run, and a run with one step more.
 use Rattle.std.proofs.Common.{◌≡◌, ℕ, ◌+◌, refl, sym, ap, ◌∙◌, arith, List, [], ◌∷◌, ◌++◌}
-use Rattle.std.proofs.Common.{length, set, Option, Some, None}
+use Rattle.std.proofs.Common.{length, set, Some}
 use Rattle.std.proofs.lemmas.List.{append_assoc, length_push, map-append}
 use Rattle.std.proofs.lemmas.Option.{same_Some}
 use Rattle.std.specs.List.{slice_get}
@@ -25,18 +25,19 @@ use Rattle.chw_norm.proofs.Changed.{length_kept, still_there}
 -- the step is made where its term is put at its place, and what it adds stands behind the made
 -- definitions
 pub step_made : (p : Program) (made made' : List Made) (f : Found) (it : Made) (body : TermTree)
-    → IsNext built p made f → slice_get (with_new made f.definition) f.at.made.number ≡ Some it
-    → body ≡ with_part it.body f.at.path.items f.new
+    → (next : IsNext built p made f)
+    → slice_get (with_new made f.definition) f.at.made.number ≡ Some it
+    → body ≡ with_part it.body f.at.path.items next.new
     → made' ≡ set (with_new made f.definition) f.at.made.number (record it { body = body })
-    → StepsTo built p made (step_of f) made'
+    → StepsTo built p made (step_of f next.new) made'
 step_made p made made' f it body next at is there =
     let n : ℕ = f.at.made.number in
     let grown : List Made = with_new made f.definition in
     let step = next.is_first.step.1 in
     let same : it ≡ step.it = same_Some it step.it
     (sym at ∙ still_there made f.definition n step.it step.is) in
-    let changed : body ≡ with_part step.it.body f.at.path.items f.new = is ∙ ap
-    (λ (m : Made). with_part m.body f.at.path.items f.new) same in
+    let changed : body ≡ with_part step.it.body f.at.path.items next.new = is ∙ ap
+    (λ (m : Made). with_part m.body f.at.path.items next.new) same in
     record {
       is_first = next.is_first;
       with_new = grown;
@@ -51,14 +52,14 @@ no_room p made f x next adds all =
     let n : ℕ = f.at.made.number in
     let grown : List Made = with_new made f.definition in
     let step = next.is_first.step.1 in
-    let body : TermTree = with_part step.it.body f.at.path.items f.new in
+    let body : TermTree = with_part step.it.body f.at.path.items next.new in
     let next_made : List Made = set grown n (record step.it { body = body }) in
     let longer : length grown ≡ length made + 1 = ap (λ d. length (with_new made d)) adds
     ∙ length_push made x in
     let kept : length next_made ≡ length grown = length_kept grown n
     (record step.it { body = body }) in
     record {
-      step = step_of f;
+      step = step_of f next.new;
       next = next_made;
       leads = step_made p made next_made f step.it body next
           (still_there made f.definition n step.it step.is) refl refl;
@@ -75,12 +76,13 @@ step_behind (step_and first h rest) step shallow = step_and first h (step_behind
 
 -- and its trace
 pub traced_behind : (old trace new : List StepAt) (steps : List Step) (f : Found)
-    → Traces old trace steps → new ≡ trace ++ f.at ∷ [] → Traces old new (steps ++ step_of f ∷ [])
-traced_behind old trace new steps f h is = record {
+    (put : TermTree) → Traces old trace steps → new ≡ trace ++ f.at ∷ []
+    → Traces old new (steps ++ step_of f put ∷ [])
+traced_behind old trace new steps f put h is = record {
   added = h.added ++ f.at ∷ [];
   traced = is ∙ ap (λ (t : List StepAt). t ++ f.at ∷ []) h.traced ∙ append_assoc old h.added
       (f.at ∷ []);
   places = map-append where_of h.added (f.at ∷ [])
       ∙ ap (λ (ws : List Where). ws ++ where_of f.at ∷ []) h.places
-      ∙ sym (map-append (λ (s : Step). s.place) steps (step_of f ∷ []));
+      ∙ sym (map-append (λ (s : Step). s.place) steps (step_of f put ∷ []));
 }

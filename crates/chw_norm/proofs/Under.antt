@@ -55,18 +55,20 @@ found_behind rules o adds path s from left None answer b none is =
 found_behind rules o adds path s from left (Some f) None b first is = absurd is
 found_behind rules o adds path s from left (Some f) (Some g) b first is =
     let back = reverse f.back.items in
-    let whole : IsFirstAt rules o adds (Behind path s) from (path ++ back) f.rule f.new f.definition =
+    let whole : IsFirstAt rules o adds (Behind path s) from (path ++ back) f.rule f.change f.definition =
     record {
-      it = step_out rules o path s from left back f.rule f.new b first.it;
+      new = first.new;
+      changes = first.changes;
+      it = step_out rules o path s from left back f.rule first.new b first.it;
       added = first.added;
       first = λ q r new x h.
           let w = step_within rules o path s from left q r new b x in
           first.first w.rest r new w.step (rest_before path w.rest back r f.rule (subst (λ p. IsBeforeThere p r (path ++ back) f.rule) w.is h));
     } in
-    subst (λ p. IsFirstAt rules o adds (Behind path s) from p g.rule g.new g.definition) (sym is.0)
-    (subst (λ r. IsFirstAt rules o adds (Behind path s) from (path ++ back) r g.new g.definition) (sym is.1)
+    subst (λ p. IsFirstAt rules o adds (Behind path s) from p g.rule g.change g.definition) (sym is.0)
+    (subst (λ r. IsFirstAt rules o adds (Behind path s) from (path ++ back) r g.change g.definition) (sym is.1)
     (subst (λ n. IsFirstAt rules o adds (Behind path s) from (path ++ back) f.rule n g.definition) (sym is.2)
-    (subst (λ d. IsFirstAt rules o adds (Behind path s) from (path ++ back) f.rule f.new d) (sym is.3) whole)))
+    (subst (λ d. IsFirstAt rules o adds (Behind path s) from (path ++ back) f.rule f.change d) (sym is.3) whole)))
 
 pub none_behind : (rules : List Rule) (o : Origins) (path : List ℕ) (s : Places) (from : List ℕ) → IsPassed path from → HasNoStepAt rules o (Behind path s) from
 none_behind rules o path s from h p r new x = h x.place.0 (subst (λ q. IsSoughtPath q from) x.place.2 x.sought)

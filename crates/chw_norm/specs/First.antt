@@ -11,7 +11,8 @@ use Rattle.rewriting.specs.Active.{IsActive}
 use Rattle.rewriting.specs.Spots.{Spot}
 use Rattle.rewriting.specs.Instances.{HasInstance}
 use Rattle.rewriting.specs.Steps.{number_of}
-use Rattle.rule_trials.specs.Trials.{Adds}
+use Rattle.rule_trials.specs.Trials.{Adds, ChangesTo}
+use Rattle.rule_trials.specs.declared.trial.Change.{Change}
 use Rattle.step_order.specs.Sought.{IsSoughtPath}
 use Rattle.chw_norm.specs.declared.trail.Trail.{Trail}
 
@@ -61,10 +62,12 @@ abbrev pub HasNoStepAt : List Rule → Origins → Places → List ℕ → Type 
 HasNoStepAt rules o s from =
     (path : List ℕ) (rule : Rule) (new : TermTree) → IsStepAt rules o s from path rule new → ⊥
 
--- the first one, and what it adds
+-- the change by the first one, and what that adds
 pub record IsFirstAt (rules : List Rule) (o : Origins) (adds : Additions) (s : Places)
-    (from path : List ℕ) (rule : Rule) (new : TermTree) (definition : Option Made) : Type 0
+    (from path : List ℕ) (rule : Rule) (change : Change) (definition : Option Made) : Type 0
   where
+    pub new : TermTree
+    pub changes : ChangesTo rule change new
     pub it : IsStepAt rules o s from path rule new
     pub added : adds it.at it.term rule definition
     pub first : (q : List ℕ) (r : Rule) (e : TermTree)
@@ -75,11 +78,11 @@ abbrev pub FindsFirst
     : List Rule → Origins → Additions → Places → List ℕ → Option Trail → Type 0
 FindsFirst rules o adds s from answer =
     MatchOption answer (HasNoStepAt rules o s from)
-    (λ t. IsFirstAt rules o adds s from (reverse t.back.items) t.rule t.new t.definition)
+    (λ t. IsFirstAt rules o adds s from (reverse t.back.items) t.rule t.change t.definition)
 
 -- the answer is another one, of which the path goes on from this one
 abbrev pub GoesOn : List ℕ → Option Trail → Option Trail → Type 0
 GoesOn path found answer =
     MatchOption found (answer ≡ None)
     (λ t. MatchOption answer ⊥ (λ u. (reverse u.back.items ≡ path ++ reverse t.back.items)
-    × (u.rule ≡ t.rule) × (u.new ≡ t.new) × (u.definition ≡ t.definition)))
+    × (u.rule ≡ t.rule) × (u.change ≡ t.change) × (u.definition ≡ t.definition)))

@@ -10,16 +10,20 @@ use Rattle.chw_typing.specs.Scopes.{Setting}
 use Rattle.rewriting.specs.Named.{UnderLambdas}
 use Rattle.rewriting.specs.Spots.{spot}
 use Rattle.rewriting.specs.Steps.{Where, IsBefore, HasStepBy, HasNoStep, IsFirst}
-use Rattle.rule_trials.specs.Trials.{Adds}
+use Rattle.rule_trials.specs.Trials.{Adds, ChangesTo}
+use Rattle.rule_trials.specs.declared.trial.Change.{Change}
 use Rattle.active_parts.specs.Grounds.{IsTypedAt}
 use Rattle.step_order.specs.Sought.{IsSought}
 use Rattle.norm_lines.specs.Places.{where_of}
 use Rattle.chw_norm.specs.declared.place.Found.{Found}
 use Rattle.chw_norm.specs.declared.trail.Trail.{Trail}
 
--- of the steps by these rules that are sought from this place on, the first, and what it adds
+-- of the steps by these rules that are sought from this place on, the change by the first, and what
+-- that adds
 pub record IsFirstFrom (rules : List Rule) (p : Program) (made : List Made) (m : ℕ)
-    (from : List ℕ) (w : Where) (new : TermTree) (definition : Option Made) : Type 0 where
+    (from : List ℕ) (w : Where) (change : Change) (definition : Option Made) : Type 0 where
+  pub new : TermTree
+  pub changes : ChangesTo w.rule change new
   pub step : HasStepBy rules p made w new
   pub added : Adds p made step.1.at step.1.term w.rule definition
   pub sought : IsSought m from w
@@ -35,11 +39,13 @@ HasNoneFrom rules p made m from =
 abbrev pub FindsFrom : List Rule → Program → List Made → ℕ → List ℕ → Option Found → Type 0
 FindsFrom rules p made m from answer =
     MatchOption answer (HasNoneFrom rules p made m from)
-    (λ f. IsFirstFrom rules p made m from (where_of f.at) f.new f.definition)
+    (λ f. IsFirstFrom rules p made m from (where_of f.at) f.change f.definition)
 
--- of those in the made definition of this number the first, and what it adds
+-- of those in the made definition of this number the change by the first, and what that adds
 pub record IsFirstIn (rules : List Rule) (p : Program) (made : List Made) (n m : ℕ)
-    (from : List ℕ) (w : Where) (new : TermTree) (definition : Option Made) : Type 0 where
+    (from : List ℕ) (w : Where) (change : Change) (definition : Option Made) : Type 0 where
+  pub new : TermTree
+  pub changes : ChangesTo w.rule change new
   pub in_it : w.number ≡ n
   pub step : HasStepBy rules p made w new
   pub added : Adds p made step.1.at step.1.term w.rule definition
@@ -58,19 +64,21 @@ abbrev pub FindsIn
     : List Rule → Program → List Made → ℕ → ℕ → List ℕ → Option Found → Type 0
 FindsIn rules p made n m from answer =
     MatchOption answer (HasNoneIn rules p made n m from)
-    (λ f. IsFirstIn rules p made n m from (where_of f.at) f.new f.definition)
+    (λ f. IsFirstIn rules p made n m from (where_of f.at) f.change f.definition)
 
 -- the answer is this step, in the made definition of this number
 abbrev pub IsFoundIn : ℕ → Option Trail → Option Found → Type 0
 IsFoundIn n found answer =
     MatchOption found (answer ≡ None)
     (λ t. MatchOption answer ⊥ (λ f. (f.at.made.number ≡ n)
-    × (f.at.path.items ≡ reverse t.back.items) × (f.at.rule ≡ t.rule) × (f.new ≡ t.new)
+    × (f.at.path.items ≡ reverse t.back.items) × (f.at.rule ≡ t.rule) × (f.change ≡ t.change)
     × (f.definition ≡ t.definition)))
 
--- the step is the first of all, and adds this
+-- the step is the first of all, and this its change and what it adds
 pub record IsNext (rules : List Rule) (p : Program) (made : List Made) (f : Found) : Type 0 where
-  pub is_first : IsFirst rules p made (where_of f.at) f.new
+  pub new : TermTree
+  pub changes : ChangesTo f.at.rule f.change new
+  pub is_first : IsFirst rules p made (where_of f.at) new
   pub added : Adds p made is_first.step.1.at is_first.step.1.term f.at.rule f.definition
 
 -- the answer is the first step of all, or nothing where there is none

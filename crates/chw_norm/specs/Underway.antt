@@ -7,15 +7,21 @@ use Rattle.chw_base.specs.declared.outcome.Or.{Or}
 use Rattle.chw_base.specs.declared.outcome.Or.TheVariants.{Memory, Fault}
 use Rattle.chw_types.specs.Polynomials.{ended}
 use Rattle.chw_terms.specs.declared.program.Program.{Program}
+use Rattle.chw_terms.specs.declared.rule.Rule.TheVariants.{Flat}
 use Rattle.chw_terms.specs.declared.scene.Made.{Made}
 use Rattle.chw_terms.specs.Depth.{depth}
 use Rattle.chw_terms.specs.TermTree.{TermTree}
 use Rattle.chw_typing.specs.Paths.{with_part}
 use Rattle.chw_typing.specs.PartSpines.{spine_at}
 use Rattle.term_types.specs.Signatures.{IsSignature}
+use Rattle.rewriting.specs.Instances.{HasInstance}
+use Rattle.rewriting.specs.Origins.{Origins}
 use Rattle.rewriting.specs.Runs.{Step, StepsTo}
+use Rattle.rewriting.specs.Spots.{Spot}
 use Rattle.rule_types.specs.States.{IsTypedState}
 use Rattle.rule_trials.specs.Trials.{built, with_new}
+use Rattle.rule_trials.specs.declared.trial.Change.{Change}
+use Rattle.rule_trials.specs.declared.trial.Change.TheVariants.{Put, Join}
 use Rattle.norm_lines.specs.Places.{where_of}
 use Rattle.chw_norm.specs.declared.place.Found.{Found}
 use Rattle.norm_lines.specs.declared.place.StepAt.{StepAt}
@@ -66,6 +72,21 @@ pub record HasSpine (made : List Made) (at : StepAt) : Type 0 where
   pub is : slice_get made at.made.number ≡ Some it
   pub spine : IsSome (spine_at it.body at.path.items)
 
+-- the rule of letrecs makes this of what stands at the place of this step
+pub record IsFlatThere (made : List Made) (at : StepAt) (new : TermTree) : Type 0 where
+  pub it : Made
+  pub is : slice_get made at.made.number ≡ Some it
+  pub term : TermTree
+  pub stands : spine_at it.body at.path.items ≡ Some term
+  pub origins : Origins
+  pub spot : Spot
+  pub instance : HasInstance origins spot Flat term new
+
+-- the change leads to this term there
+abbrev pub IsMadeThere : List Made → StepAt → Change → TermTree → Type 0
+IsMadeThere made at (Put t) new = t ≡ new
+IsMadeThere made at Join new = IsFlatThere made at new
+
 -- the term is put there, and this is a bound of the body, exact where it is over the limit
 pub record IsPutAt (at : StepAt) (new : TermTree) (r r' : Progress) (bound : ℕ) : Type 0 where
   pub it : Made
@@ -80,13 +101,14 @@ pub record IsPutAt (at : StepAt) (new : TermTree) (r r' : Progress) (bound : ℕ
   pub program : r'.program.now ≡ r.program.now
   pub signature : r'.signature ≡ r.signature
 
-abbrev pub step_of : Found → Step
-step_of f = record { place = where_of f.at; new = f.new }
+abbrev pub step_of : Found → TermTree → Step
+step_of f new = record { place = where_of f.at; new = new }
 
 -- the step is made, and it is the next one of the trace
 pub record Advances (f : Found) (old new : List StepAt) (r r' : Progress) : Type 0 where
   pub program : r'.program.now ≡ r.program.now
-  pub leads : StepsTo built r.program.now r.made (step_of f) r'.made
+  pub put : TermTree
+  pub leads : StepsTo built r.program.now r.made (step_of f put) r'.made
   pub traced : new ≡ old ++ f.at ∷ []
 
 -- how a step ends: it leads to a state within the limits, or to a body over the limit, or there is

@@ -41,9 +41,9 @@ impl Finder {
         }
     }
 
-    /// The first step of a state that the search suits, what is then there, and the made definition that it adds, if it adds one. Nothing
-    /// comes exactly where there is none. The search stands then at the place of the step. Where there is none, or memory is wanting, it
-    /// stands where it stood.
+    /// The first step of a state that the search suits, how it changes the term at its place, and the made definition that it adds, if it
+    /// adds one. Nothing comes exactly where there is none. The search stands then at the place of the step. Where there is none, or memory
+    /// is wanting, it stands where it stood.
     ///
     /// At each place at which it looks, each of the twenty-one rules is one look at most. It looks at active places of the state: at that
     /// at which it stands, above it, and after it, up to the place of the step.

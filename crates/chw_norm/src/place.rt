@@ -1,11 +1,12 @@
 //! Where steps are made.
-use chw_terms::{Made, Term};
+use chw_terms::Made;
 use norm_lines::StepAt;
+use rule_trials::Change;
 
-/// A step, the term that is then at its place, and the made definition that it adds, if it adds one.
+/// A step, how it changes the term at its place, and the made definition that it adds, if it adds one.
 #[derive(Drop)]
 pub struct Found {
     pub at: StepAt,
-    pub new: Term,
+    pub change: Change,
     pub definition: Option<Made>,
 }

@@ -1,5 +1,6 @@
 //! How far a run has come, and one step more.
 ghost use Rattle.std.specs.Prelude.{◌≡◌, length, IfOk, IfSome};
+ghost use Rattle.chw_terms.specs.TermTree.{TermTree};
 ghost use Rattle.chw_terms.specs.Tidy.{IsTidy};
 ghost use Rattle.chw_typing.specs.Programs.{IsTyped};
 ghost use Rattle.rewriting.specs.Runs.{IsOpening};
@@ -8,21 +9,24 @@ ghost use Rattle.rule_trials.specs.Trials.{built};
 ghost use Rattle.chw_norm.specs.Finding.{Moves, Suits};
 ghost use Rattle.chw_norm.specs.FoundSteps.{FindsNext, IsNext};
 ghost use Rattle.chw_norm.specs.Seen.{LooksFrom};
-ghost use Rattle.chw_norm.specs.Underway.{IsBetweenSteps, StepEnds, GrowEnds, HasSpine, IsPutAt};
+ghost use Rattle.chw_norm.specs.Underway.{IsBetweenSteps, StepEnds, GrowEnds, HasSpine, IsFlatThere, IsMadeThere, IsPutAt};
 
 use crate::bodies::{bound_with, depths, exact_over_limit};
 use crate::finder::Finder;
 use crate::place::Found;
 use crate::running::RunFault;
 use chw_base::limits::MADE_DEPTH;
-use chw_base::{NoMemory, Or};
+use chw_base::{NoMemory, Or, VarIx};
 use chw_terms::{Made, Program, Scene, Term, depth};
 use chw_typing::part_laws::{spines_are_parts, spines_below_spines, spines_of_parts};
 use looks::Looks;
 use made_states::laws::states_stay_typed;
 use made_table::Table;
+use moved_in_place::join;
+use moved_in_place::laws::{joined_is_no_deeper, swapped_back, with_part_no_deeper};
 use norm_lines::StepAt;
 use opening::laws::opening_is_typed;
+use rule_trials::Change;
 use std::alloc::Global;
 use term_types::Signature;
 
@@ -100,11 +104,11 @@ impl<'p> Progress<'p> {
         states_stay_typed();
         let Found {
             at,
-            new,
+            change,
             definition,
         } = found;
         let added = self.grow(alloc, definition)?;
-        let bound = self.put(&at, new);
+        let bound = self.make_change(alloc, &at, change)?;
         trace.push(at)?;
         let most = bound.max(added);
         if most <= MADE_DEPTH as usize {
@@ -129,6 +133,49 @@ impl<'p> Progress<'p> {
             Err(Or::Fault(_)) => Err(Or::Fault(RunFault::Full)),
             Err(Or::Memory) => Err(Or::Memory),
         }
+    }
+
+    // Changes the term at the place of a step, and gives a bound of the body there.
+    fn make_change(&mut self, alloc: Global, at: &StepAt, change: Change) -> Result<usize, NoMemory>
+        requires spine { HasSpine self.old.made at.now }
+        requires one_each { length self.old.bounds.items ≡ length self.old.made }
+        ensures { IfOk result (λ bound. (new : TermTree) → IsMadeThere self.old.made at.now change new → IsPutAt at.now new self.old self.new bound) }
+    {
+        match change {
+            Change::Put(new) => Ok(self.put(at, new)),
+            Change::Join => self.join_there(alloc, at),
+        }
+    }
+
+    // Joins letrecs at the place of a step, and gives a bound of the body there.
+    fn join_there(&mut self, alloc: Global, at: &StepAt) -> Result<usize, NoMemory>
+        requires spine { HasSpine self.old.made at.now }
+        requires one_each { length self.old.bounds.items ≡ length self.old.made }
+        ensures { IfOk result (λ bound. (new : TermTree) → IsFlatThere self.old.made at.now new → IsPutAt at.now new self.old self.new bound) }
+    {
+        let mut stand_in = Term::var(alloc, VarIx { number: 0 });
+        let bound = self.join_apart(alloc, at, &mut stand_in);
+        drop(stand_in);
+        bound
+    }
+
+    // The same, with a term that stands there meanwhile. Nothing is copied: the letrec is taken out of the body and put back.
+    fn join_apart(&mut self, alloc: Global, at: &StepAt, part: &mut Term) -> Result<usize, NoMemory>
+        requires spine { HasSpine self.old.made at.now }
+        requires one_each { length self.old.bounds.items ≡ length self.old.made }
+        ensures { IfOk result (λ bound. (new : TermTree) → IsFlatThere self.old.made at.now new → IsPutAt at.now new self.old self.new bound) }
+    {
+        joined_is_no_deeper();
+        with_part_no_deeper();
+        swapped_back();
+        let number = at.made.number as usize;
+        let path = at.path.as_slice();
+        self.made.swap_part(at.made, path, part);
+        join(alloc, part)?;
+        self.made.swap_part(at.made, path, part);
+        let bound = exact_over_limit(self.bounds[number], &self.made.list()[number].body);
+        self.bounds[number] = bound;
+        Ok(bound)
     }
 
     // Puts a term at the place of a step, and gives a bound of the body there.

@@ -55,7 +55,7 @@ pub(crate) fn first_from<L: Looks>(
         return Ok(Some(Trail {
             back: Vec::new(alloc),
             rule: trial.rule,
-            new: trial.new,
+            change: trial.change,
             definition: trial.definition,
         }));
     }

@@ -37,14 +37,14 @@ fn found_in(number: usize, found: Option<Trail>) -> Result<Option<Found>, NoMemo
             let Trail {
                 back: mut path,
                 rule,
-                new,
+                change,
                 definition,
             } = trail;
             path.reverse();
             let at = StepAt { made, path, rule };
             Ok(Some(Found {
                 at,
-                new,
+                change,
                 definition,
             }))
         }
@@ -87,9 +87,9 @@ fn in_number<L: Looks>(
     found_in(number, in_made(alloc, table, ground, it, path, looks)?)
 }
 
-/// The first step of a state from a place on, what is then there, and the made definition that it adds, if it adds one. The steps at the
-/// places above that one are among these, since they may come anew where the term at the place has changed. Nothing comes exactly where
-/// there is none.
+/// The first step of a state from a place on, how it changes the term there, and the made definition that it adds, if it adds one. The
+/// steps at the places above that one are among these, since they may come anew where the term at the place has changed. Nothing comes
+/// exactly where there is none.
 ///
 /// At each place at which it looks, each of the twenty-one rules is one look at most. It looks at active places of the state: at that
 /// place, above it, and after it, up to the place of the step.
@@ -123,8 +123,8 @@ pub fn next_from<L: Looks>(
     Ok(None)
 }
 
-/// The first step of a state, what is then there, and the made definition that it adds, if it adds one. Nothing comes exactly where there
-/// is none.
+/// The first step of a state, how it changes the term at its place, and the made definition that it adds, if it adds one. Nothing comes
+/// exactly where there is none.
 ///
 /// The scene is typed, its made definitions are those of the table, and the signature is that of its program.
 /// Where a number would pass 32 bits, the answer is want of memory.

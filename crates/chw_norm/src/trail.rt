@@ -5,15 +5,16 @@ ghost use Rattle.active_parts.specs.Parts.{numbers_of};
 
 use active_parts::PartPath;
 use chw_base::NoMemory;
-use chw_terms::{Made, Rule, Term};
+use chw_terms::{Made, Rule};
+use rule_trials::Change;
 
-/// A step below a place, what is then there, and the made definition that it adds, if it adds one.
+/// A step below a place, how it changes the term there, and the made definition that it adds, if it adds one.
 #[derive(Drop)]
 pub struct Trail {
     /// The numbers of the path, the last one first.
     pub back: Vec<u32>,
     pub rule: Rule,
-    pub new: Term,
+    pub change: Change,
     pub definition: Option<Made>,
 }
 
@@ -26,14 +27,14 @@ pub(crate) fn behind_child(found: Option<Trail>, number: u32) -> Result<Option<T
             let Trail {
                 mut back,
                 rule,
-                new,
+                change,
                 definition,
             } = trail;
             back.push(number)?;
             Ok(Some(Trail {
                 back,
                 rule,
-                new,
+                change,
                 definition,
             }))
         }
@@ -50,14 +51,14 @@ pub(crate) fn behind(found: Option<Trail>, path: PartPath) -> Result<Option<Trai
             let Trail {
                 back,
                 rule,
-                new,
+                change,
                 definition,
             } = trail;
             let back = with_path(back, path)?;
             Ok(Some(Trail {
                 back,
                 rule,
-                new,
+                change,
                 definition,
             }))
         }

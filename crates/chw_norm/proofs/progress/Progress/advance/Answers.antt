@@ -4,13 +4,15 @@ use Rattle.chw_norm.proofs.Grown.{grown_bounds, grown_spine, not_grown}
 use Rattle.chw_norm.proofs.Puts.{IsMade, put_between}
 use Rattle.chw_norm.proofs.Puts.{put_is_deep, put_is_few, put_is_shallow, put_is_step}
 use Rattle.chw_norm.proofs.Between.{spine_there}
+use Rattle.chw_norm.proofs.Joined.{made_there}
+use Rattle.chw_norm.proofs.Places.{SpineLaws}
 use Rattle.chw_norm.proofs.progress.Progress.advance.Goals as goal
 
 pub grow-requires : goal.grow-requires
 grow-requires c = record { fresh = c.requires.next.added.fresh }
 
-pub put-bound-requires-clause-spine : goal.put-bound-requires-clause-spine
-put-bound-requires-clause-spine c =
+pub make_change-requires-clause-spine : goal.make_change-requires-clause-spine
+make_change-requires-clause-spine c =
     let r = c.args.self.now in
     let f = c.args.found in
     grown_spine f.definition r c.grow.new.self f.at c.in_ok-added.ensures.0
@@ -19,10 +21,10 @@ put-bound-requires-clause-spine c =
       behind = c.spines_of_parts.ensures;
       argument = c.spines_below_spines.ensures.arguments;
     })
-    r.program.now r.made f.at f.new c.requires.next.is_first)
+    r.program.now r.made f.at c.requires.next.new c.requires.next.is_first)
 
-pub put-bound-requires-clause-one_each : goal.put-bound-requires-clause-one_each
-put-bound-requires-clause-one_each c =
+pub make_change-requires-clause-one_each : goal.make_change-requires-clause-one_each
+make_change-requires-clause-one_each c =
     (grown_bounds c.args.found.definition c.args.self.now c.grow.new.self c.requires.between
     c.in_ok-added.ensures.0).each_one
 
@@ -39,13 +41,20 @@ returns-then-most c =
     let r = c.args.self.now in
     let f = c.args.found in
     let g = c.grow.new.self in
-    let q = c.put-bound.new.self in
-    let bound = c.put-bound.result in
+    let q = c.make_change.new.self in
+    let bound = c.in_ok-bound.bound in
+    let laws : SpineLaws = record {
+      part = c.spines_are_parts.ensures;
+      behind = c.spines_of_parts.ensures;
+      argument = c.spines_below_spines.ensures.arguments;
+    } in
+    let there = made_there laws r.program.now r.made g.made f c.requires.next
+    c.in_ok-added.ensures.0.made in
     let made : IsMade f r g q bound = record {
       between = c.requires.between;
       next = c.requires.next;
       grown = c.in_ok-added.ensures.0;
-      put = c.put-bound.ensures;
+      put = c.in_ok-bound.ensures c.requires.next.new there;
     } in
     let depths = c.in_ok-added.ensures.1 in
     let shallow = put_is_shallow f r g q bound made
@@ -62,13 +71,20 @@ returns-else-most c =
     let r = c.args.self.now in
     let f = c.args.found in
     let g = c.grow.new.self in
-    let q = c.put-bound.new.self in
-    let bound = c.put-bound.result in
+    let q = c.make_change.new.self in
+    let bound = c.in_ok-bound.bound in
+    let laws : SpineLaws = record {
+      part = c.spines_are_parts.ensures;
+      behind = c.spines_of_parts.ensures;
+      argument = c.spines_below_spines.ensures.arguments;
+    } in
+    let there = made_there laws r.program.now r.made g.made f c.requires.next
+    c.in_ok-added.ensures.0.made in
     let made : IsMade f r g q bound = record {
       between = c.requires.between;
       next = c.requires.next;
       grown = c.in_ok-added.ensures.0;
-      put = c.put-bound.ensures;
+      put = c.in_ok-bound.ensures c.requires.next.new there;
     } in
     let depths = c.in_ok-added.ensures.1 in (
       put_is_step f c.args.trace.now.items c.push.new.self.items r g q bound made
