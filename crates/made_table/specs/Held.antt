@@ -7,6 +7,7 @@ use Rattle.chw_terms.specs.Evaluated.{evaluated_in}
 use Rattle.chw_terms.specs.TermTree.{TermTree}
 use Rattle.rewriting.specs.Origins.{MadeOf, made_of}
 use Rattle.chw_typing.specs.PartSpines.{IsPut}
+use Rattle.moved_in_place.specs.Swapped.{IsSwapped}
 use Rattle.term_signs.specs.declared.alphabet.Sign.{Sign}
 use Rattle.term_signs.specs.Written.{written}
 
@@ -35,4 +36,12 @@ pub record AreSigns (made : List Made) (signs : List (List Sign)) : Type 0 where
 abbrev pub IsPartSet : List Made → ℕ → Made → List ℕ → TermTree → List Made → Bool → Type 0
 IsPartSet made n it path new made' put =
     (body : TermTree) × IsPut it.body path new body put
+    × (made' ≡ set made n (record it { body = body }))
+
+-- the same where the term changes places with the whole spine at the path, which comes in exchange
+-- for it
+abbrev pub IsPartSwapped
+    : List Made → ℕ → Made → List ℕ → TermTree → List Made → TermTree → Bool → Type 0
+IsPartSwapped made n it path x made' y swapped =
+    (body : TermTree) × IsSwapped it.body path x body y swapped
     × (made' ≡ set made n (record it { body = body }))

@@ -5,13 +5,14 @@ ghost use Rattle.chw_base.specs.Outcome.{IfFault, OnMemory};
 ghost use Rattle.chw_terms.specs.declared.scene.Made.{Made};
 ghost use Rattle.chw_terms.specs.Tidy.{IsTidy};
 ghost use Rattle.rewriting.specs.Runs.{IsOpening};
-ghost use Rattle.made_table.specs.Held.{HoldsNone, IsFirstOf, IsPartSet};
+ghost use Rattle.made_table.specs.Held.{HoldsNone, IsFirstOf, IsPartSet, IsPartSwapped};
 
 use chw_base::limits::MADE_DEFINITIONS;
 use chw_base::{MadeId, NoMemory, Or};
 use chw_terms::{Made, Program, Term};
 use chw_typing::set_part;
 use indexmap::IndexSet;
+use moved_in_place::swap_part;
 use opening::open;
 use std::alloc::Global;
 use std::marker::Model;
@@ -115,6 +116,16 @@ impl Table {
     {
         let it = &mut self.made[made.number as usize];
         set_part(&mut it.body, path, new)
+    }
+
+    /// A term and the whole spine at a path of the body of a made definition change places, and the answer is whether a whole spine
+    /// stands there. Where none stands there, nothing changes.
+    pub fn swap_part(&mut self, made: MadeId, path: &[u32], other: &mut Term) -> bool
+        requires { made.number < length self.old }
+        ensures { (it : Made) → slice_get self.old made.number ≡ Some it → IsPartSwapped self.old made.number it path.now other.old self.new other.new result }
+    {
+        let it = &mut self.made[made.number as usize];
+        swap_part(&mut it.body, path, other)
     }
 
     /// Adds a made definition at the end. Where as many are held as there may be, the table is full. Whatever is refused, the table is as

@@ -1,0 +1,9 @@
+pub mod Depths
+pub mod FirstLet
+pub mod InPlace
+pub mod JoinedDepths
+pub mod JoinedLets
+pub mod PartDepths
+pub mod PutBack
+pub mod Renamed
+pub mod Swaps

@@ -1,0 +1,4 @@
+pub mod Joined
+pub mod Laws
+pub mod Moves
+pub mod Swapped
