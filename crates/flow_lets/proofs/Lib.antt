@@ -1,3 +1,4 @@
 pub mod FirstLet
 pub mod Flat
+pub mod WhereJoined
 pub mod OneGroup

@@ -2,9 +2,10 @@
 ghost use Rattle.std.specs.Prelude.{◌↔◌, IfOk, IsTrue};
 ghost use Rattle.chw_terms.specs.TermTree.{letrec};
 ghost use Rattle.chw_terms.specs.TermView.{group_of};
-ghost use Rattle.rewriting.specs.Spots.{spot_of};
+ghost use Rattle.rewriting.specs.Origins.{Origins};
+ghost use Rattle.rewriting.specs.Spots.{Spot, spot_of};
 ghost use Rattle.rewriting.specs.Shapes.{IsOfHead};
-ghost use Rattle.flow_lets.specs.Flat.{AnswersFlat, AnswersLetrec};
+ghost use Rattle.flow_lets.specs.Flat.{AnswersFlat, AnswersLetrec, JoinsAt, JoinsCore};
 
 use crate::joining::{letrec_with_body, letrec_with_side};
 use crate::parts::{as_letrec, first_let};
@@ -33,6 +34,32 @@ fn flat(alloc: Global, group: &[Binding], body: &Term) -> Result<Option<Term>, N
         return Ok(None);
     };
     Ok(Some(letrec_with_body(alloc, group, &inner)?))
+}
+
+// Whether the rule makes something of a letrec: a right side is a letrec, or the body is one.
+fn joins_letrec(group: &[Binding], body: &Term) -> bool
+    ensures { (o : Origins) (at : Spot) → (IsOfHead at.mode → ⊥) → IsTrue result ↔ JoinsCore o at (letrec (group_of group.now) body.now) }
+{
+    if let Some(_) = first_let(group) {
+        return true;
+    }
+    let Some(_) = as_letrec(body) else {
+        return false;
+    };
+    true
+}
+
+/// Whether the rule that joins letrecs makes something of a term at a place. Nothing is made.
+pub fn joins(at: &Term, place: &Place) -> bool
+    ensures { (o : Origins) → IsTrue result ↔ JoinsAt o (spot_of place.now) at.now }
+{
+    if is_of_head(place.mode) {
+        return false;
+    }
+    let Head::LetRec(group, body) = &at.head else {
+        return false;
+    };
+    joins_letrec(group, body)
 }
 
 /// What the rule that joins letrecs makes of a term at a place: of its head, and the arguments stay behind. Nothing comes exactly where

@@ -1,10 +1,12 @@
 -- What is known where rules were tried in their order.
 use Rattle.std.proofs.Common.{◌≡◌, ◌∙◌, ℕ, zero, suc, ◌<◌, List, length, Option, Some, None, option_map, refl, ap, sym, subst, arith, ◌⊎◌, inl, inr, ⊎_elim}
 use Rattle.std.specs.List.{slice_index_or}
+use Rattle.std.specs.Prelude.{Bool, true, false, IsTrue, ◌↔◌}
+use Rattle.std.proofs.lemmas.Bool.{false≢true}
 use Rattle.std.proofs.lemmas.List.{get_or_default}
 use Rattle.chw_terms.specs.declared.program.Program.{Program}
 use Rattle.chw_terms.specs.declared.rule.Rule.{Rule}
-use Rattle.chw_terms.specs.declared.rule.Rule.TheVariants.{Spec}
+use Rattle.chw_terms.specs.declared.rule.Rule.TheVariants.{Flat, Spec}
 use Rattle.chw_terms.specs.declared.scene.Made.{Made}
 use Rattle.chw_terms.specs.TermTree.{TermTree}
 use Rattle.rewriting.specs.Origins.{Origins}
@@ -13,8 +15,11 @@ use Rattle.rewriting.specs.Instances.{HasInstance}
 use Rattle.rewriting.specs.Runs.{no_call}
 use Rattle.rewriting.specs.Steps.{origins_in}
 use Rattle.rule_parts.specs.Cores.{IsInstanceAnswer}
+use Rattle.rules_flow.specs.Rules.{Joins}
+use Rattle.specialise.specs.Special.{AnswersSpecial}
 use Rattle.specialise.specs.declared.trial.Special.{Special}
-use Rattle.rule_trials.specs.Trials.{built, with_none, AnswersRule, HasNoInstance, IsTried, IsTrial}
+use Rattle.rule_trials.specs.declared.trial.Outcome.{Outcome}
+use Rattle.rule_trials.specs.Trials.{built, joined_if, put, put_special, AnswersRule, HasNoInstance, IsTried, IsTrial}
 use Rattle.rule_trials.proofs.Order.{built_ascend, earlier}
 
 -- none of the first n rules has an instance
@@ -44,22 +49,24 @@ pub none_of_all : (o : Origins) (at : Spot) (e : TermTree) → NoneBefore o at e
 none_of_all o at e before r e' c h = before (c.0) r (c.1) (c.2) e' h
 
 -- the next one has
-pub first_of_all : (p : Program) (made : List Made) (at : Spot) (e : TermTree) (s : Special) (n : ℕ) (r : Rule)
+pub first_of_all : (p : Program) (made : List Made) (at : Spot) (e : TermTree) (s : Outcome) (n : ℕ) (r : Rule)
     → n < length built → slice_index_or built n r ≡ r
     → NoneBefore (origins_in p made) at e n → IsTried p made at r e s
-    → IsTrial built p made at e (record { rule = r; new = s.new; definition = s.definition })
+    → IsTrial built p made at e (record { rule = r; change = s.change; definition = s.definition })
 first_of_all p made at e s n r within is before h = record {
   is_rule = (n, within, is);
+  new = h.new;
+  changes = h.changes;
   made_new = h.instance;
   adds = h.adds;
   first = λ q e' c less i. before (c.0) q (earlier 0 built n (c.0) r q r q built_ascend within (c.1) is (c.2) less) (c.2) e' i;
 }
 
 -- so where the rule of this number has an instance, it is the first
-pub found : (p : Program) (made : List Made) (at : Spot) (e : TermTree) (s : Special) (n : ℕ) (d d' : Rule) (answer : Option Special)
+pub found : (p : Program) (made : List Made) (at : Spot) (e : TermTree) (s : Outcome) (n : ℕ) (d d' : Rule) (answer : Option Outcome)
     → n < length built → NoneBefore (origins_in p made) at e n
     → answer ≡ Some s → AnswersRule p made at (slice_index_or built n d) e answer
-    → IsTrial built p made at e (record { rule = slice_index_or built n d'; new = s.new; definition = s.definition })
+    → IsTrial built p made at e (record { rule = slice_index_or built n d'; change = s.change; definition = s.definition })
 found p made at e s n d d' answer within before is h =
     let there : IsTried p made at (slice_index_or built n d) e s = subst (AnswersRule p made at (slice_index_or built n d) e) is h in
     first_of_all p made at e s n (slice_index_or built n d') within (get_or_default built n (slice_index_or built n d') d' within) before
@@ -68,7 +75,29 @@ found p made at e s n d d' answer within before is h =
 -- what a rule makes that adds no definition
 pub of_plain : (p : Program) (made : List Made) (at : Spot) (r : Rule) (e : TermTree) (answer : Option TermTree)
     → (r ≡ Spec → ⊥) → IsInstanceAnswer (origins_in p made) at r e answer
-    → AnswersRule p made at r e (option_map with_none answer)
+    → AnswersRule p made at r e (option_map put answer)
 of_plain p made at r e None other none = none
 of_plain p made at r e (Some new) other i =
-    record { instance = i; adds = record { after = no_call other; fresh = tt } }
+    record { new = new; changes = refl; instance = i; adds = record { after = no_call other; fresh = tt } }
+
+-- what the rule of made definitions makes
+pub of_special : (p : Program) (made : List Made) (at : Spot) (e : TermTree) (answer : Option Special)
+    → AnswersSpecial p made at e answer → AnswersRule p made at Spec e (option_map put_special answer)
+of_special p made at e None none = none
+of_special p made at e (Some s) is = record {
+  new = s.new;
+  changes = refl;
+  instance = is.instance;
+  adds = record { after = is.after; fresh = is.fresh };
+}
+
+no_spec : Flat ≡ Spec → ⊥
+no_spec is = absurd cc
+
+-- what the rule of letrecs makes isn't made
+pub of_joined : (p : Program) (made : List Made) (at : Spot) (e : TermTree) (b : Bool)
+    → IsTrue b ↔ Joins (origins_in p made) at e → AnswersRule p made at Flat e (joined_if b)
+of_joined p made at e true h =
+    let joins = h.0 refl in
+    record { new = joins.0; changes = refl; instance = joins.1; adds = record { after = no_call no_spec; fresh = tt } }
+of_joined p made at e false h = λ e' i. false≢true (h.1 (e', i))

@@ -1,6 +1,6 @@
 -- The first rule with an instance on a term at a place.
-use Rattle.std.specs.Prelude.{◌<◌, List, [], ◌∷◌, Option, None, IfSome}
-use Rattle.std.specs.Prelude.{MatchOption, Contains}
+use Rattle.std.specs.Prelude.{◌≡◌, ◌<◌, Bool, true, false, List, [], ◌∷◌, Option, None, Some}
+use Rattle.std.specs.Prelude.{IfSome, MatchOption, Contains}
 use Rattle.chw_types.specs.TypeTree.{TypeTree}
 use Rattle.chw_terms.specs.declared.program.Program.{Program}
 use Rattle.chw_terms.specs.declared.rule.Rule.{Rule}
@@ -21,6 +21,9 @@ use Rattle.rewriting.specs.Steps.{number_of, origins_in}
 use Rattle.made_table.specs.Held.{HoldsNone}
 pub use Rattle.specialise.specs.Special.{with_new}
 use Rattle.specialise.specs.declared.trial.Special.{Special}
+use Rattle.rule_trials.specs.declared.trial.Change.{Change}
+use Rattle.rule_trials.specs.declared.trial.Change.TheVariants.{Put, Join}
+use Rattle.rule_trials.specs.declared.trial.Outcome.{Outcome}
 use Rattle.rule_trials.specs.declared.trial.Trial.{Trial}
 
 -- the rules, in their order
@@ -45,35 +48,55 @@ pub record Adds (p : Program) (made : List Made) (at : Spot) (e : TermTree) (rul
   pub after : After p made at e rule (with_new made definition)
   pub fresh : IfSome definition (λ it. HoldsNone made it.origin)
 
--- what a rule makes that adds no definition
-abbrev pub with_none : TermTree → Special
-with_none e = record { new = e; definition = None }
+-- the change by this rule leads to this term: the term is put; or letrecs are joined, and the rule
+-- is the one that joins letrecs
+abbrev pub ChangesTo : Rule → Change → TermTree → Type 0
+ChangesTo rule (Put t) new = t ≡ new
+ChangesTo rule Join new = rule ≡ Flat
 
--- the rule makes this of the term, and adds this
+-- a term is put, and no definition is added
+abbrev pub put : TermTree → Outcome
+put e = record { change = Put e; definition = None }
+
+-- what the rule of made definitions makes is put
+abbrev pub put_special : Special → Outcome
+put_special s = record { change = Put s.new; definition = s.definition }
+
+-- letrecs are joined, where they can be
+abbrev pub joined_if : Bool → Option Outcome
+joined_if true = Some (record { change = Join; definition = None })
+joined_if false = None
+
+-- the rule changes the term so, and adds this
 pub record IsTried (p : Program) (made : List Made) (at : Spot) (rule : Rule) (e : TermTree)
-    (s : Special) : Type 0 where
-  pub instance : HasInstance (origins_in p made) at rule e s.new
+    (s : Outcome) : Type 0 where
+  pub new : TermTree
+  pub changes : ChangesTo rule s.change new
+  pub instance : HasInstance (origins_in p made) at rule e new
   pub adds : Adds p made at e rule s.definition
 
 -- the answer is that, or nothing where the rule has no instance
 abbrev pub AnswersRule
-    : Program → List Made → Spot → Rule → TermTree → Option Special → Type 0
+    : Program → List Made → Spot → Rule → TermTree → Option Outcome → Type 0
 AnswersRule p made at rule e answer =
     MatchOption answer
     ((e' : TermTree) → HasInstance (origins_in p made) at rule e e' → ⊥)
     (IsTried p made at rule e)
 
--- one of the rules makes this of the term and adds this, and none before it has an instance
+-- one of the rules changes the term so and adds this, and none before it has an instance
 pub record IsTrial (rules : List Rule) (p : Program) (made : List Made) (at : Spot) (e : TermTree)
     (t : Trial) : Type 0 where
   pub is_rule : Contains rules t.rule
-  pub made_new : HasInstance (origins_in p made) at t.rule e t.new
+  pub new : TermTree
+  pub changes : ChangesTo t.rule t.change new
+  pub made_new : HasInstance (origins_in p made) at t.rule e new
   pub adds : Adds p made at e t.rule t.definition
   pub first : (r : Rule) (e' : TermTree)
       → Contains rules r → number_of r < number_of t.rule
       → HasInstance (origins_in p made) at r e e' → ⊥
 
--- the answer is what the first of the rules with an instance makes, or nothing where none has one
+-- the answer is how the first of the rules with an instance changes the term, or nothing where none
+-- has one
 abbrev pub IsFirstRule
     : List Rule → Program → List Made → Spot → TermTree → Option Trial → Type 0
 IsFirstRule rules p made at e answer =

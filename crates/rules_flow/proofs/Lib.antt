@@ -1,1 +1,2 @@
+pub mod WhereJoined
 pub mod Rules

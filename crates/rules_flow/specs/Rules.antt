@@ -3,6 +3,10 @@ use Rattle.chw_terms.specs.declared.rule.Rule.{Rule}
 use Rattle.chw_terms.specs.declared.rule.Rule.TheVariants.{TyBeta, Beta, AppLet, AppCase}
 use Rattle.chw_terms.specs.declared.rule.Rule.TheVariants.{CaseCon, CaseLet, CaseCase, Proj}
 use Rattle.chw_terms.specs.declared.rule.Rule.TheVariants.{PrimLet, PrimCase, Flat}
+use Rattle.chw_terms.specs.TermTree.{TermTree}
+use Rattle.rewriting.specs.Instances.{HasInstance}
+use Rattle.rewriting.specs.Origins.{Origins}
+use Rattle.rewriting.specs.Spots.{Spot}
 
 abbrev pub IsOfFlow : Rule → Type 0
 IsOfFlow TyBeta = Unit {0}
@@ -17,3 +21,7 @@ IsOfFlow PrimLet = Unit {0}
 IsOfFlow PrimCase = Unit {0}
 IsOfFlow Flat = Unit {0}
 IsOfFlow _ = ⊥
+
+-- the rule that joins letrecs has an instance on the term at this place
+abbrev pub Joins : Origins → Spot → TermTree → Type 0
+Joins o at e = (new : TermTree) × HasInstance o at Flat e new

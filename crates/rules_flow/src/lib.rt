@@ -3,4 +3,4 @@
 
 pub mod trial;
 
-pub use trial::{try_rule, try_typed};
+pub use trial::{joins_typed, try_rule, try_typed};

@@ -1,5 +1,5 @@
 //! The rules of flow, tried on a term at a place.
-ghost use Rattle.std.specs.Prelude.{◌≡◌, [], reverse, IfOk};
+ghost use Rattle.std.specs.Prelude.{◌≡◌, ◌↔◌, [], reverse, IfOk, IsTrue};
 ghost use Rattle.chw_types.specs.References.{HasNoCycle};
 ghost use Rattle.chw_typing.specs.Scopes.{setting_in};
 ghost use Rattle.looks.specs.Looking.{looked};
@@ -8,7 +8,7 @@ ghost use Rattle.rewriting.specs.Spots.{spot_of};
 ghost use Rattle.term_types.specs.Answers.{IsReady};
 ghost use Rattle.term_types.specs.Signatures.{IsSignature};
 ghost use Rattle.rule_parts.specs.Cores.{Answers, HasTypeAt, IsInstanceAnswer};
-ghost use Rattle.rules_flow.specs.Rules.{IsOfFlow};
+ghost use Rattle.rules_flow.specs.Rules.{IsOfFlow, Joins};
 ghost use Rattle.rule_parts.specs.Kept.{KeepsTypes};
 
 use chw_base::NoMemory;
@@ -16,7 +16,7 @@ use chw_terms::{Place, Rule, Scene, Term};
 use flow_cases::try_cases;
 use flow_demanded::try_demanded;
 use flow_functions::try_function;
-use flow_lets::try_lets;
+use flow_lets::{joins, try_lets};
 use looks::Looks;
 use std::alloc::Global;
 use term_types::Signature;
@@ -76,6 +76,17 @@ pub fn try_typed<L: Looks>(
     looks.look();
     answers_of_typed_terms();
     made_of(alloc, rule, scene, signature, at, place)
+}
+
+/// Whether the rule that joins letrecs has an instance on a term that has a type. Nothing is made. One look is counted.
+pub fn joins_typed<L: Looks>(scene: &Scene, at: &Term, place: &Place, looks: &mut L) -> bool
+    requires typed { HasTypeAt (origins_of scene.now) (spot_of place.now) at.now }
+    ensures exact { IsTrue result ↔ Joins (origins_of scene.now) (spot_of place.now) at.now }
+    ensures one_look { L.looks looks.new ≡ looked (L.looks looks.old) }
+{
+    looks.look();
+    answers_of_typed_terms();
+    joins(at, place)
 }
 
 /// The instance of a rule on a term, as at `try_typed`. A term without a type has none.
