@@ -43,7 +43,7 @@ pub record BuiltFacts : Type 0 where
   pub test_count :
       (k : ℕ) (words : List (List Bool)) (a : List WireId) (at : ℕ)
       → length (test_wires k a words at) ≡ length words
-  -- what refers to others without a cycle has places such that they come earlier
+  -- where references have no cycle, items have places, each behind those to which it refers
   pub places :
       (goes : ℕ → ℕ → Bool) (n : ℕ)
       → HasNoCycle (λ i j. goes i j ≡ true)

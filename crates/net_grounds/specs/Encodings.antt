@@ -10,7 +10,7 @@ use Rattle.chw_types.specs.declared.declarations.Data.{Data}
 
 -- facts on encodings of data values
 pub record EncodingFacts : Type 0 where
-  -- a tag tells as many constructors as there are
+  -- there are at least as many tags as constructors
   pub tag_suffices : TagSuffices
   -- an encoding is as long as the type is wide
   pub encoded_length :

@@ -26,7 +26,7 @@ pub record FlatFacts : Type 0 where
       (net : Net) (i : ℕ) (m : Module)
       → WellFormed net → slice_get net.modules i ≡ Some m
       → widths_in net i ≡ m.widths ++ flat_map (widths_of_use (widths_in net)) m.cells
-  -- before a use there are so many
+  -- the wires before a use are as many as is counted
   pub long_before :
       (net : Net) (m : Module) (before : List Cell)
       → length (m.widths ++ wires_of_uses net before) ≡ wires_before net m before

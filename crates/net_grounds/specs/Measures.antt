@@ -13,7 +13,7 @@ use Rattle.chw_types.specs.declared.declarations.ConDecl.{ConDecl}
 use Rattle.chw_types.specs.declared.declarations.Data.{Data}
 use Rattle.chw_types.specs.declared.kind.Scalar.{Scalar}
 
--- both parts of constructors have widths
+-- two measures are widths, and this is the greater one
 pub record Widest (m n : Measure) (s : ℕ) : Type 0 where
   pub a : ℕ
   pub b : ℕ
@@ -21,7 +21,7 @@ pub record Widest (m n : Measure) (s : ℕ) : Type 0 where
   pub others : n ≡ fits b
   pub is : s ≡ max a b
 
--- both parts of fields have widths
+-- two measures are widths, and this is what their sum ends at
 pub record Summed (m n : Measure) (s : ℕ) : Type 0 where
   pub a : ℕ
   pub b : ℕ

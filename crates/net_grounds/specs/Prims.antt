@@ -17,7 +17,7 @@ use Rattle.chw_types.specs.TypeTree.{TypeTree, TypeTrees, no_types, type_and}
 use Rattle.chw_types.specs.declared.declarations.Data.{Data}
 use Rattle.chw_typing.specs.Given.{types_then}
 
--- types as they are given, before others, the last one first
+-- types, evaluated in an environment, before others, the last one first
 abbrev pub typed : TypeTrees → List TypeTree → TypeTrees → TypeTrees
 typed δ [] ts = ts
 typed δ (t ∷ more) ts = typed δ more (type_and (evaluated (closed_type t δ)) ts)

@@ -44,14 +44,14 @@ pub record TermFacts : Type 0 where
       (s : Setting) (kinds : List Kind) (vars : List TypeTree) (e : TermTree) (args : List Arg)
       (t : TypeTree)
       → HasType s kinds vars (applied e args) t → HeadTyped s kinds vars e args t
-  -- a spine whose type asks for nothing begins with as many arguments as its head takes
+  -- a spine of a type that takes no argument begins with all arguments that its head takes
   pub spine_takes :
       (s : Setting) (kinds : List Kind) (vars : List TypeTree) (e : TermTree) (ks : List Kind)
       (ps : List TypeTree) (r : TypeTree) (args : List Arg) (t : TypeTree)
       → IsSound s → AreTermTypes s kinds vars
       → HasType s kinds vars e (for_each ks (from_each ps r))
       → HasType s kinds vars (applied e args) t → AsksForNone t → Takes (length ks) (length ps) args
-  -- one of a constructor has no more than these
+  -- one of a constructor has no others
   pub con_takes :
       (s : Setting) (kinds : List Kind) (vars : List TypeTree) (c : ℕ) (it : Constructor)
       (args : List Arg) (t : TypeTree)
