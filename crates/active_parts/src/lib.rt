@@ -8,6 +8,9 @@
 //! 3. `part_at` gives the part of each number, where it is a place.
 //! 4. At a part, the place takes its mode and whether it gives the result, and `enter` puts its own variables into scope.
 //! 5. `leave` takes variables out of scope again.
+//!
+//! A walk that enters the same letrec again and again keeps `SpareTypes`: `leave_with_spare` puts the types there, and `enter_group_again`
+//! takes those that are equal in place of copies.
 #![tactic(auto)]
 
 mod arguments;
@@ -21,9 +24,11 @@ mod naming;
 pub mod parts;
 pub mod paths;
 pub mod scopes;
+mod spare;
 
 pub use ground::Ground;
 pub use modes::mode_of;
 pub use parts::{Part, count_parts, group_around_parts, part_at};
 pub use paths::{PartPath, path_to};
 pub use scopes::{enter, enter_group, leave};
+pub use spare::{SpareTypes, enter_group_again, leave_with_spare};

@@ -10,8 +10,8 @@ use chw_types::Ty;
 use std::alloc::Global;
 use std::mem;
 
-// The variables' types, taken out of the place.
-fn take_variables(alloc: Global, place: &mut Place) -> Vec<Ty>
+/// The variables' types, taken out of the place.
+pub(crate) fn take_variables(alloc: Global, place: &mut Place) -> Vec<Ty>
     ensures is { result.items ≡ place.old.vars }
     ensures left { place.new ≡ with_variables place.old [] }
 {

@@ -16,7 +16,6 @@ use Rattle.rule_types.specs.States.{IsTypedState, StatesHaveTypedOrigins}
 use Rattle.normal_forms.specs.Laws.{OneWhole}
 use Rattle.normal_forms.specs.Normal.{IsNormal}
 use Rattle.normal_forms.specs.Uses.{IsAcyclic}
-use Rattle.normal_form.proofs.There.{each_is_whole}
 use Rattle.chw_layout.specs.EncodingPromises.{EncodingHasWidth}
 use Rattle.chw_meaning.specs.Laws.{OnePorts}
 use Rattle.chw_meaning.specs.Means.{HasPorts, Fit}
@@ -36,6 +35,7 @@ use Rattle.use_laws.specs.ValueIn.{BeginsAt, IsModuleAt, ValueIn}
 use Rattle.use_laws.specs.ValueIn.BeginsAt.{top as begins_at_top}
 use Rattle.use_laws.specs.ValueIn.IsModuleAt.{top as module_at_top}
 use Rattle.net_built.specs.Built.{Built}
+use Rattle.net_grounds.specs.Facts.{Facts}
 use Rattle.net_means.specs.NetFits.Laws.{BeginsWithTop, RunsBeginWithTop}
 use Rattle.net_means.specs.CircuitBits.Instances.{Design}
 use Rattle.net_means.specs.NetBits.Whole.{AllHaveBits}
@@ -50,7 +50,7 @@ BitsThroughUses =
     (net : Net) (flat : Flat) (path : List ℕ) (m : Module) (base : ℕ) (h : List Event) (w : ℕ) (bits : List Bool) → WellFormed net → IsFlatOf net flat → IsModuleAt net path m → BeginsAt net path base → w < length m.widths
     → (ValueIn net path h w bits ↔ NetValue flat h (base + w) bits)
 
-module _ (through : BitsThroughUses) (wide : EncodingHasWidth) (values : SameValues) (keep : FieldsKeepSame) (yielded : ShownIsYielded) (one_ports : OnePorts) (one_whole : OneWhole) (typed_origins : StatesHaveTypedOrigins) (acts : RunActs) (gives : RunGives) (begin : RunsBeginWithTop) (all : AllHaveBits) where
+module _ (facts : Facts) (through : BitsThroughUses) (wide : EncodingHasWidth) (values : SameValues) (keep : FieldsKeepSame) (yielded : ShownIsYielded) (one_ports : OnePorts) (one_whole : OneWhole) (typed_origins : StatesHaveTypedOrigins) (acts : RunActs) (gives : RunGives) (begin : RunsBeginWithTop) (all : AllHaveBits) where
   module _ (rules : List Rule) (p : Program) (n : ℕ) (steps : List Step) (state : List Made) (net : Net) (flat : Flat) (places : List ℕ) (tidy : IsTidy p) (typed : IsTyped p) (run : Run rules p n steps state) (normal : IsNormal p state) (acyclic : IsAcyclic state) (built : Built p state net) (formed : WellFormed net) (is_flat : IsFlatOf net flat) (sound : Sound flat) (order : IsOrder flat places) where
     typed_state : IsTypedState p state
     typed_state = (acts rules p n steps state tidy typed run).0
@@ -59,7 +59,7 @@ module _ (through : BitsThroughUses) (wide : EncodingHasWidth) (values : SameVal
     begins = begin rules p n steps state run
 
     wholes : AreWholes state
-    wholes = each_is_whole p state normal acyclic
+    wholes = facts.built.each_is_whole p state normal acyclic
 
     abbrev d : Design
     d = design one_whole p state net (typed_origins p state typed_state).sound tidy.inhabited normal built wholes
@@ -71,7 +71,7 @@ module _ (through : BitsThroughUses) (wide : EncodingHasWidth) (values : SameVal
     each h k fit l =
         let same = one_ports p fit.ports net.ports fit.are_ports built.ports in
         let fits : FitsPorts net.ports h = subst (λ ports. FitsPorts ports h) same fit.fits in
-        output_means all wide values keep yielded d flat places formed is_flat sound order first.it typed_state begins first.is_first first.made_of h fit fits
+        output_means facts all wide values keep yielded d flat places formed is_flat sound order first.it typed_state begins first.is_first first.made_of h fit fits
         (λ w bits below v.
         let none : 0 + w ≡ w = omega arith in
         subst (λ w. NetValue flat h w bits) none

@@ -9,8 +9,6 @@ use Rattle.chw_terms.specs.declared.scene.Sort.TheVariants.{Circuit}
 use Rattle.chw_terms.specs.TermTree.{TermTree, var, letrec, Group, no_bindings}
 use Rattle.chw_typing.specs.Scopes.{Setting, AreTermTypes, with_more, declared}
 use Rattle.chw_typing.specs.Typing.{HasType, h_letrec}
-use Rattle.chw_typing.proofs.Kinded.{bound_typed, typed_more}
-use Rattle.chw_typing.proofs.Lists.{map_reverse, turned_onto}
 use Rattle.rewriting.specs.Origins.{with_origins, with_origins_group}
 use Rattle.chw_meaning.specs.Values.{History, Thunk, Thunks, closed, in_group}
 use Rattle.net_built.specs.Bodies.{BlockBuilt, block_variable, block_letrec, GroupBuilt, group_none, group_and, SideBuilt, side_of_circuit}
@@ -19,6 +17,8 @@ use Rattle.net_built.specs.Circuits.{Ground}
 use Rattle.net_built.specs.Data.{HasParts}
 use Rattle.net_built.specs.Terms.{Variable, variable, wires_at}
 use Rattle.net_built.specs.Wires.{Piece, new_wires, wire_count}
+use Rattle.net_grounds.specs.Facts.{Facts}
+use Rattle.net_means.proofs.Lists.{map_reverse, turned_onto}
 use Rattle.net_means.proofs.NetFits.Pieces.{count_from}
 use Rattle.cell_bits.specs.Bearing.{HasCells}
 use Rattle.net_means.specs.SideBits.Sides.{types_in}
@@ -62,8 +62,8 @@ record LetTyped (s : Setting) (vars : List TypeTree) (g : Group) (e : TermTree) 
   inner : HasType s [] (with_more (declared g) vars) e t
   scoped : AreTermTypes s [] (with_more (declared g) vars)
 
-let_typed : {s : Setting} {vars : List TypeTree} {g : Group} {e : TermTree} {t : TypeTree} → AreTermTypes s [] vars → HasType s [] vars (letrec g e) t → LetTyped s vars g e t
-let_typed {s} {vars} {g} scoped (h_letrec d k bound) = record { inner = d; scoped = typed_more s [] (declared g) vars (bound_typed bound) scoped }
+let_typed : Facts → {s : Setting} {vars : List TypeTree} {g : Group} {e : TermTree} {t : TypeTree} → AreTermTypes s [] vars → HasType s [] vars (letrec g e) t → LetTyped s vars g e t
+let_typed facts {s} {vars} {g} scoped (h_letrec d k bound) = record { inner = d; scoped = facts.scopes.typed_more s [] (declared g) vars (facts.scopes.bound_typed bound) scoped }
 
 -- the end of a block of circuits: a variable inside it, that has its type and its wires
 pub record Ending (d : Design) (s : Setting) (h : History) (scope : List Variable) (outside : Thunks) (term : TermTree) (results : List WireId) (t : TypeTree) : Type 0 where
@@ -78,13 +78,13 @@ pub record Ending (d : Design) (s : Setting) (h : History) (scope : List Variabl
   pub held : AreHeld d.program.datas inner
   pub follows : HasAllOf d.program h (closed (with_origins d.wholes term) outside no_types) (closed (var x) γ no_types)
 
-pub block_ends : (d : Design) (s : Setting) (h : History) {scope : List Variable} {n : ℕ} {term : TermTree} {piece : Piece} {results : List WireId} {t : TypeTree} (outside : Thunks) → BlockBuilt (ground_of d.program d.built.order) Circuit scope n term piece results → HasCells d.net [] piece.cells → HasWidths d.net [] n piece.widths
+pub block_ends : Facts → (d : Design) (s : Setting) (h : History) {scope : List Variable} {n : ℕ} {term : TermTree} {piece : Piece} {results : List WireId} {t : TypeTree} (outside : Thunks) → BlockBuilt (ground_of d.program d.built.order) Circuit scope n term piece results → HasCells d.net [] piece.cells → HasWidths d.net [] n piece.widths
     → HasType s [] (types_in scope) term t → AreTermTypes s [] (types_in scope) → AreHeld d.program.datas scope → Ending d s h scope outside term results t
 unfolding with_origins
-block_ends d s h {scope = scope} outside (block_variable {x = x}) cells widths typed scoped held =
+block_ends facts d s h {scope = scope} outside (block_variable {x = x}) cells widths typed scoped held =
     record { g = no_bindings; inner = scope; γ = outside; x = x; inside = inside_variable; are = refl; typed = typed; scoped = scoped; held = held; follows = λ n v f. (n, f) }
-block_ends d s h {scope = scope} {t = t} outside (block_letrec {x = x} {g = g} bound b) cells widths typed scoped held =
-    let l = let_typed scoped typed in
+block_ends facts d s h {scope = scope} {t = t} outside (block_letrec {x = x} {g = g} bound b) cells widths typed scoped held =
+    let l = let_typed facts scoped typed in
     let types = inner_types scope b in
     record {
       g = g;
@@ -96,7 +96,7 @@ block_ends d s h {scope = scope} {t = t} outside (block_letrec {x = x} {g = g} b
       typed = subst (λ vars. HasType s [] vars (var x) t) types l.inner;
       scoped = subst (AreTermTypes s []) types l.scoped;
       held = group_held scope b held;
-      follows = group_follows d.program h (with_origins_group d.wholes g) (var x) outside no_types;
+      follows = group_follows facts d.program h (with_origins_group d.wholes g) (var x) outside no_types;
     }
 
 -- a block that stands has its cells

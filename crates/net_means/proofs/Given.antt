@@ -15,16 +15,14 @@ use Rattle.chw_terms.specs.declared.program.Program.{Program}
 use Rattle.chw_layout.specs.Datum.{Datum}
 use Rattle.chw_layout.specs.Encodes.{first_constructor}
 use Rattle.chw_layout.specs.Measured.{HasWidth}
-use Rattle.layout_laws.proofs.Numbering.{at_place, one_numbering}
 use Rattle.chw_meaning.specs.Gives.{Input, stream_in, PortGiven, given_stream, given_product, FieldsGiven, given_no_field, given_field, LeafOf, leaf_of, PortLeaves, leaf_signal, leaves_product, FieldLeaves, no_field_leaves, field_leaves}
 use Rattle.chw_meaning.specs.Steps.{params_of, fields_of, takes_types, takes_thunks}
 use Rattle.chw_meaning.specs.Values.{History, con_head, Thunk, applied, field, stream, Thunks, none, thunk_and, thunk_at, count_of}
-use Rattle.chw_meaning.proofs.GivenOnce.{same_fields}
-use Rattle.chw_meaning.proofs.Once.{same_some}
 use Rattle.carrying.specs.Carrying.{Shows}
-use Rattle.carrying.proofs.Terms.{shows_through}
 use Rattle.netlist.specs.declared.net.Net.{Net}
 use Rattle.use_laws.specs.ValueIn.{ValueIn}
+use Rattle.net_grounds.specs.Facts.{Facts}
+use Rattle.net_means.proofs.Lists.{same_some}
 use Rattle.net_means.specs.CircuitBits.Leaves.{HasAllOf}
 use Rattle.net_means.proofs.Products.{none_further, Reaches, head_given, with_field, fields_made, field_follows}
 use Rattle.net_means.proofs.Streams.{Shown, no_bits_shown, bits_shown}
@@ -40,7 +38,7 @@ show_beside no_leaves_show b = b
 show_beside (empty_leaf_shows has a) b = empty_leaf_shows has (show_beside a b)
 show_beside (wide_leaf_shows has s v e a) b = wide_leaf_shows has s v e (show_beside a b)
 
-module _ (p : Program) (net : Net) (h : History) where
+module _ (facts : Facts) (p : Program) (net : Net) (h : History) where
   -- a port's thunk has leaves that show bits, and streams are left
   pub record PortShown (n : ℕ) (t : TypeTree) (th : Thunk) (rest : List Leaf) (more : List Input) : Type 0 where
     pub leaves : List LeafOf
@@ -67,7 +65,7 @@ module _ (p : Program) (net : Net) (h : History) where
         are = leaf_signal r;
         widths = suc w ∷ [];
         last = n + 1;
-        show = wide_leaf_shows (subst (λ t. HasWidth p.datas t (suc w)) is has) (shows_through all (subst (λ t. Shows p t (stream ds) h bits) is shows)) value long no_leaves_show;
+        show = wide_leaf_shows (subst (λ t. HasWidth p.datas t (suc w)) is has) (facts.shows.shows_through all (subst (λ t. Shows p t (stream ds) h bits) is shows)) value long no_leaves_show;
         left = s;
       }
 
@@ -81,8 +79,8 @@ module _ (p : Program) (net : Net) (h : History) where
   -- the first constructor of a data type
   first_con : (d : ℕ) (it : Data) (k : ConDecl) → slice_get p.datas d ≡ Some it → it.cons ≡ k ∷ [] → con_at p.datas (first_constructor p.datas d) ≡ Some (record { of = d; it = it; decl = k })
   first_con d it k there one =
-      let number = one_numbering p.datas d in
-      at_place p.datas (first_constructor p.datas d) (record { of = d; it = it; decl = k })
+      let number = facts.constructors.one_numbering p.datas d in
+      facts.constructors.at_place p.datas (first_constructor p.datas d) (record { of = d; it = it; decl = k })
       (record { place = zero; in_datas = there; in_cons = ap (λ cs. slice_get cs zero) one; number = omega (arith, number) })
 
   mutual
@@ -94,7 +92,7 @@ module _ (p : Program) (net : Net) (h : History) where
         let types : length (list_of ts) ≡ takes_types p.datas (con_head c) = many ∙ sym (ap params_of con) in
         let fields : zero + length (f ∷ fs) ≡ takes_thunks p.datas (con_head c) = let one = ap (λ (ts : List TypeTree). length ts) e in let two = ap fields_of con in omega (arith, one, two) in
         let head = head_given p c h ts types in
-        let more = fields_shown x (given_along (same_fields b a (same_some l i) m j o e) g) c head.types none head.many fields head.reaches n rest on s all in
+        let more = fields_shown x (given_along (facts.ports.same_fields b a (same_some l i) m j o e) g) c head.types none head.many fields head.reaches n rest on s all in
         record { leaves = more.leaves; are = leaves_product i j e more.are; widths = more.widths; last = more.last; show = more.show; left = more.left }
 
     fields_shown : {fs : List TypeTree} {σ : Substitution} {ls : List Leaf} {ins more : List Input} {on th : Thunk} → LeavesOfAll p.datas fs σ ls → FieldsGiven p.datas fs σ on ins th more → (c : ℕ) (ts : TypeTrees) (ths : Thunks) → length (list_of ts) ≡ takes_types p.datas (con_head c) → count_of ths + length fs ≡ takes_thunks p.datas (con_head c) → Reaches p c h on ts ths

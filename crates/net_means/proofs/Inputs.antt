@@ -20,16 +20,14 @@ use Rattle.rule_types.specs.States.{IsTypedState}
 use Rattle.chw_layout.specs.Datum.{Datum}
 use Rattle.chw_layout.specs.EncodingPromises.{EncodingHasWidth}
 use Rattle.chw_layout.specs.Encodes.{IsValueOf}
-use Rattle.chw_layout.proofs.Encodings.{encoded_value}
 use Rattle.layout_laws.specs.LeavesAgree.{AreStreams}
-use Rattle.layout_laws.proofs.LeavesAgree.{streams_give}
 use Rattle.chw_meaning.specs.Gives.{Input, stream_in, PortGiven}
 use Rattle.chw_meaning.specs.Means.{Decoded, decoded_none, decoded_and, Streams, no_streams, stream_and, stream_of_one, LeadsFrom, leads_to, leads_from, Fit}
 use Rattle.chw_meaning.specs.Values.{History, Thunk, none}
-use Rattle.chw_meaning.proofs.Once.{same_some}
-use Rattle.chw_meaning.proofs.ZerosEncoded.{zero_bits}
 use Rattle.carrying.specs.TermLaws.{onto, under_lambdas}
 use Rattle.net_built.specs.Terms.{Variable}
+use Rattle.net_grounds.specs.Facts.{Facts}
+use Rattle.net_means.proofs.Lists.{same_some}
 use Rattle.net_means.specs.NetFits.Laws.{BeginsWithTop}
 use Rattle.net_means.specs.CircuitBits.Instances.{Design, HaveBits, NoLambda, Parameters}
 use Rattle.net_means.specs.NetBits.Whole.{InputsHaveBits}
@@ -46,9 +44,9 @@ all_alike P zero x one = tt
 all_alike P (suc n) x one = (one, all_alike P n x one)
 
 -- the items of a stream are values of the leaf
-decoded_values : {datas : List Data} {t : TypeTree} {i : ℕ} {h : History} {ds : List Datum} → Decoded datas t i h ds → AllByRecursion (IsValueOf datas t) ds
-decoded_values decoded_none = tt
-decoded_values {datas} {t} (decoded_and {d = d} {ds = ds} at x more) = all_and (IsValueOf datas t) ds d (decoded_values more) (encoded_value x)
+decoded_values : Facts → {datas : List Data} {t : TypeTree} {i : ℕ} {h : History} {ds : List Datum} → Decoded datas t i h ds → AllByRecursion (IsValueOf datas t) ds
+decoded_values facts decoded_none = tt
+decoded_values facts {datas} {t} (decoded_and {d = d} {ds = ds} at x more) = all_and (IsValueOf datas t) ds d (decoded_values facts more) (facts.encodings.encoded_value x)
 
 -- the streams of the first leaves, and those of the others
 record Taken (datas : List Data) (ls rest : List Leaf) (h : History) (ins : List Input) : Type 0 where
@@ -59,15 +57,15 @@ record Taken (datas : List Data) (ls rest : List Leaf) (h : History) (ins : List
   each : AreStreams datas ls streams
   others : Streams datas rest next h more
 
-taken : {datas : List Data} (ls rest : List Leaf) {i : ℕ} {h : History} {ins : List Input} → Streams datas (ls ++ rest) i h ins → Taken datas ls rest h ins
-taken [] rest {i = i} {ins = ins} s = record { streams = []; more = ins; next = i; are = refl; each = tt; others = s }
-taken (l ∷ ls) rest (stream_and {ds = ds} has decoded s) =
-    let t = taken ls rest s in
-    record { streams = ds ∷ t.streams; more = t.more; next = t.next; are = ap (λ ins. stream_in ds ∷ ins) t.are; each = (decoded_values decoded, t.each); others = t.others }
-taken {datas} (l ∷ ls) rest (stream_of_one {h = h} {z = z} has is s) =
-    let t = taken ls rest s in
+taken : Facts → {datas : List Data} (ls rest : List Leaf) {i : ℕ} {h : History} {ins : List Input} → Streams datas (ls ++ rest) i h ins → Taken datas ls rest h ins
+taken facts [] rest {i = i} {ins = ins} s = record { streams = []; more = ins; next = i; are = refl; each = tt; others = s }
+taken facts (l ∷ ls) rest (stream_and {ds = ds} has decoded s) =
+    let t = taken facts ls rest s in
+    record { streams = ds ∷ t.streams; more = t.more; next = t.next; are = ap (λ ins. stream_in ds ∷ ins) t.are; each = (decoded_values facts decoded, t.each); others = t.others }
+taken facts {datas} (l ∷ ls) rest (stream_of_one {h = h} {z = z} has is s) =
+    let t = taken facts ls rest s in
     let ds : List Datum = replicate (length h) z in
-    record { streams = ds ∷ t.streams; more = t.more; next = t.next; are = ap (λ ins. stream_in ds ∷ ins) t.are; each = (all_alike (IsValueOf datas l.payload) (length h) z (encoded_value (zero_bits has is)), t.each); others = t.others }
+    record { streams = ds ∷ t.streams; more = t.more; next = t.next; are = ap (λ ins. stream_in ds ∷ ins) t.are; each = (all_alike (IsValueOf datas l.payload) (length h) z (facts.encodings.encoded_value (facts.encodings.zero_bits has is)), t.each); others = t.others }
 
 -- thunks for the parameters
 pub record Inputs (datas : List Data) (t : TypeTree) (ls outs : List Leaf) (ins : List Input) : Type 0 where
@@ -78,32 +76,32 @@ pub record Inputs (datas : List Data) (t : TypeTree) (ls outs : List Leaf) (ins 
 no_more : {datas : List Data} {i : ℕ} {h : History} {ins : List Input} → Streams datas [] i h ins → ins ≡ []
 no_more no_streams = refl
 
-inputs_there : {datas : List Data} {t : TypeTree} {ls outs : List Leaf} {i : ℕ} {h : History} {ins : List Input} → LeadsFrom datas t ls outs → Streams datas ls i h ins → Inputs datas t ls outs ins
-inputs_there {datas} {t} {outs = outs} (leads_to l) s =
+inputs_there : Facts → {datas : List Data} {t : TypeTree} {ls outs : List Leaf} {i : ℕ} {h : History} {ins : List Input} → LeadsFrom datas t ls outs → Streams datas ls i h ins → Inputs datas t ls outs ins
+inputs_there facts {datas} {t} {outs = outs} (leads_to l) s =
     record { thunks = []; result = t; given = subst (λ ins. InputsGiven datas t [] ins [] t outs) (sym (no_more s)) (no_inputs l) }
-inputs_there {datas} (leads_from {a = a} {ls = ls} {ins = rest} l more) s =
-    let first = taken ls rest s in
-    let port = streams_give l first.streams first.more first.each in
-    let others = inputs_there more first.others in
+inputs_there facts {datas} (leads_from {a = a} {ls = ls} {ins = rest} l more) s =
+    let first = taken facts ls rest s in
+    let port = facts.ports.streams_give l first.streams first.more first.each in
+    let others = inputs_there facts more first.others in
     let given : PortGiven datas a _ port.0 first.more = subst (λ ins. PortGiven datas a ins port.0 first.more) (sym first.are) port.1 in
     record { thunks = port.0 ∷ others.thunks; result = others.result; given = input_and l given others.given }
 
-module _ (wide : EncodingHasWidth) (values : SameValues) (keep : FieldsKeepSame) (d : Design) (top : Made) (last : History) (typed : IsTypedState d.program d.state) (begins : BeginsWithTop d.program d.state) (is_top : slice_get d.state 0 ≡ Some top) (fit : Fit d.program last) where
+module _ (facts : Facts) (wide : EncodingHasWidth) (values : SameValues) (keep : FieldsKeepSame) (d : Design) (top : Made) (last : History) (typed : IsTypedState d.program d.state) (begins : BeginsWithTop d.program d.state) (is_top : slice_get d.state 0 ≡ Some top) (fit : Fit d.program last) where
   leads : LeadsFrom d.program.datas top.ty fit.are_ports.ins fit.are_ports.outs
   leads = subst (λ t. LeadsFrom d.program.datas t fit.are_ports.ins fit.are_ports.outs) (sym (begins.type top fit.are_ports.it is_top fit.are_ports.top.held)) fit.are_ports.top.leads
 
   pub inputs : Inputs d.program.datas top.ty fit.are_ports.ins fit.are_ports.outs fit.streams
-  inputs = inputs_there leads fit.decode
+  inputs = inputs_there facts leads fit.decode
 
   scope_has : (later : History) (present : Event) (past : History) (params : List TypeTree) (e : TermTree) (scope : List Variable) → last ≡ later ++ present ∷ past → FitsPorts d.net.ports (present ∷ past) → top.body ≡ under_lambdas params e → NoLambda e → Parameters d.program.datas Circuit zero params [] scope
       → ScopeHas d.program d.net (present ∷ past) scope (onto inputs.thunks none)
   scope_has later present past params e scope is fits body plain parameters =
       let made = typed.each 0 top is_top in
       let form = d.normal.bodies 0 top is_top in
-      parameters_have (origins_in d.program d.state) d.net (present ∷ past) values keep d.sound e none parameters plain
+      parameters_have facts (origins_in d.program d.state) d.net (present ∷ past) values keep d.sound e none parameters plain
       (subst (λ b. UnderLambdas [] b top.ty form.path form.vars form.inner) body form.under)
       (subst (λ b. HasType (setting_at (origins_in d.program d.state)) [] [] b form.typed.type) body form.typed.has)
-      form.typed.same made.closed.has inputs.given (streams_show wide d.net fit.decode later present past is fits) (λ x k it ws known its below. absurd cc)
+      form.typed.same made.closed.has inputs.given (streams_show facts wide d.net fit.decode later present past is fits) (λ x k it ws known its below. absurd cc)
 
   pub have : InputsHaveBits d inputs.thunks last
   have h it params e scope past fits known body plain parameters = by h past.0 past.1 fits

@@ -7,7 +7,6 @@ use Rattle.chw_types.specs.Ports.{Leaves}
 use Rattle.chw_types.specs.TypeTree.{TypeTree}
 use Rattle.chw_terms.specs.declared.program.Program.{Program}
 use Rattle.chw_terms.specs.declared.scene.Sort.TheVariants.{Circuit}
-use Rattle.layout_laws.proofs.LeavesAgree.{leaves_agree}
 use Rattle.chw_meaning.specs.Gives.{Input, LeafOf}
 use Rattle.chw_meaning.specs.Values.{History, Thunk}
 use Rattle.carrying.specs.Carrying.{Shows, shows_nothing}
@@ -16,6 +15,7 @@ use Rattle.use_laws.specs.ValueIn.{ValueIn}
 use Rattle.net_built.specs.Data.{HaveWidths, HasParts, port_parts}
 use Rattle.net_built.specs.Wires.{wire, wires_from, wire_count}
 use Rattle.cell_bits.specs.Bearing.{Bears, bears_nothing, bears_bits}
+use Rattle.net_grounds.specs.Facts.{Facts}
 use Rattle.net_means.specs.CircuitBits.Leaves.{part_wires, LeafHas}
 use Rattle.net_means.proofs.CircuitBits.FieldLeaves.{as_many_leaves}
 use Rattle.net_means.proofs.Given.{LeavesShow, no_leaves_show, empty_leaf_shows, wide_leaf_shows, PortShown}
@@ -36,7 +36,7 @@ wire_bears : {net : Net} {h : History} (n w : ℕ) (bits : List Bool) → ValueI
 wire_bears n w [] v e = absurd (omega (arith, e))
 wire_bears n w (bit ∷ bits) v e = bears_bits v
 
-module _ {p : Program} {net : Net} {h : History} where
+module _ (facts : Facts) {p : Program} {net : Net} {h : History} where
   -- so many wires have been passed
   pub last_counted : {n k : ℕ} {ms : List LeafOf} {ws : List ℕ} → LeavesShow p net h n ms ws k → k ≡ n + wire_count ws
   last_counted no_leaves_show = omega arith
@@ -59,14 +59,14 @@ module _ {p : Program} {net : Net} {h : History} where
       record { bits = bits; shows = subst (λ (m : LeafOf). Shows p m.payload m.thunk h bits) is s; bears = wire_bears n w bits v long }
   leaf_shown (wide_leaf_shows has s v long more) (suc k) leaf e = leaf_shown more k leaf e
 
-  pub parts_shown : {n : ℕ} {t : TypeTree} {th : Thunk} {ls rest : List Leaf} {more : List Input} → Leaves p.datas t ls → (s : PortShown p net h n t th rest more) → HasParts p.datas Circuit t s.widths
-  parts_shown l s = port_parts l (subst (λ ts. HaveWidths p.datas ts s.widths) (leaves_agree l s.are) (show_widths s.show))
+  pub parts_shown : {n : ℕ} {t : TypeTree} {th : Thunk} {ls rest : List Leaf} {more : List Input} → Leaves p.datas t ls → (s : PortShown facts p net h n t th rest more) → HasParts p.datas Circuit t s.widths
+  parts_shown l s = port_parts l (subst (λ ts. HaveWidths p.datas ts s.widths) (facts.ports.leaves_agree l s.are) (show_widths s.show))
 
   -- so a port that is given has its bits at each leaf, on wires from some number on
-  pub port_leaf : {n : ℕ} {t : TypeTree} {th : Thunk} {ls rest : List Leaf} {more : List Input} → Leaves p.datas t ls → (s : PortShown p net h n t th rest more) → (k : ℕ) → k < length s.widths → LeafHas p net [] h t th (wires_from n (wire_count s.widths)) k
+  pub port_leaf : {n : ℕ} {t : TypeTree} {th : Thunk} {ls rest : List Leaf} {more : List Input} → Leaves p.datas t ls → (s : PortShown facts p net h n t th rest more) → (k : ℕ) → k < length s.widths → LeafHas p net [] h t th (wires_from n (wire_count s.widths)) k
   port_leaf l s k below =
       let parts = parts_shown l s in
-      let many : length s.leaves ≡ length s.widths = as_many_leaves parts s.are in
+      let many : length s.leaves ≡ length s.widths = as_many_leaves facts parts s.are in
       let at = at_index s.leaves k (omega (arith, below, many)) in
       let has = leaf_shown s.show k at.0 at.1 in
       record {

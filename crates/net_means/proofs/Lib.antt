@@ -4,6 +4,7 @@ pub mod Ends
 pub mod Given
 pub mod Inputs
 pub mod LeafBits
+pub mod Lists
 pub mod MaybePairs
 pub mod Means
 pub mod NetBits
@@ -12,7 +13,9 @@ pub mod NetWidths
 pub mod OneOutput
 pub mod Outputs
 pub mod Parameters
+pub mod Pieces
 pub mod Products
+pub mod References
 pub mod SideBits
 pub mod Streams
 pub mod Tops

@@ -9,7 +9,6 @@ use Rattle.chw_types.specs.Ports.{Leaves}
 use Rattle.chw_types.specs.SamePromises.{SameValues}
 use Rattle.chw_types.specs.SameTypes.{SameTypes}
 use Rattle.chw_types.specs.TypeTree.{no_types}
-use Rattle.chw_types.proofs.SameLaws.{same_turned}
 use Rattle.type_laws.specs.SameKept.{FieldsKeepSame}
 use Rattle.chw_terms.specs.declared.program.Program.{Program}
 use Rattle.chw_terms.specs.declared.scene.Made.{Made}
@@ -19,8 +18,6 @@ use Rattle.chw_terms.specs.TermTree.{TermTree, global}
 use Rattle.chw_typing.specs.Programs.{IsSound, setting_of}
 use Rattle.chw_typing.specs.Scopes.{Setting, HasKind, IsTermType}
 use Rattle.chw_typing.specs.Typing.{HasType}
-use Rattle.chw_typing.proofs.Kinded.{type_kinded}
-use Rattle.chw_typing.proofs.Lists.{found_in_map, found_before_map}
 use Rattle.chw_typing.specs.Alike.{AreLike}
 use Rattle.rewriting.specs.Named.{UnderLambdas}
 use Rattle.rewriting.specs.Origins.{setting_at, with_origins}
@@ -29,11 +26,9 @@ use Rattle.rule_types.specs.States.{IsTypedState}
 use Rattle.chw_layout.specs.Encodes.{Encodes}
 use Rattle.chw_layout.specs.EncodingPromises.{EncodingHasWidth}
 use Rattle.layout_laws.specs.LeavesAgree.{payloads, result_payloads}
-use Rattle.layout_laws.proofs.LeavesAgree.{leaves_agree, leaves_there}
 use Rattle.chw_meaning.specs.Gives.{Better, Gives, LeafOf, leaves_port}
 use Rattle.chw_meaning.specs.Means.{Fit, Means}
 use Rattle.chw_meaning.specs.Values.{History, Thunk, none, closed, thunk_at}
-use Rattle.chw_meaning.proofs.Once.{same_some}
 use Rattle.carrying.specs.TermLaws.{onto, on_thunks, under_lambdas}
 use Rattle.carrying.specs.YieldLaws.{ShownIsYielded}
 use Rattle.netlist.specs.NetValue.{NetValue}
@@ -51,7 +46,8 @@ use Rattle.net_built.specs.Modules.{IsModuleOf}
 use Rattle.net_built.specs.Data.{HaveWidths, HasParts, port_parts}
 use Rattle.net_built.specs.Terms.{Variable}
 use Rattle.net_built.specs.Wires.{wire_count}
-use Rattle.net_built.proofs.Parts.{parts_once}
+use Rattle.net_grounds.specs.Facts.{Facts}
+use Rattle.net_means.proofs.Lists.{found_in_map, found_before_map, same_some}
 use Rattle.net_means.specs.NetFits.Laws.{BeginsWithTop}
 use Rattle.cell_bits.specs.Bearing.{Bears, bears_bits}
 use Rattle.net_means.proofs.SideBits.Operands.{sound_alone, var_at}
@@ -89,7 +85,7 @@ same_payload ls ms k l m same at there =
     (ap (λ ts. slice_get ts k) same ∙ found_in_map (λ (l : Leaf). l.payload) ls k l at)
 
 -- what the outputs of the top's module are at a history of the program
-module _ (all : AllHaveBits) (wide : EncodingHasWidth) (values : SameValues) (keep : FieldsKeepSame) (yielded : ShownIsYielded) (d : Design) (flat : Flat) (places : List ℕ) (formed : WellFormed d.net) (is_flat : IsFlatOf d.net flat) (sound : Sound flat) (order : IsOrder flat places) (it : Made) (typed : IsTypedState d.program d.state) (begins : BeginsWithTop d.program d.state) (first : slice_get d.state 0 ≡ Some it) (of : IsModuleOf (ground_of d.program d.built.order) it is_flat.m) (h : History) (fit : Fit d.program h) (fits : FitsPorts d.net.ports h) where
+module _ (facts : Facts) (all : AllHaveBits) (wide : EncodingHasWidth) (values : SameValues) (keep : FieldsKeepSame) (yielded : ShownIsYielded) (d : Design) (flat : Flat) (places : List ℕ) (formed : WellFormed d.net) (is_flat : IsFlatOf d.net flat) (sound : Sound flat) (order : IsOrder flat places) (it : Made) (typed : IsTypedState d.program d.state) (begins : BeginsWithTop d.program d.state) (first : slice_get d.state 0 ≡ Some it) (of : IsModuleOf (ground_of d.program d.built.order) it is_flat.m) (h : History) (fit : Fit d.program h) (fits : FitsPorts d.net.ports h) where
   abbrev s : Setting
   s = setting_at (origins_in d.program d.state)
 
@@ -97,7 +93,7 @@ module _ (all : AllHaveBits) (wide : EncodingHasWidth) (values : SameValues) (ke
   alone = sound_alone (origins_in d.program d.state) d.sound
 
   abbrev given : Inputs d.program.datas it.ty fit.are_ports.ins fit.are_ports.outs fit.streams
-  given = inputs wide values keep d it h typed begins first fit
+  given = inputs facts wide values keep d it h typed begins first fit
 
   circuit : it.sort ≡ Circuit
   circuit = begins.circuit it first
@@ -123,12 +119,12 @@ module _ (all : AllHaveBits) (wide : EncodingHasWidth) (values : SameValues) (ke
   below : BodyTyped (origins_in d.program d.state) body.scope body.term body.params given.thunks given.result
   below =
       let form = d.normal.bodies 0 it first in
-      body_typed (origins_in d.program d.state) values keep d.sound body.term parameters (block_plain built.built)
+      body_typed facts (origins_in d.program d.state) values keep d.sound body.term parameters (block_plain built.built)
       (subst (λ b. UnderLambdas [] b it.ty form.path form.vars form.inner) body.body form.under)
       (subst (λ b. HasType s [] [] b form.typed.type) body.body form.typed.has) form.typed.same tt given.given
 
   end : Ending d s h body.scope (onto given.thunks none) body.term is_flat.m.outputs below.type
-  end = block_ends d s h (onto given.thunks none) built.built built.cells built.widths below.has below.scoped (parameters_held parameters (λ x it e. absurd cc))
+  end = block_ends facts d s h (onto given.thunks none) built.built built.cells built.widths below.has below.scoped (parameters_held parameters (λ x it e. absurd cc))
 
   -- the variable that is given
   found : (v : Variable) × (slice_get end.inner end.x ≡ Some v) × (v.ty ≡ below.type)
@@ -139,11 +135,11 @@ module _ (all : AllHaveBits) (wide : EncodingHasWidth) (values : SameValues) (ke
 
   like : AreLike (setting_of d.program) v.ty given.result
   like =
-      let kinded : IsTermType s [] below.type = type_kinded end.typed d.sound end.scoped in
+      let kinded : IsTermType s [] below.type = facts.terms.type_kinded end.typed d.sound end.scoped in
       record {
         kind = kinded.kind;
         has = subst (λ u. HasKind s [] u kinded.kind) (sym found.2) kinded.has;
-        same = subst (λ u. SameTypes u given.result) (sym found.2) (same_turned below.same);
+        same = subst (λ u. SameTypes u given.result) (sym found.2) (facts.same.same_turned below.same);
       }
 
   held : (widths : List ℕ) × HasParts d.program.datas Circuit v.ty widths × (length v.wires ≡ wire_count widths)
@@ -159,7 +155,7 @@ module _ (all : AllHaveBits) (wide : EncodingHasWidth) (values : SameValues) (ke
   whole = on_thunks f given.thunks
 
   parts : HasParts d.program.datas Circuit given.result widths
-  parts = parts_along d.program h alone values keep whole held.1 like
+  parts = parts_along facts d.program h alone values keep whole held.1 like
 
   leaves : Leaves d.program.datas given.result fit.are_ports.outs
   leaves = result_leaves given.given
@@ -169,8 +165,8 @@ module _ (all : AllHaveBits) (wide : EncodingHasWidth) (values : SameValues) (ke
     where
       of_port : HasParts d.program.datas Circuit given.result widths → HaveWidths d.program.datas (payloads fit.are_ports.outs) widths
       of_port (port_parts {leaves = ls} l has) =
-          let there = leaves_there l whole in
-          subst (λ ts. HaveWidths d.program.datas ts widths) (sym (leaves_agree l there.1) ∙ leaves_agree leaves there.1) has
+          let there = facts.ports.leaves_there l whole in
+          subst (λ ts. HaveWidths d.program.datas ts widths) (sym (facts.ports.leaves_agree l there.1) ∙ facts.ports.leaves_agree leaves there.1) has
 
   outputs_are : flat.outputs ≡ v.wires
   outputs_are = is_flat.outputs ∙ end.are ∙ wires_there end.inner end.x v found.1
@@ -187,25 +183,25 @@ module _ (all : AllHaveBits) (wide : EncodingHasWidth) (values : SameValues) (ke
       let e : TermTree = with_origins d.wholes body.term in
       let on_body : HasAllOf d.program h whole (closed e (onto given.thunks none) no_types) =
       subst (λ w. HasAllOf d.program h (on_thunks (closed w none no_types) given.thunks) (closed e (onto given.thunks none) no_types)) (sym whole_is)
-      (function_follows d.program h body.params e given.thunks none no_types below.many) in
+      (function_follows facts d.program h body.params e given.thunks none no_types below.many) in
       follows_through on_body (follows_through end.follows (variable_has_all there))
 
   variable_leaf : (k : ℕ) (l : k < length flat.outputs) → VariableLeaf d.program d.net [] end.inner end.γ h end.x (output k l).number
   variable_leaf k l =
-      all d flat places given.thunks [] h h (block Circuit) end.g end.inner end.γ formed is_flat sound order (have wide values keep d it h typed begins first fit) ([], refl) fits stands end.inside end.x (output k l).number v widths found.1 held.1 (output k l).within
+      all d flat places given.thunks [] h h (block Circuit) end.g end.inner end.γ formed is_flat sound order (have facts wide values keep d it h typed begins first fit) ([], refl) fits stands end.inside end.x (output k l).number v widths found.1 held.1 (output k l).within
 
   leaf : (k : ℕ) (l : k < length flat.outputs) → LeafHas d.program d.net [] h given.result whole v.wires (output k l).number
   leaf k l =
       let its = variable_leaf k l in
       let is : its.it ≡ v = same_some its.known found.1 in
       let has : LeafHas d.program d.net [] h v.ty its.thunk v.wires (output k l).number = subst (λ (v : Variable). LeafHas d.program d.net [] h v.ty its.thunk v.wires (output k l).number) is its.has in
-      follower_has d.program d.net h values keep alone [] v.ty given.result its.thunk whole v.wires (output k l).number like (whole_follows its.thunk its.there) has
+      follower_has facts d.program d.net h values keep alone [] v.ty given.result its.thunk whole v.wires (output k l).number like (whole_follows its.thunk its.there) has
 
   value_in : (k : ℕ) (l : k < length flat.outputs) → ValueIn d.net [] h (output k l).wire.number (leaf k l).bits
   value_in k l =
       let has = leaf k l in
       let out = output k l in
-      let same : has.widths ≡ widths = parts_once has.parts parts in
+      let same : has.widths ≡ widths = facts.built.parts_once has.parts parts in
       one_value (subst (λ (ws : List WireId). Bears d.net [] h ws has.bits) out.part (subst (λ ws. Bears d.net [] h (part_wires out.number ws v.wires) has.bits) same has.bears))
 
   pub output_means : ((w : ℕ) (bits : List Bool) → w < length is_flat.m.widths → ValueIn d.net [] h w bits → NetValue flat h w bits)
@@ -252,5 +248,5 @@ module _ (all : AllHaveBits) (wide : EncodingHasWidth) (values : SameValues) (ke
         is_output = wire;
         bits = has.bits;
         has = through out.wire.number has.bits within (value_in k l);
-        encodes = subst (λ t. Encodes d.program.datas t y.datum has.bits) (same_payload fit.are_ports.outs has.is.leaves out.number out.leaf has.leaf (leaves_agree leaves has.is.are) out.is_leaf has.is.at) y.encodes;
+        encodes = subst (λ t. Encodes d.program.datas t y.datum has.bits) (same_payload fit.are_ports.outs has.is.leaves out.number out.leaf has.leaf (facts.ports.leaves_agree leaves has.is.are) out.is_leaf has.is.at) y.encodes;
       }

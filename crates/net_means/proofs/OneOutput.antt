@@ -3,10 +3,10 @@ use Rattle.std.proofs.Common.{◌≡◌, ℕ, Bool, List, subst}
 use Rattle.chw_base.specs.declared.index.WireId.{WireId}
 use Rattle.chw_clock.specs.declared.event.Event.{Event}
 use Rattle.chw_meaning.specs.Laws.{OneMeaning}
-use Rattle.chw_meaning.proofs.Once.{same_some}
 use Rattle.netlist.specs.NetValue.{NetValue}
 use Rattle.netlist.specs.Sound.{Sound}
 use Rattle.netlist.specs.declared.net.Flat.{Flat}
+use Rattle.net_means.proofs.Lists.{same_some}
 use Rattle.net_means.specs.Laws.{OutputsHaveOneMeaning}
 
 pub one_output : ((flat : Flat) (h : List Event) (w : ℕ) (a b : List Bool) → Sound flat → NetValue flat h w a → NetValue flat h w b → a ≡ b) → OneMeaning → OutputsHaveOneMeaning

@@ -16,9 +16,9 @@ use Rattle.chw_meaning.specs.Gives.{Input, stream_in}
 use Rattle.chw_meaning.specs.Means.{Decoded, decoded_none, decoded_and, Streams, no_streams, stream_and, stream_of_one}
 use Rattle.chw_meaning.specs.Values.{History, stream, item_at}
 use Rattle.carrying.specs.Carrying.{Shows}
-use Rattle.carrying.proofs.Known.{stream_shows}
 use Rattle.netlist.specs.declared.net.Net.{Net}
 use Rattle.use_laws.specs.ValueIn.{ValueIn, input}
+use Rattle.net_grounds.specs.Facts.{Facts}
 
 -- a list and one more
 in_front : {A : Type 0} (xs : List A) (y : A) (j : ℕ) (x : A) → slice_get xs j ≡ Some x → slice_get (xs ++ y ∷ []) j ≡ Some x
@@ -78,12 +78,12 @@ input_within (port ∷ ports) [] i bits h e = absurd h
 input_within (port ∷ ports) (x ∷ inputs) zero bits h e = omega arith
 input_within (port ∷ ports) (x ∷ inputs) (suc i) bits h e = let l = input_within ports inputs i bits h.1 e in omega (arith, l)
 
-pub streams_show : EncodingHasWidth → {p : Program} (net : Net) {i : ℕ} {leaves : List Leaf} {last : History} {ins : List Input} → Streams p.datas leaves i last ins → (later : History) (present : Event) (past : History) → last ≡ later ++ present ∷ past → FitsPorts net.ports (present ∷ past) → Shown p net (present ∷ past) i leaves ins
-streams_show wide net no_streams later present past e fits = nothing_shown
-streams_show wide {p} net (stream_and {leaf = leaf} {leaves = leaves} {w = w} {i = i} {ins = ins} has decoded more) later present past e fits =
+pub streams_show : Facts → EncodingHasWidth → {p : Program} (net : Net) {i : ℕ} {leaves : List Leaf} {last : History} {ins : List Input} → Streams p.datas leaves i last ins → (later : History) (present : Event) (past : History) → last ≡ later ++ present ∷ past → FitsPorts net.ports (present ∷ past) → Shown p net (present ∷ past) i leaves ins
+streams_show facts wide net no_streams later present past e fits = nothing_shown
+streams_show facts wide {p} net (stream_and {leaf = leaf} {leaves = leaves} {w = w} {i = i} {ins = ins} has decoded more) later present past e fits =
     let it = item_of decoded later present past e in
     let next : suc i ≡ i + 1 = omega arith in
-    bits_shown has (stream_shows (suc w) has it.item it.encodes) (input i present past it.bits (input_within net.ports.inputs present.inputs i it.bits fits.0.inputs it.there) it.there)
+    bits_shown has (facts.shows.stream_shows (suc w) has it.item it.encodes) (input i present past it.bits (input_within net.ports.inputs present.inputs i it.bits fits.0.inputs it.there) it.there)
     (wide p.datas leaf.payload it.datum (suc w) it.bits has it.encodes)
-    (subst (λ n. Shown p net (present ∷ past) n leaves ins) next (streams_show wide net more later present past e fits))
-streams_show wide net (stream_of_one has z more) later present past e fits = no_bits_shown has (streams_show wide net more later present past e fits)
+    (subst (λ n. Shown p net (present ∷ past) n leaves ins) next (streams_show facts wide net more later present past e fits))
+streams_show facts wide net (stream_of_one has z more) later present past e fits = no_bits_shown has (streams_show facts wide net more later present past e fits)

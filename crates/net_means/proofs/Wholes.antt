@@ -12,7 +12,7 @@ use Rattle.normal_forms.specs.Uses.{Uses, WholeOf, whole_of}
 use Rattle.chw_meaning.specs.Values.{History, Value, closure, Thunk, closed, applied, Thunks, thunk_and}
 use Rattle.chw_meaning.specs.Eval.{plus, Evals, e_lam, Forces, f_closed, f_applied, a_closure}
 use Rattle.carrying.specs.TermLaws.{onto, on_thunks, under_lambdas}
-use Rattle.carrying.proofs.Terms.{opened}
+use Rattle.net_grounds.specs.Facts.{Facts}
 use Rattle.net_means.specs.CircuitBits.Leaves.{HasAllOf}
 
 -- what stands in the state is a whole
@@ -65,5 +65,5 @@ on_all p (t ∷ params) (x ∷ xs) f e γ δ h same has n v d =
 on_all p [] (x ∷ xs) f e γ δ h same has n v d = absurd (omega (arith, same))
 on_all p (t ∷ params) [] f e γ δ h same has n v d = absurd (omega (arith, same))
 
-pub function_follows : (p : Program) (h : History) (params : List TypeTree) (e : TermTree) (xs : List Thunk) (γ : Thunks) (δ : TypeTrees) → length params ≡ length xs → HasAllOf p h (on_thunks (closed (under_lambdas params e) γ δ) xs) (closed e (onto xs γ) δ)
-function_follows p h params e xs γ δ same n v f = on_all p params xs (closed (under_lambdas params e) γ δ) e γ δ h same (λ m w d. (m, f_closed d)) n v (opened f)
+pub function_follows : Facts → (p : Program) (h : History) (params : List TypeTree) (e : TermTree) (xs : List Thunk) (γ : Thunks) (δ : TypeTrees) → length params ≡ length xs → HasAllOf p h (on_thunks (closed (under_lambdas params e) γ δ) xs) (closed e (onto xs γ) δ)
+function_follows facts p h params e xs γ δ same n v f = on_all p params xs (closed (under_lambdas params e) γ δ) e γ δ h same (λ m w d. (m, f_closed d)) n v (facts.shows.opened f)

@@ -16,15 +16,15 @@ use Rattle.chw_typing.specs.HeadTypes.{for_each, from_each}
 use Rattle.rewriting.specs.Spots.{asked_for, IsRowOnWords}
 use Rattle.chw_layout.specs.declared.outcome.NoLayout.TheVariants.{Scalar as OverScalar}
 use Rattle.chw_layout.specs.Measured.{fits, too_wide, closed_value, HasWidth}
-use Rattle.chw_layout.proofs.Measures.{scalar_measured}
+use Rattle.net_grounds.specs.Facts.{Facts}
 
 -- a scalar with a width is within the limit
 within_limit : (n : ℕ) (b : Bool) (w : ℕ) → (b ≡ true → n ≤ SCALAR_BITS) → fits w ≡ (if b then fits n else too_wide (OverScalar n)) → n ≤ SCALAR_BITS
 within_limit n true w h e = h refl
 within_limit n false w h e = absurd cc
 
-pub scalar_within : {datas : List Data} {s : Scalar} {n : TypeTree} {w : ℕ} → HasWidth datas (scalar s n) w → closed_value n ≤ SCALAR_BITS
-scalar_within {n = n} {w = w} has = within_limit (closed_value n) (nat_le (closed_value n) SCALAR_BITS) w (leb-true (closed_value n) SCALAR_BITS) (scalar_measured has)
+pub scalar_within : Facts → {datas : List Data} {s : Scalar} {n : TypeTree} {w : ℕ} → HasWidth datas (scalar s n) w → closed_value n ≤ SCALAR_BITS
+scalar_within facts {n = n} {w = w} has = within_limit (closed_value n) (nat_le (closed_value n) SCALAR_BITS) w (leb-true (closed_value n) SCALAR_BITS) (facts.measures.scalar_measured has)
 
 -- a line: the kinds that it asks for, its parameters and its result
 abbrev pub kinds_of : Row → List Kind

@@ -8,6 +8,7 @@ use carrying::laws::what_is_shown_is_yielded;
 use chw_layout::laws::encoding_width;
 use chw_meaning::laws::at_most_one_meaning;
 use chw_types::laws::same_values;
+use net_grounds::laws::facts;
 use netlist::laws::a_wire_has_one_value;
 use normal_forms::laws::one_whole;
 use rule_types::laws::steps_keep;
@@ -18,6 +19,7 @@ use use_laws::laws::bits_through_uses;
 pub fn inputs_are_given()
     ensures { InputsAreGiven }
 {
+    facts();
     encoding_width();
     same_values();
     fields_keep_same();
@@ -27,6 +29,7 @@ pub fn inputs_are_given()
 pub fn built_nets_mean()
     ensures { BuiltNetsMean }
 {
+    facts();
     all_have_bits();
     at_most_one_meaning();
     bits_through_uses();

@@ -1,13 +1,12 @@
 -- How a search for reached bindings goes on, and what it ends with.
-use Rattle.std.proofs.Common.{◌≡◌, ◌∙◌, ◌↔◌, ◌⊎◌, inl, inr, sym, ap, refl, subst, ℕ, zero, suc, ◌+◌, ◌-◌, ◌<◌, ◌≤◌, Bool, true, false, List, [], ◌∷◌, ◌++◌, length, get_or, map, take, set, replicate, Some, None, slice_get, Contains, arith, length-append}
-use Rattle.std.proofs.lemmas.Bool.{true≢false}
-use Rattle.std.proofs.lemmas.List.{length-set, length-replicate, map-append, take_more}
-use Rattle.std.proofs.lemmas.List.Elements.{Contains-append_left, Contains-append_right, Contains-append_cases, Contains-push, Contains-push_cases}
+use Rattle.std.proofs.Common.{◌≡◌, ◌∙◌, ◌⊎◌, ◌||◌, ◌==◌, inl, inr, sym, ap, refl, subst, ℕ, zero, suc, ◌+◌, ◌-◌, ◌<◌, ◌≤◌, Bool, true, false, List, [], ◌∷◌, ◌++◌, length, set, replicate, Some, None, slice_get, Contains, arith, length-append}
+use Rattle.std.proofs.lemmas.Bool.{true≢false, or_cases, eqb-true, eq-eqb}
+use Rattle.std.proofs.Math.Bool.{or-true}
+use Rattle.std.proofs.lemmas.List.{length-set, length-replicate}
+use Rattle.std.proofs.lemmas.List.Elements.{Contains-append_left, Contains-push, Contains-push_cases}
 use Rattle.std.proofs.lemmas.Option.{slice_get_within}
-use Rattle.chw_base.specs.declared.index.VarIx.{VarIx}
 use Rattle.chw_types.specs.TypeTree.{TypeTree}
 use Rattle.chw_terms.specs.declared.term.Binding.{Binding}
-use Rattle.chw_terms.specs.FreeVariables.{occurrences}
 use Rattle.chw_terms.specs.Occurs.{occurs}
 use Rattle.chw_terms.specs.TermTree.{TermTree, Group, size_of}
 use Rattle.chw_terms.specs.TermView.{group_of}
@@ -17,19 +16,15 @@ use Rattle.work_lets.specs.declared.reached.Search.{Search}
 use Rattle.work_lets.specs.Searching.{IsMarked, unmarked, NamesBinding, Noted}
 
 -- no variable
-names_none : (count i : ℕ) → NamesBinding [] count i → ⊥
-names_none count i n = let h = n.named.1 in omega (arith, h)
+names_none : (count i : ℕ) → NamesBinding (λ v. false) count i → ⊥
+names_none count i n = true≢false (sym n.named)
 
 -- one variable
-names_one : (v count i : ℕ) → NamesBinding (v ∷ []) count i → v ≡ count - 1 - i
-names_one v count i n = one n.named.0 n.named.1 n.named.2
-  where
-    one : (k : ℕ) → k < 1 → get_or (v ∷ []) k (count - 1 - i) ≡ count - 1 - i → v ≡ count - 1 - i
-    one zero l e = e
-    one (suc k) l e = absurd (omega (arith, l))
+names_one : (v count i : ℕ) → NamesBinding (λ x. v == x) count i → v ≡ count - 1 - i
+names_one v count i n = eqb-true v (count - 1 - i) n.named
 
 -- nothing is noted where no variable of the group's is there
-pub noted_none : (s : Search) → Noted s [] s
+pub noted_none : (s : Search) → Noted s (λ v. false) s
 noted_none s = record {
   count = refl;
   kept = λ i m. m;
@@ -40,7 +35,7 @@ noted_none s = record {
   left = refl;
 }
 
-pub noted_outside : (s : Search) (v : ℕ) → length s.marks.items ≤ v → Noted s (v ∷ []) s
+pub noted_outside : (s : Search) (v : ℕ) → length s.marks.items ≤ v → Noted s (λ x. v == x) s
 noted_outside s v h = record {
   count = refl;
   kept = λ i m. m;
@@ -52,7 +47,7 @@ noted_outside s v h = record {
 }
 
 -- nor where its binding is marked
-pub noted_again : (s : Search) (v place : ℕ) → v < length s.marks.items → place ≡ length s.marks.items - 1 - v → IsMarked s.marks.items place → Noted s (v ∷ []) s
+pub noted_again : (s : Search) (v place : ℕ) → v < length s.marks.items → place ≡ length s.marks.items - 1 - v → IsMarked s.marks.items place → Noted s (λ x. v == x) s
 noted_again s v place h p m = record {
   count = refl;
   kept = λ i m. m;
@@ -95,7 +90,7 @@ set_counts (true ∷ marks) (suc i) m = set_counts marks i m
 set_counts (false ∷ marks) (suc i) m = ap suc (set_counts marks i m)
 
 pub noted_new : (s s' : Search) (v place : ℕ) → v < length s.marks.items → place ≡ length s.marks.items - 1 - v → slice_get s.marks.items place ≡ Some false
-    → s'.marks.items ≡ set s.marks.items place true → s'.waiting.items ≡ s.waiting.items ++ place ∷ [] → Noted s (v ∷ []) s'
+    → s'.marks.items ≡ set s.marks.items place true → s'.waiting.items ≡ s.waiting.items ++ place ∷ [] → Noted s (λ x. v == x) s'
 noted_new s s' v place h p unset marks waiting =
     let n = length s.marks.items in
     let within : place < n = omega (arith, h, p) in
@@ -122,31 +117,31 @@ noted_new s s' v place h p unset marks waiting =
           omega (arith, long, fewer);
     }
   where
-    here : (i : ℕ) → place ≡ i → NamesBinding (v ∷ []) (length s.marks.items) i × Contains s'.waiting.items i
+    here : (i : ℕ) → place ≡ i → NamesBinding (λ x. v == x) (length s.marks.items) i × Contains s'.waiting.items i
     here i e =
-        let is : length s.marks.items - 1 - i ≡ v = omega (arith, e, p, h) in (
+        let is : v ≡ length s.marks.items - 1 - i = omega (arith, e, p, h) in (
           record {
             within = omega (arith, e, p, h);
-            named = subst (Contains (v ∷ [])) (sym is) (Contains-push [] v);
+            named = eq-eqb v (length s.marks.items - 1 - i) is;
           },
           subst (Contains s'.waiting.items) e (subst (λ ws. Contains ws place) (sym waiting) (Contains-push s.waiting.items place)),
         )
 
--- some variables and then others
-pub noted_both : (s s' s'' : Search) (xs ys : List ℕ) → Noted s xs s' → Noted s' ys s'' → Noted s (xs ++ ys) s''
-noted_both s s' s'' xs ys a b = record {
+-- the variables of one test and then those of another
+pub noted_both : (s s' s'' : Search) (f g : ℕ → Bool) → Noted s f s' → Noted s' g s'' → Noted s (λ v. f v || g v) s''
+noted_both s s' s'' f g a b = record {
   count = b.count ∙ a.count;
   kept = λ i m. b.kept i (a.kept i m);
-  all = λ i n. elim (Contains-append_cases xs ys (length s.marks.items - 1 - i) n.named) [
+  all = λ i n. elim (or_cases (f (length s.marks.items - 1 - i)) (g (length s.marks.items - 1 - i)) n.named) [
     | inl c ↦ b.kept i (a.all i (record { within = n.within; named = c }))
-    | inr c ↦ b.all i (subst (λ count. NamesBinding ys count i) (sym a.count) (record { within = n.within; named = c }))
+    | inr c ↦ b.all i (subst (λ count. NamesBinding g count i) (sym a.count) (record { within = n.within; named = c }))
   ];
   new = λ i m. elim (b.new i m) [
     | inl old ↦ elim (a.new i old) [
       | inl older ↦ inl older
-      | inr n ↦ inr (more i xs ys n.0 (λ c. Contains-append_left xs ys _ c), b.wait i n.1)
+      | inr n ↦ inr (first i n.0, b.wait i n.1)
     ]
-    | inr n ↦ inr (more i ys xs (subst (λ count. NamesBinding ys count i) a.count n.0) (λ c. Contains-append_right xs ys _ c), n.1)
+    | inr n ↦ inr (second i (subst (λ count. NamesBinding g count i) a.count n.0), n.1)
   ];
   wait = λ i w. b.wait i (a.wait i w);
   marked = λ i w. elim (b.marked i w) [
@@ -156,8 +151,11 @@ noted_both s s' s'' xs ys a b = record {
   left = b.left ∙ a.left;
 }
   where
-    more : (i : ℕ) (us vs : List ℕ) → NamesBinding us (length s.marks.items) i → (Contains us (length s.marks.items - 1 - i) → Contains (xs ++ ys) (length s.marks.items - 1 - i)) → NamesBinding (xs ++ ys) (length s.marks.items) i
-    more i us vs n f = record { within = n.within; named = f n.named }
+    first : (i : ℕ) → NamesBinding f (length s.marks.items) i → NamesBinding (λ v. f v || g v) (length s.marks.items) i
+    first i n = record { within = n.within; named = ap (λ c. c || g (length s.marks.items - 1 - i)) n.named }
+
+    second : (i : ℕ) → NamesBinding g (length s.marks.items) i → NamesBinding (λ v. f v || g v) (length s.marks.items) i
+    second i n = record { within = n.within; named = ap (λ c. f (length s.marks.items - 1 - i) || c) n.named ∙ or-true (f (length s.marks.items - 1 - i)) }
 
 -- what the search has found: each marked binding is reached, and each that a looked at term names is marked
 pub record Searches (g : Group) (e : TermTree) (s : Search) : Type 0 where
@@ -174,14 +172,11 @@ none_marked zero i m = let e : None ≡ Some true = m in absurd cc
 none_marked (suc n) zero m = let e : Some false ≡ Some true = m in let f : true ≡ false = cc in true≢false f
 none_marked (suc n) (suc i) m = none_marked n i m
 
-abbrev AreOccurring : Type 0
-AreOccurring = (e : TermTree) (x : ℕ) → Contains (occurrences e) x ↔ (occurs e x ≡ true)
-
 none_waits : (i : ℕ) → Contains [] i → ⊥
 none_waits i w = let h = w.1 in omega (arith, h)
 
-pub searches_first : AreOccurring → (g : Group) (e : TermTree) (s s' : Search) → s.marks.items ≡ replicate (size_of g) false → s.waiting.items ≡ [] → Noted s (occurrences e) s' → Searches g e s'
-searches_first free g e s s' marks waiting n =
+pub searches_first : (g : Group) (e : TermTree) (s s' : Search) → s.marks.items ≡ replicate (size_of g) false → s.waiting.items ≡ [] → Noted s (occurs e) s' → Searches g e s'
+searches_first g e s s' marks waiting n =
     let count : length s.marks.items ≡ size_of g = ap length marks ∙ length-replicate (size_of g) false in
     let unmarked_first : (i : ℕ) → IsMarked s.marks.items i → ⊥ = λ i m. none_marked (size_of g) i (subst (λ ms. IsMarked ms i) marks m) in
     let unwaiting : (i : ℕ) → Contains s.waiting.items i → ⊥ = λ i w. none_waits i (subst (λ ws. Contains ws i) waiting w) in
@@ -189,28 +184,28 @@ searches_first free g e s s' marks waiting n =
       each_one = n.count ∙ count;
       reached = λ i m. elim (n.new i m) [
         | inl old ↦ absurd (unmarked_first i old)
-        | inr w ↦ let names = subst (λ k. NamesBinding (occurrences e) k i) count w.0 in from_body names.within ((free e (size_of g - 1 - i)).0 names.named)
+        | inr w ↦ let names = subst (λ k. NamesBinding (occurs e) k i) count w.0 in from_body names.within names.named
       ];
-      body = λ i l o. n.all i (subst (λ k. NamesBinding (occurrences e) k i) (sym count) (record { within = l; named = (free e (size_of g - 1 - i)).1 o }));
+      body = λ i l o. n.all i (subst (λ k. NamesBinding (occurs e) k i) (sym count) (record { within = l; named = o }));
       sides = λ j b m at. elim (n.new j m) [ inl old ↦ absurd (unmarked_first j old) | inr w ↦ inl w.1 ];
       waits = λ i w. elim (n.marked i w) [ inl old ↦ absurd (unwaiting i old) | inr m ↦ m ];
     }
 
 -- the last that waits is looked at
-pub searches_next : AreOccurring → (g : Group) (e : TermTree) (s t s' : Search) (place : ℕ) (b : TypeTree × TermTree) → Searches g e s
+pub searches_next : (g : Group) (e : TermTree) (s t s' : Search) (place : ℕ) (b : TypeTree × TermTree) → Searches g e s
     → t.marks.items ≡ s.marks.items → s.waiting.items ≡ t.waiting.items ++ place ∷ [] → binding_at g place ≡ Some b
-    → Noted t (occurrences b.1) s' → Searches g e s'
-searches_next free g e s t s' place b h same popped at n =
+    → Noted t (occurs b.1) s' → Searches g e s'
+searches_next g e s t s' place b h same popped at n =
     let count : length t.marks.items ≡ size_of g = ap length same ∙ h.each_one in
     let here : IsMarked s.marks.items place = h.waits place (subst (λ ws. Contains ws place) (sym popped) (Contains-push t.waiting.items place)) in
     let keeps : (i : ℕ) → IsMarked s.marks.items i → IsMarked s'.marks.items i = λ i m. n.kept i (subst (λ ms. IsMarked ms i) (sym same) m) in
     let looked : (i : ℕ) → i < size_of g → occurs b.1 (size_of g - 1 - i) ≡ true → IsMarked s'.marks.items i =
-    λ i l o. n.all i (subst (λ k. NamesBinding (occurrences b.1) k i) (sym count) (record { within = l; named = (free b.1 (size_of g - 1 - i)).1 o })) in
+    λ i l o. n.all i (subst (λ k. NamesBinding (occurs b.1) k i) (sym count) (record { within = l; named = o })) in
     record {
       each_one = n.count ∙ count;
       reached = λ i m. elim (n.new i m) [
         | inl old ↦ h.reached i (subst (λ ms. IsMarked ms i) same old)
-        | inr w ↦ let names = subst (λ k. NamesBinding (occurrences b.1) k i) count w.0 in from_side (h.reached place here) at names.within ((free b.1 (size_of g - 1 - i)).0 names.named)
+        | inr w ↦ let names = subst (λ k. NamesBinding (occurs b.1) k i) count w.0 in from_side (h.reached place here) at names.within names.named
       ];
       body = λ i l o. keeps i (h.body i l o);
       sides = λ j c m side. elim (n.new j m) [
@@ -233,9 +228,9 @@ searches_next free g e s t s' place b h same popped at n =
     one_binding j c is side = let e : Some c ≡ Some b = sym side ∙ ap (binding_at g) (sym is) ∙ at in cc
 
 -- fewer are unmarked or wait
-pub searches_less : (s t s' : Search) (place : ℕ) (xs : List ℕ) → t.marks.items ≡ s.marks.items → s.waiting.items ≡ t.waiting.items ++ place ∷ [] → Noted t xs s'
+pub searches_less : (s t s' : Search) (place : ℕ) (test : ℕ → Bool) → t.marks.items ≡ s.marks.items → s.waiting.items ≡ t.waiting.items ++ place ∷ [] → Noted t test s'
     → unmarked s'.marks.items + length s'.waiting.items < unmarked s.marks.items + length s.waiting.items
-searches_less s t s' place xs same popped n =
+searches_less s t s' place test same popped n =
     let long : length s.waiting.items ≡ length t.waiting.items + 1 = ap length popped ∙ length-append t.waiting.items (place ∷ []) in
     let marks : unmarked t.marks.items ≡ unmarked s.marks.items = ap unmarked same in
     omega (arith, long, marks, n.left)
@@ -273,9 +268,3 @@ pub found_at : (bs : List Binding) (i : ℕ) → i < length bs → (b : Binding)
 found_at [] i h = absurd (omega (arith, h))
 found_at (b ∷ bs) zero h = (b, refl)
 found_at (b ∷ bs) (suc i) h = found_at bs i (omega (arith, h))
-
--- the loop over variables, at one
-pub noted_next : (s s' s'' : Search) (vs : List VarIx) (i : ℕ) (d : VarIx) → i < length vs → Noted s (map (λ v. v.number) (take i vs)) s' → Noted s' ((get_or vs i d).number ∷ []) s'' → Noted s (map (λ v. v.number) (take (i + 1) vs)) s''
-noted_next s s' s'' vs i d h a b =
-    subst (λ xs. Noted s xs s'') (sym (ap (map (λ v. v.number)) (take_more vs i d h) ∙ map-append (λ v. v.number) (take i vs) (get_or vs i d ∷ [])))
-    (noted_both s s' s'' (map (λ v. v.number) (take i vs)) ((get_or vs i d).number ∷ []) a b)

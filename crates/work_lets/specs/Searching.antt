@@ -3,7 +3,7 @@ use Rattle.std.specs.Prelude.{◌≡◌, ℕ, suc, ◌+◌, ◌-◌, ◌<◌, �
 use Rattle.std.specs.Prelude.{List, [], ◌∷◌, length, Contains, Some}
 use Rattle.std.specs.List.{slice_get}
 use Rattle.chw_terms.specs.declared.term.Binding.{Binding}
-use Rattle.chw_terms.specs.FreeVariables.{occurrences}
+use Rattle.chw_terms.specs.Occurs.{occurs}
 use Rattle.work_lets.specs.declared.reached.Search.{Search}
 
 -- the binding of this place is marked
@@ -16,19 +16,24 @@ unmarked [] = 0
 unmarked (true ∷ marks) = unmarked marks
 unmarked (false ∷ marks) = suc (unmarked marks)
 
--- one of these variables is that of the binding of this place; the last binding has the variable 0
-pub record NamesBinding (variables : List ℕ) (count i : ℕ) : Type 0 where
-  pub within : i < count
-  pub named : Contains variables (count - 1 - i)
+-- what a test of variables under n binders tells of a variable, as it is called outside of them
+abbrev pub beyond : (ℕ → Bool) → ℕ → ℕ → Bool
+beyond test n v = test (v + n)
 
--- the bindings that these variables name were marked, and those of them that weren't before wait
-pub record Noted (s : Search) (variables : List ℕ) (s' : Search) : Type 0 where
+-- the variable of the binding of this place passes a test; the last binding has the variable 0
+pub record NamesBinding (test : ℕ → Bool) (count i : ℕ) : Type 0 where
+  pub within : i < count
+  pub named : test (count - 1 - i) ≡ true
+
+-- the bindings of which the variables pass a test were marked, and those of them that weren't
+-- before wait
+pub record Noted (s : Search) (test : ℕ → Bool) (s' : Search) : Type 0 where
   pub count : length s'.marks.items ≡ length s.marks.items
   pub kept : (i : ℕ) → IsMarked s.marks.items i → IsMarked s'.marks.items i
-  pub all : (i : ℕ) → NamesBinding variables (length s.marks.items) i → IsMarked s'.marks.items i
+  pub all : (i : ℕ) → NamesBinding test (length s.marks.items) i → IsMarked s'.marks.items i
   pub new : (i : ℕ) → IsMarked s'.marks.items i
       → IsMarked s.marks.items i
-      ⊎ (NamesBinding variables (length s.marks.items) i × Contains s'.waiting.items i)
+      ⊎ (NamesBinding test (length s.marks.items) i × Contains s'.waiting.items i)
   pub wait : (i : ℕ) → Contains s.waiting.items i → Contains s'.waiting.items i
   pub marked : (i : ℕ) → Contains s'.waiting.items i
       → Contains s.waiting.items i ⊎ IsMarked s'.marks.items i
@@ -38,4 +43,4 @@ pub record Noted (s : Search) (variables : List ℕ) (s' : Search) : Type 0 wher
 -- the same of the variables that occur in the right side at a place
 abbrev pub NotedSide : List Binding → ℕ → Search → Search → Type 0
 NotedSide bindings place s s' =
-    (b : Binding) → slice_get bindings place ≡ Some b → Noted s (occurrences b.body) s'
+    (b : Binding) → slice_get bindings place ≡ Some b → Noted s (occurs b.body) s'

@@ -46,14 +46,14 @@ pub(crate) fn closing_of(alloc: Global, marks: &[bool]) -> Result<Closing, NoMem
 }
 
 // The place under so many more binders.
-fn deeper(place: u32, binders: u32) -> Result<u32, NoMemory>
+pub(crate) fn deeper(place: u32, binders: u32) -> Result<u32, NoMemory>
     ensures { IfOk result (λ n. n ≡ place + binders) }
 {
     place.checked_add(binders).ok_or(NoMemory)
 }
 
 // How many bindings there are.
-fn count(bindings: &[Binding]) -> Result<u32, NoMemory>
+pub(crate) fn count(bindings: &[Binding]) -> Result<u32, NoMemory>
     ensures { IfOk result (λ n. n ≡ length bindings.now) }
 {
     narrow(bindings.len())

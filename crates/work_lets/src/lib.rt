@@ -6,6 +6,7 @@ mod closing;
 mod dead;
 mod groups;
 mod inline;
+mod noting;
 mod reached;
 pub mod trial;
 

@@ -1,13 +1,13 @@
 //! Which bindings of a letrec its body reaches.
-ghost use Rattle.std.specs.Prelude.{◌<◌, [], ◌∷◌, map, length, IfOk, OnOk};
-ghost use Rattle.chw_terms.specs.FreeVariables.{occurrences};
+ghost use Rattle.std.specs.Prelude.{◌<◌, ◌==◌, length, IfOk, OnOk};
+ghost use Rattle.chw_terms.specs.Occurs.{occurs};
 ghost use Rattle.chw_terms.specs.TermView.{group_of};
 ghost use Rattle.rewriting.specs.Lets.{MarksReached};
 ghost use Rattle.work_lets.specs.Searching.{Noted, NotedSide};
 
+use crate::noting::note_term;
 use chw_base::{NoMemory, VarIx};
 use chw_terms::{Binding, Term};
-use free_variables::occurring_in;
 use std::alloc::Global;
 
 /// How far the search for reached bindings has come.
@@ -20,8 +20,8 @@ pub(crate) struct Search {
 }
 
 // Marks the binding of a variable, where it is one of the letrec's. The first time it waits to be looked at.
-fn note(at: VarIx, search: &mut Search) -> Result<(), NoMemory>
-    ensures { OnOk result (Noted search.old (at.number ∷ []) search.new) }
+pub(crate) fn note(at: VarIx, search: &mut Search) -> Result<(), NoMemory>
+    ensures { OnOk result (Noted search.old (λ v. at.number == v) search.new) }
 {
     let count = search.marks.len();
     let number = at.number as usize;
@@ -37,36 +37,19 @@ fn note(at: VarIx, search: &mut Search) -> Result<(), NoMemory>
     Ok(())
 }
 
-// The same of all these variables.
-fn note_each(variables: &[VarIx], search: &mut Search) -> Result<(), NoMemory>
-    ensures { OnOk result (Noted search.old (map (λ v. v.number) variables.now) search.new) }
+// The same of all variables that occur in a term.
+fn look_at(term: &Term, search: &mut Search) -> Result<(), NoMemory>
+    ensures { OnOk result (Noted search.old (occurs term.now) search.new) }
 {
-    for at in variables {
-        note(*at, search)?;
-    }
-    Ok(())
-}
-
-// The same of all variables that occur in a term. They are listed in place of what was listed before.
-fn look_at(term: &Term, found: &mut Vec<VarIx>, search: &mut Search) -> Result<(), NoMemory>
-    ensures { OnOk result (Noted search.old (occurrences term.now) search.new) }
-{
-    found.clear();
-    occurring_in(term, found)?;
-    note_each(found.as_slice(), search)
+    note_term(term, 0, search)
 }
 
 // The same of all variables that occur in the right side at this place.
-fn look_into(
-    bindings: &[Binding],
-    place: usize,
-    found: &mut Vec<VarIx>,
-    search: &mut Search,
-) -> Result<(), NoMemory>
+fn look_into(bindings: &[Binding], place: usize, search: &mut Search) -> Result<(), NoMemory>
     requires { place < length bindings.now }
     ensures { OnOk result (NotedSide bindings.now place search.old search.new) }
 {
-    look_at(&bindings[place].body, found, search)
+    look_at(&bindings[place].body, search)
 }
 
 /// Of each binding whether the body reaches it, the first one first: its variable occurs in the body or in a reached right side.
@@ -83,11 +66,9 @@ pub(crate) fn reached(
         marks: vec![in alloc; false; bindings.len()]?,
         waiting: Vec::new(alloc),
     };
-    // One list serves for all terms.
-    let mut found = Vec::new(alloc);
-    look_at(body, &mut found, &mut search)?;
+    look_at(body, &mut search)?;
     while let Some(place) = search.waiting.pop() {
-        look_into(bindings, place, &mut found, &mut search)?;
+        look_into(bindings, place, &mut search)?;
     }
     Ok(search.marks)
 }

@@ -8,9 +8,7 @@ use Rattle.chw_terms.specs.declared.scene.Sort.{Sort}
 use Rattle.chw_terms.specs.declared.scene.Sort.TheVariants.{Circuit}
 use Rattle.chw_terms.specs.TermTree.{TermTree, lam}
 use Rattle.chw_layout.specs.Measured.{HasWidth}
-use Rattle.layout_laws.proofs.LeavesAgree.{leaves_there}
 use Rattle.chw_meaning.specs.Values.{History, Thunk}
-use Rattle.chw_meaning.proofs.Once.{same_some}
 use Rattle.carrying.specs.Carrying.{shows_nothing}
 use Rattle.carrying.specs.TermLaws.{under_lambdas}
 use Rattle.netlist.specs.declared.net.Net.{Net}
@@ -20,6 +18,8 @@ use Rattle.net_built.specs.Data.{HasParts, port_parts}
 use Rattle.net_built.specs.Terms.{Variable}
 use Rattle.net_built.specs.Wires.{Piece}
 use Rattle.cell_bits.specs.Bearing.{Bears, bears_nothing}
+use Rattle.net_grounds.specs.Facts.{Facts}
+use Rattle.net_means.proofs.Lists.{same_some}
 use Rattle.net_means.specs.CircuitBits.Instances.{NoLambda, Parameters, no_parameter, parameter_and}
 use Rattle.net_means.specs.CircuitBits.Leaves.{part_wires, IsLeaf, LeafHas}
 use Rattle.net_means.proofs.CircuitBits.FieldLeaves.{as_many_leaves}
@@ -47,13 +47,13 @@ there_at [] (v ∷ widths) k w many e = absurd (omega (arith, many))
 there_at (x ∷ xs) (v ∷ widths) zero w many e = (x, refl)
 there_at (x ∷ xs) (v ∷ widths) (suc k) w many e = there_at xs widths k w (omega (arith, many)) e
 
-pub empty_leaf : (p : Program) (net : Net) (path : List ℕ) (h : History) (t : TypeTree) (th : Thunk) (wires : List WireId) (widths : List ℕ) (k : ℕ) → HasParts p.datas Circuit t widths → slice_get widths k ≡ Some zero → LeafHas p net path h t th wires k
-empty_leaf p net path h t th wires widths k (port_parts {leaves = ls} l has) none =
+pub empty_leaf : Facts → (p : Program) (net : Net) (path : List ℕ) (h : History) (t : TypeTree) (th : Thunk) (wires : List WireId) (widths : List ℕ) (k : ℕ) → HasParts p.datas Circuit t widths → slice_get widths k ≡ Some zero → LeafHas p net path h t th wires k
+empty_leaf facts p net path h t th wires widths k (port_parts {leaves = ls} l has) none =
     let parts : HasParts p.datas Circuit t widths = port_parts {leaves = ls} l has in
-    let there = leaves_there l th in
-    let at = there_at there.0 widths k zero (as_many_leaves parts there.1) none in
+    let there = facts.ports.leaves_there l th in
+    let at = there_at there.0 widths k zero (as_many_leaves facts parts there.1) none in
     let is : IsLeaf p.datas t th k at.0 = record { leaves = there.0; are = there.1; at = at.1 } in
-    let width = leaf_width parts is in
+    let width = leaf_width facts parts is in
     let zero_wide : width.0 ≡ zero = same_some width.1 none in
     record {
       widths = widths;

@@ -14,39 +14,28 @@ use Rattle.chw_types.specs.SameTypes.{SameTypes}
 use Rattle.chw_types.specs.TypeMoves.{Substitution, sub}
 use Rattle.chw_types.specs.TypeTree.{TypeTree, TypeTrees, nat_lit, scalar, vector, data_of}
 use Rattle.chw_types.specs.TypeView.{trees_of}
-use Rattle.chw_types.proofs.SameLaws.{same_turned, same_through}
 use Rattle.type_laws.specs.SameKept.{FieldsKeepSame}
-use Rattle.type_laws.proofs.SameForms.{as_scalar, as_vector, as_data}
 use Rattle.chw_terms.specs.Constructors.{Constructor, con_at}
 use Rattle.chw_terms.specs.TermTree.{TermTree, con, lit, vec_lit}
 use Rattle.chw_terms.specs.TermView.{applied, terms_of}
 use Rattle.chw_typing.specs.Programs.{IsSound}
 use Rattle.chw_typing.specs.Scopes.{Setting, AreTermTypes}
 use Rattle.chw_typing.specs.Typing.{HasType, HasTypeUpTo, h_lit, h_vec, AllHave, none_have, have_and, count}
-use Rattle.chw_typing.proofs.Heads.{is_constructor}
 use Rattle.chw_typing.specs.Given.{types_then, AreGiven}
-use Rattle.chw_typing.proofs.Asked.{con_takes}
-use Rattle.chw_typing.proofs.FieldsPut.{AllLike, con_like, fields_like}
-use Rattle.chw_typing.proofs.Saturated.{con_at_arguments}
 use Rattle.rewriting.specs.Origins.{Origins, setting_at}
 use Rattle.normal_forms.specs.Circuits.{IsConstant, constant_literal, constant_constructor, constant_vector, AreConstants, no_constants, constant_and}
 use Rattle.chw_layout.specs.Datum.{Datum, word, built, elements, Datums}
 use Rattle.chw_layout.specs.Encodes.{Encodes, scalar_bits, vector_bits, data_bits, EncodesElements, no_element_bits, element_bits, EncodesFields, no_field_bits, field_bits, first_constructor, filled, count_of as data_count}
 use Rattle.chw_layout.specs.Measured.{closed_value, fits, tag_width, MeasuredFields, HasWidth}
-use Rattle.chw_layout.proofs.Fitting.{scalar_width, element_width, field_width}
 use Rattle.chw_meaning.specs.Values.{History, closed, Thunks, count_of, closed_all}
-use Rattle.chw_meaning.proofs.Once.{same_some}
-use Rattle.chw_meaning.proofs.Widths.{width_once}
 use Rattle.carrying.specs.Carrying.{tag_of, Shows, CarryEach, carry_none, carry_each}
 use Rattle.carrying.specs.DataLaws.{CarryAll, carry_nothing, carry_next}
 use Rattle.carrying.specs.TermLaws.{each_closed}
-use Rattle.carrying.proofs.Data.{constructor_carries}
-use Rattle.carrying.proofs.Terms.{literal_carries}
-use Rattle.carrying.proofs.Vectors.{vector_carries}
-use Rattle.carrying.proofs.Widths.{whole_width}
-use Rattle.carrying.proofs.Yields.{place_of}
 use Rattle.net_built.specs.Memories.{Denotes, denotes_word, denotes_built, denotes_elements, DenoteEach, denote_none, denote_and}
 use Rattle.net_built.specs.Terms.{head_of, operands_of, list_of}
+use Rattle.net_grounds.specs.Facts.{Facts}
+use Rattle.net_grounds.specs.Kinds.{AllLike}
+use Rattle.net_means.proofs.Lists.{same_some}
 use Rattle.net_means.proofs.SideBits.Heads.{same_counts, wide_asks}
 use Rattle.net_means.proofs.CircuitBits.Heads.{head_then, operands_after}
 
@@ -83,9 +72,9 @@ record DataEncoded (datas : List Data) (c : ℕ) (it : Constructor) (us : TypeTr
   fields : EncodesFields datas it.decl.fields (arguments us) ds behind
   is : filled w (tag_of datas c it ++ behind) ≡ bits
 
-data_encoded : (datas : List Data) (c w : ℕ) (it : Constructor) (us : TypeTrees) (ds : Datums) {bits : List Bool} → con_at datas c ≡ Some it → HasWidth datas (data_of it.of us) w → Encodes datas (data_of it.of us) (built c ds) bits → DataEncoded datas c it us ds w bits
-data_encoded datas c w it us ds at wide (data_bits i width other k behind known number held fields has) =
-    let place = place_of datas c it at in
+data_encoded : Facts → (datas : List Data) (c w : ℕ) (it : Constructor) (us : TypeTrees) (ds : Datums) {bits : List Bool} → con_at datas c ≡ Some it → HasWidth datas (data_of it.of us) w → Encodes datas (data_of it.of us) (built c ds) bits → DataEncoded datas c it us ds w bits
+data_encoded facts datas c w it us ds at wide (data_bits i width other k behind known number held fields has) =
+    let place = facts.constructors.place_of datas c it at in
     let same : other ≡ it.it = same_some known place.in_datas in
     let first : ℕ = first_constructor datas it.of in
     let index : i ≡ c - first = omega (arith, number) in
@@ -93,7 +82,7 @@ data_encoded datas c w it us ds at wide (data_bits i width other k behind known 
     record {
       behind = behind;
       fields = subst (λ (k : ConDecl). EncodesFields datas k.fields (arguments us) ds behind) con fields;
-      is = λ j. filled (width_once wide has j) (bits_of (tag_width (length ((sym same j).cons))) (sym index j) ++ behind);
+      is = λ j. filled (facts.widths.width_once wide has j) (bits_of (tag_width (length ((sym same j).cons))) (sym index j) ++ behind);
     }
 
 literal_typed : {s : Setting} {vars : List TypeTree} {r : Scalar} {b : List Bool} {u : TypeTree} → HasType s [] vars (lit r b) u → u ≡ scalar r (nat_lit (length b))
@@ -107,55 +96,55 @@ as_many : {es : List TermTree} {ds : Datums} (γ : Thunks) (δ : TypeTrees) → 
 as_many γ δ denote_none = refl
 as_many γ δ (denote_and d more) = ap suc (as_many γ δ more)
 
-module _ (o : Origins) (vars : List TypeTree) (γ : Thunks) (δ : TypeTrees) (values : SameValues) (keep : FieldsKeepSame) (sound : IsSound (setting_at o)) (scoped : AreTermTypes (setting_at o) [] vars) where
+module _ (facts : Facts) (o : Origins) (vars : List TypeTree) (γ : Thunks) (δ : TypeTrees) (values : SameValues) (keep : FieldsKeepSame) (sound : IsSound (setting_at o)) (scoped : AreTermTypes (setting_at o) [] vars) where
   mutual
     -- a constant of a type with a width carries its bits
     pub constant_shows : {e : TermTree} → IsConstant o.program.datas e → (a : TypeTree) (w : ℕ) (v : Datum) (bits : List Bool) → Denotes e v → Encodes o.program.datas a v bits → HasWidth o.program.datas a w → HasTypeUpTo (setting_at o) [] vars e a → (h : History) → Shows o.program a (closed e γ δ) h bits
     constant_shows (constant_literal {s = r} {bits = b}) a w v bits d encodes wide typed h =
-        let at = as_scalar (same_turned (subst (SameTypes a) (literal_typed typed.has) typed.same)) in
+        let at = facts.same.as_scalar (facts.same.same_turned (subst (SameTypes a) (literal_typed typed.has) typed.same)) in
         let encoded = word_encoded (subst (λ t. Encodes o.program.datas t (word b) bits) at.1 (subst (λ v. Encodes o.program.datas a v bits) (word_denoted d) encodes)) in
         let has : HasWidth o.program.datas (scalar r at.0) w = subst (λ t. HasWidth o.program.datas t w) at.1 wide in
-        let size : w ≡ length b = scalar_width has ∙ sym encoded.1 in
-        let shown = literal_carries o.program r at.0 b γ δ h (subst (HasWidth o.program.datas (scalar r at.0)) size has) in
+        let size : w ≡ length b = facts.widths.scalar_width has ∙ sym encoded.1 in
+        let shown = facts.shows.literal_carries o.program r at.0 b γ δ h (subst (HasWidth o.program.datas (scalar r at.0)) size has) in
         subst (λ t. Shows o.program t (closed (lit r b) γ δ) h bits) (sym at.1) (subst (λ x. Shows o.program (scalar r at.0) (closed (lit r b) γ δ) h x) encoded.0 shown)
     constant_shows (constant_constructor c types es {it = it} at count all) a w v bits d encodes wide typed h =
         let s : Setting = setting_at o in
         let datas : List Data = o.program.datas in
         let u : TypeTree = typed.type in
-        let whole = con_takes s [] vars c it (types_then types es) u sound scoped at typed.has (wide_asks wide typed.same) in
+        let whole = facts.terms.con_takes s [] vars c it (types_then types es) u sound scoped at typed.has (wide_asks facts wide typed.same) in
         let are : types_then types es ≡ types_then whole.0.types whole.0.es =
         whole.0.are ∙ ap (λ more. types_then whole.0.types whole.0.es ++ more) whole.1 ∙ append-nil (types_then whole.0.types whole.0.es) in
         let counts = same_counts types whole.0.types es whole.0.es are in
         let on_types : length types ≡ length it.it.params = counts.0 ∙ whole.0.on_types in
         let on_terms : length es ≡ length it.decl.fields = counts.1 ∙ whole.0.on_terms in
-        let given = con_at_arguments s [] vars c it types es u sound scoped at on_types on_terms typed.has in
+        let given = facts.terms.con_at_arguments s [] vars c it types es u sound scoped at on_types on_terms typed.has in
         let ts : TypeTrees = trees_of types in
-        let is = as_data (same_through given.2 (same_turned typed.same)) in
+        let is = facts.same.as_data (facts.same.same_through given.2 (facts.same.same_turned typed.same)) in
         let us : TypeTrees = is.0 in
         let has : HasWidth datas (data_of it.of us) w = subst (λ t. HasWidth datas t w) is.1 wide in
-        let place = is_constructor datas c it at in
+        let place = facts.constructors.is_constructor datas c it at in
         let like : AllLike s (arguments ts) (arguments us) it.decl.fields =
-        con_like s (arguments ts) (arguments us) it.it.cons place.place it.decl place.decl
-        (fields_like s sound keep it.of it.it ts us it.it.kind place.data_type (kind_data place.data_type given.0) is.2) in
+        facts.kinds.con_like s (arguments ts) (arguments us) it.it.cons place.place it.decl place.decl
+        (facts.kinds.fields_like s sound keep it.of it.it ts us it.it.kind place.data_type (kind_data place.data_type given.0) is.2) in
         let meant = built_denoted d (head_then (con c) types es) in
         let each : DenoteEach es meant.0 = subst (λ es. DenoteEach es meant.0) (operands_after (con c) types es) meant.2 in
-        let encoded = data_encoded datas c w it us meant.0 at has (subst (λ t. Encodes datas t (built c meant.0) bits) is.1 (subst (λ v. Encodes datas a v bits) meant.1 encodes)) in
-        let within = whole_width o.program c it.of it us w at refl has in
+        let encoded = data_encoded facts datas c w it us meant.0 at has (subst (λ t. Encodes datas t (built c meant.0) bits) is.1 (subst (λ v. Encodes datas a v bits) meant.1 encodes)) in
+        let within = facts.widths.whole_width o.program c it.of it us w at refl has in
         let carry = fields_carry all it.decl.fields (arguments ts) (arguments us) meant.0 encoded.behind within.s like given.1 each encoded.fields within.fields within.small in
-        let shown = constructor_carries o.program c it us w types es γ δ encoded.behind at has on_types carry h in
+        let shown = facts.data_bits.constructor_carries o.program c it us w types es γ δ encoded.behind at has on_types carry h in
         subst (λ t. Shows o.program t (closed (applied (con c) (types_then types es)) γ δ) h bits) (sym is.1)
         (subst (λ b. Shows o.program (data_of it.of us) (closed (applied (con c) (types_then types es)) γ δ) h b) encoded.is shown)
     constant_shows (constant_vector t es all) a w v bits d encodes wide typed h =
         let datas : List Data = o.program.datas in
         let of = vector_typed es typed.has in
-        let at = as_vector (same_turned (subst (SameTypes a) of.0 typed.same)) in
+        let at = facts.same.as_vector (facts.same.same_turned (subst (SameTypes a) of.0 typed.same)) in
         let has : HasWidth datas (vector at.0 at.1) w = subst (λ t. HasWidth datas t w) at.2 wide in
         let meant = vector_denoted es d in
         let each : DenoteEach es meant.0 = subst (λ es. DenoteEach es meant.0) (listed es) meant.2 in
         let encoded = vector_encoded (subst (λ t. Encodes datas t (elements meant.0) bits) at.2 (subst (λ v. Encodes datas a v bits) meant.1 encodes)) in
-        let one = element_width has in
+        let one = facts.widths.element_width has in
         let carry = elements_carry all t at.1 one.a meant.0 bits at.4 of.1 each encoded.1 one.element in
-        let shown = vector_carries o.program at.0 at.1 t w (terms_of es) γ δ bits has (as_many γ δ each ∙ encoded.0) carry h in
+        let shown = facts.vectors.vector_carries o.program at.0 at.1 t w (terms_of es) γ δ bits has (as_many γ δ each ∙ encoded.0) carry h in
         subst (λ t'. Shows o.program t' (closed (vec_lit t (terms_of es)) γ δ) h bits) (sym at.2) shown
 
     fields_carry : {es : List TermTree} → AreConstants o.program.datas es → (fs : List TypeTree) (σ τ : Substitution) (ds : Datums) (bits : List Bool) (n : ℕ) → AllLike (setting_at o) σ τ fs → AreGiven (setting_at o) [] vars (map (λ f. sub f σ) fs) es → DenoteEach es ds → EncodesFields o.program.datas fs τ ds bits → MeasuredFields o.program.datas fs τ (fits n) → n ≤ DATA_BITS
@@ -164,14 +153,14 @@ module _ (o : Origins) (vars : List TypeTree) (γ : Thunks) (δ : TypeTrees) (va
     fields_carry no_constants (f ∷ fs) σ τ ds bits n like given each encodes measured small = absurd given
     fields_carry (constant_and one all) [] σ τ ds bits n like given each encodes measured small = absurd given
     fields_carry (constant_and one all) (f ∷ fs) σ τ ds bits n like given (denote_and {d = d} denotes each) (field_bits {bits = b} {more = more} encodes rest) measured small =
-        let at = field_width small measured in
+        let at = facts.widths.field_width small measured in
         let sum = at.is in
-        let typed : HasTypeUpTo (setting_at o) [] vars _ (sub f τ) = record { type = given.0.type; has = given.0.has; same = same_through (same_turned like.0.same) given.0.same } in
+        let typed : HasTypeUpTo (setting_at o) [] vars _ (sub f τ) = record { type = given.0.type; has = given.0.has; same = facts.same.same_through (facts.same.same_turned like.0.same) given.0.same } in
         carry_next (λ h. constant_shows one (sub f τ) at.a d b denotes encodes at.first typed h)
         (fields_carry all fs σ τ _ more at.b like.1 given.1 each rest at.rest (omega (arith, small, sum)))
 
     elements_carry : {es : List TermTree} → AreConstants o.program.datas es → (u v : TypeTree) (w : ℕ) (ds : Datums) (bits : List Bool) → SameTypes u v → AllHave (setting_at o) [] vars u (terms_of es) → DenoteEach es ds → EncodesElements o.program.datas v ds bits → HasWidth o.program.datas v w → CarryEach o.program v (closed_all (terms_of es) γ δ) bits
     elements_carry no_constants u v w ds bits same none_have denote_none no_element_bits wide = carry_none
     elements_carry (constant_and one all) u v w ds bits same (have_and {u = c} typed equal more) (denote_and {d = d} denotes each) (element_bits {bits = b} {more = rest} encodes others) wide =
-        carry_each (λ h. constant_shows one v w d b denotes encodes wide (record { type = c; has = typed; same = same_through (same_turned same) equal }) h)
+        carry_each (λ h. constant_shows one v w d b denotes encodes wide (record { type = c; has = typed; same = facts.same.same_through (facts.same.same_turned same) equal }) h)
         (elements_carry all u v w _ rest same more each others wide)

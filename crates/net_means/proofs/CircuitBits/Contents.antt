@@ -6,9 +6,7 @@ use Rattle.chw_types.specs.Polynomials.{ended}
 use Rattle.chw_types.specs.SamePromises.{SameValues, natural_value}
 use Rattle.chw_types.specs.SameTypes.{SameTypes}
 use Rattle.chw_types.specs.TypeTree.{TypeTree, TypeTrees, nat_lit, vector}
-use Rattle.chw_types.proofs.SameLaws.{same_turned, same_through}
 use Rattle.type_laws.specs.SameKept.{FieldsKeepSame}
-use Rattle.type_laws.proofs.SameForms.{as_vector}
 use Rattle.chw_terms.specs.TermTree.{TermTree, con}
 use Rattle.chw_terms.specs.TermView.{terms_of}
 use Rattle.chw_typing.specs.Programs.{IsSound}
@@ -18,12 +16,11 @@ use Rattle.rewriting.specs.Origins.{Origins, setting_at}
 use Rattle.normal_forms.specs.Circuits.{IsConstant, constant_literal, constant_constructor, constant_vector, AreConstants, no_constants, constant_and}
 use Rattle.chw_layout.specs.Datum.{elements, Datums}
 use Rattle.chw_layout.specs.Measured.{closed_value, HasWidth}
-use Rattle.layout_laws.proofs.SameLayout.{same_number}
 use Rattle.chw_meaning.specs.Values.{History, Thunk, closed, element, Thunks, thunk_at, closed_all}
 use Rattle.chw_meaning.specs.Eval.{plus, f_closed, f_element, e_vec}
 use Rattle.carrying.specs.Carrying.{Shows}
-use Rattle.carrying.proofs.Terms.{shows_through}
 use Rattle.net_built.specs.Memories.{DenoteEach, denote_none, denote_and, EncodeEach, HasWords}
+use Rattle.net_grounds.specs.Facts.{Facts}
 use Rattle.net_means.proofs.CircuitBits.Constants.{word_denoted, built_denoted, vector_denoted, listed, vector_typed, constant_shows}
 use Rattle.net_means.proofs.CircuitBits.Heads.{head_then}
 
@@ -32,7 +29,7 @@ literal_value : (n : ℕ) → closed_value (nat_lit n) ≡ ended n
 unfolding natural_value
 literal_value n = refl
 
-module _ (o : Origins) (vars : List TypeTree) (γ : Thunks) (δ : TypeTrees) (values : SameValues) (keep : FieldsKeepSame) (sound : IsSound (setting_at o)) (scoped : AreTermTypes (setting_at o) [] vars) where
+module _ (facts : Facts) (o : Origins) (vars : List TypeTree) (γ : Thunks) (δ : TypeTrees) (values : SameValues) (keep : FieldsKeepSame) (sound : IsSound (setting_at o)) (scoped : AreTermTypes (setting_at o) [] vars) where
   -- the term of this number shows the word of this number
   record WordAt (es : List TermTree) (a : TypeTree) (words : List (List Bool)) (i : ℕ) : Type 0 where
     thunk : Thunk
@@ -56,7 +53,7 @@ module _ (o : Origins) (vars : List TypeTree) (γ : Thunks) (δ : TypeTrees) (va
   words_shown (constant_and {e = e} one all) u v w ds (b ∷ words) same (have_and {u = c} typed equal more) (denote_and {d = d} denotes each) encode wide =
       let rest = words_shown all u v w _ words same more each encode.1 wide in
       let first : (h : History) → Shows o.program v (closed e γ δ) h b =
-      λ h. constant_shows o vars γ δ values keep sound scoped one v w d b denotes encode.0 wide (record { type = c; has = typed; same = same_through (same_turned same) equal }) h in
+      λ h. constant_shows facts o vars γ δ values keep sound scoped one v w d b denotes encode.0 wide (record { type = c; has = typed; same = facts.same.same_through (facts.same.same_turned same) equal }) h in
       (ap suc rest.0, word_here e v b first rest.1)
 
   -- each word is shown by the element there
@@ -73,11 +70,11 @@ module _ (o : Origins) (vars : List TypeTree) (γ : Thunks) (δ : TypeTrees) (va
       let bad = (built_denoted has.denotes (head_then (con k) types es)).1 in absurd cc
   content_shows (constant_vector t es all) n a w words has wide typed small =
       let of = vector_typed es typed.has in
-      let at = as_vector (same_turned (subst (SameTypes (vector n a)) of.0 typed.same)) in
+      let at = facts.same.as_vector (facts.same.same_turned (subst (SameTypes (vector n a)) of.0 typed.same)) in
       let is : vector n a ≡ vector at.0 at.1 = at.2 in
       let count_is : n ≡ at.0 = cc in
       let value_is : a ≡ at.1 = cc in
-      let number : ended (count (terms_of es)) ≡ closed_value n = sym (literal_value (count (terms_of es))) ∙ same_number values at.3 ∙ ap closed_value (sym count_is) in
+      let number : ended (count (terms_of es)) ≡ closed_value n = sym (literal_value (count (terms_of es))) ∙ facts.same_layout.same_number values at.3 ∙ ap closed_value (sym count_is) in
       let meant = vector_denoted es has.denotes in
       let same_values_of : elements has.values ≡ elements meant.0 = meant.1 in
       let values_are : has.values ≡ meant.0 = cc in
@@ -90,6 +87,6 @@ module _ (o : Origins) (vars : List TypeTree) (γ : Thunks) (δ : TypeTrees) (va
             record {
               bits = one.bits;
               word = one.word;
-              shows = λ h. shows_through (λ m v f. (suc (plus (suc zero) m), f_element (f_closed e_vec) one.at f)) (one.shows h);
+              shows = λ h. facts.shows.shows_through (λ m v f. (suc (plus (suc zero) m), f_element (f_closed e_vec) one.at f)) (one.shows h);
             },
       )

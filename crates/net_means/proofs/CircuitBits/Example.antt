@@ -13,9 +13,7 @@ use Rattle.chw_meaning.specs.Run.{zero_by, eval}
 use Rattle.chw_meaning.specs.Values.{History, bits}
 use Rattle.chw_meaning.specs.Whole.{with_input}
 use Rattle.chw_meaning.specs.Writing.{shown, is_word}
-use Rattle.chw_meaning.proofs.ShownSound.{shown_is_so}
 use Rattle.carrying.specs.Carrying.{Shows, holds_word}
-use Rattle.carrying.proofs.Widths.{held_shows}
 use Rattle.netlist.specs.declared.net.Cell.TheVariants.{Copy, Bin, Reg, Use}
 use Rattle.netlist.specs.declared.net.Module.{Module}
 use Rattle.netlist.specs.declared.net.Op2.TheVariants.{Add}
@@ -25,6 +23,7 @@ use Rattle.net_built.specs.Data.{port_parts}
 use Rattle.net_built.specs.Examples.{word}
 use Rattle.net_built.specs.Wires.{wire}
 use Rattle.cell_bits.specs.Bearing.{Bears, bears_bits}
+use Rattle.net_grounds.specs.Facts.{Facts}
 use Rattle.net_means.specs.CircuitBits.Example.{the_sum, SumHas, AccumulatorHas}
 
 byte_width : HasWidth accumulator.datas (word 8) 8
@@ -39,9 +38,9 @@ sum_second : shown accumulator the_sum (with_input 7 ∷ with_input 5 ∷ []) �
 unfolding eval zero_by sub rename up natural_value evaluated
 sum_second = refl
 
-sum_shows : (h : History) (n : ℕ) → shown accumulator the_sum h ≡ is_word 8 n → length (bits_of 8 n) ≡ 8 → Shows accumulator (word 8) the_sum h (bits_of 8 n)
+sum_shows : Facts → (h : History) (n : ℕ) → shown accumulator the_sum h ≡ is_word 8 n → length (bits_of 8 n) ≡ 8 → Shows accumulator (word 8) the_sum h (bits_of 8 n)
 unfolding natural_value
-sum_shows h n e long = held_shows 8 byte_width (shown_is_so accumulator the_sum h (bits (bits_of 8 n)) e).1 (holds_word long)
+sum_shows facts h n e long = facts.shows.held_shows 8 byte_width (facts.shows.shown_is_so accumulator the_sum h (bits (bits_of 8 n)) e).1 (holds_word long)
 
 -- the two modules, and the use of the first in the second
 abbrev adder : Module
@@ -104,9 +103,9 @@ sum_has h b shows bears = (
   refl,
 )
 
-pub accumulator_has : AccumulatorHas
-accumulator_has =
+pub accumulator_has : Facts → AccumulatorHas
+accumulator_has facts =
     record {
-      first = sum_has once (bits_of 8 0) (sum_shows once 0 sum_first refl) (bears_bits sum_at_first);
-      second = sum_has (with_input 7 ∷ once) (bits_of 8 5) (sum_shows (with_input 7 ∷ once) 5 sum_second refl) (bears_bits sum_at_second);
+      first = sum_has once (bits_of 8 0) (sum_shows facts once 0 sum_first refl) (bears_bits sum_at_first);
+      second = sum_has (with_input 7 ∷ once) (bits_of 8 5) (sum_shows facts (with_input 7 ∷ once) 5 sum_second refl) (bears_bits sum_at_second);
     }

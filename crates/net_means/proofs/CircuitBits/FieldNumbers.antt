@@ -11,6 +11,7 @@ use Rattle.chw_terms.specs.Constructors.{Constructor, con_at}
 use Rattle.chw_terms.specs.declared.scene.Sort.TheVariants.{Circuit}
 use Rattle.net_built.specs.Circuits.{HaveParts}
 use Rattle.net_built.specs.Data.{HaveWidths, HasParts, port_parts}
+use Rattle.net_grounds.specs.Facts.{Facts}
 use Rattle.net_means.specs.CircuitBits.Laws.{FieldWithLeaf}
 use Rattle.net_means.specs.CircuitBits.Leaves.{leaves_before}
 use Rattle.net_means.proofs.CircuitBits.FieldLeaves.{only_con}
@@ -45,8 +46,8 @@ part_of (ws ∷ parts) k l = by (cases_lt k (length ws)) (λ more. part_of parts
         let is = r.is in
         record { i = suc r.i; j = r.j; own = r.own; one = r.one; within = r.within; is = omega (arith, is, more) }
 
-pub leaf_field : (datas : List Data) (c : ℕ) (it : Constructor) (ts : TypeTrees) (widths : List ℕ) (k : ℕ) → con_at datas c ≡ Some it → HasParts datas Circuit (data_of it.of ts) widths → k < length widths → FieldWithLeaf datas it ts k
-leaf_field datas c it ts widths k known (port_parts leaves has) l =
-    let fields = fields_have (only_con datas c it known leaves).leaves widths has in
+pub leaf_field : Facts → (datas : List Data) (c : ℕ) (it : Constructor) (ts : TypeTrees) (widths : List ℕ) (k : ℕ) → con_at datas c ≡ Some it → HasParts datas Circuit (data_of it.of ts) widths → k < length widths → FieldWithLeaf datas it ts k
+leaf_field facts datas c it ts widths k known (port_parts leaves has) l =
+    let fields = fields_have (only_con facts datas c it known leaves).leaves widths has in
     let at = part_of fields.0 k (subst (λ ws. k < length ws) fields.2 l) in
     record { parts = fields.0; have = fields.1; field = at.i; leaf = at.j; own = at.own; one = at.one; within = at.within; is = at.is }

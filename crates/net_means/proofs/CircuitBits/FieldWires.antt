@@ -11,7 +11,7 @@ use Rattle.chw_terms.specs.declared.scene.Sort.TheVariants.{Circuit}
 use Rattle.net_built.specs.Circuits.{HaveParts}
 use Rattle.net_built.specs.Data.{HaveWidths, HasParts, port_parts}
 use Rattle.net_built.specs.Wires.{wire_count}
-use Rattle.net_built.proofs.Parts.{parts_once}
+use Rattle.net_grounds.specs.Facts.{Facts}
 use Rattle.net_means.specs.CircuitBits.Leaves.{part_wires}
 
 -- all widths, one after the other
@@ -52,15 +52,15 @@ split datas (l ∷ ls) ms (w ∷ ws) h =
     let s = split datas ls ms ws h.1 in record { first = w ∷ s.first; rest = s.rest; are = ap (λ ws. w ∷ ws) s.are; have = (h.0, s.have); others = s.others }
 
 -- the parts of all fields are those of each, one after the other
-pub parts_in_turn : {datas : List Data} {fs : List TypeTree} {σ : Substitution} {ls : List Leaf} → LeavesOfAll datas fs σ ls → (ws : List ℕ) (parts : List (List ℕ)) → HaveWidths datas (map (λ (l : Leaf). l.payload) ls) ws → HaveParts datas (map (λ f. sub f σ) fs) parts → ws ≡ in_turn parts
-parts_in_turn no_leaves [] [] h k = refl
-parts_in_turn no_leaves [] (x ∷ parts) h k = absurd k
-parts_in_turn no_leaves (w ∷ ws) parts h k = absurd h
-parts_in_turn (leaves_and a b) ws [] h k = absurd k
-parts_in_turn {datas} (leaves_and {ls = ls} {ms = ms} a b) ws (x ∷ parts) h k =
+pub parts_in_turn : Facts → {datas : List Data} {fs : List TypeTree} {σ : Substitution} {ls : List Leaf} → LeavesOfAll datas fs σ ls → (ws : List ℕ) (parts : List (List ℕ)) → HaveWidths datas (map (λ (l : Leaf). l.payload) ls) ws → HaveParts datas (map (λ f. sub f σ) fs) parts → ws ≡ in_turn parts
+parts_in_turn facts no_leaves [] [] h k = refl
+parts_in_turn facts no_leaves [] (x ∷ parts) h k = absurd k
+parts_in_turn facts no_leaves (w ∷ ws) parts h k = absurd h
+parts_in_turn facts (leaves_and a b) ws [] h k = absurd k
+parts_in_turn facts {datas} (leaves_and {ls = ls} {ms = ms} a b) ws (x ∷ parts) h k =
     let s = split datas ls ms ws h in
-    let first : s.first ≡ x = parts_once (port_parts a s.have) k.0 in
-    let rest = parts_in_turn b s.rest parts s.others k.1 in
+    let first : s.first ≡ x = facts.built.parts_once (port_parts a s.have) k.0 in
+    let rest = parts_in_turn facts b s.rest parts s.others k.1 in
     s.are ∙ (λ i. first i ++ rest i)
 
 -- the parts of a field

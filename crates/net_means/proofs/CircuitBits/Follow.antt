@@ -14,18 +14,17 @@ use Rattle.chw_meaning.specs.Values.{History, Value, closure, Thunk, closed, app
 use Rattle.chw_meaning.specs.Steps.{samples as samples_step}
 use Rattle.chw_meaning.specs.Eval.{plus, Evals, e_lam, e_app, e_letrec, Forces, f_closed, f_applied, f_member, a_closure, Runs, r_samples}
 use Rattle.carrying.specs.TermLaws.{onto, under_lambdas, on_thunks, each_closed}
-use Rattle.carrying.proofs.Spines.{prim_whole}
-use Rattle.carrying.proofs.Terms.{opened}
 use Rattle.net_built.specs.Circuits.{IsLifted, lifted_on_one, lifted_on_more}
+use Rattle.net_grounds.specs.Facts.{Facts}
 use Rattle.net_means.proofs.SideBits.Heads.{names}
 use Rattle.net_means.specs.CircuitBits.Leaves.{HasAllOf}
 use Rattle.net_means.specs.CircuitBits.Uses.{IsLiftOf, lift_of_one, lift_of_more, samples}
 
-pub group_follows : (p : Program) (h : History) (g : Group) (e : TermTree) (γ : Thunks) (δ : TypeTrees) → HasAllOf p h (closed (letrec g e) γ δ) (closed e (in_group g γ δ) δ)
-group_follows p h g e γ δ n v f = (suc n, f_closed (e_letrec (opened f)))
+pub group_follows : Facts → (p : Program) (h : History) (g : Group) (e : TermTree) (γ : Thunks) (δ : TypeTrees) → HasAllOf p h (closed (letrec g e) γ δ) (closed e (in_group g γ δ) δ)
+group_follows facts p h g e γ δ n v f = (suc n, f_closed (e_letrec (facts.shows.opened f)))
 
-pub member_follows : (p : Program) (h : History) (g : Group) (i : ℕ) (e : TermTree) (γ : Thunks) (δ : TypeTrees) → body_at g i ≡ Some e → HasAllOf p h (member g i γ δ) (closed e (in_group g γ δ) δ)
-member_follows p h g i e γ δ at n v f = (suc n, f_member at (opened f))
+pub member_follows : Facts → (p : Program) (h : History) (g : Group) (i : ℕ) (e : TermTree) (γ : Thunks) (δ : TypeTrees) → body_at g i ≡ Some e → HasAllOf p h (member g i γ δ) (closed e (in_group g γ δ) δ)
+member_follows facts p h g i e γ δ at n v f = (suc n, f_member at (facts.shows.opened f))
 
 -- what the body of a function has with terms of one environment for its parameters, the function of another has on the terms
 called : (p : Program) (params : List TypeTree) (es : List TermTree) (f e : TermTree) (η γ : Thunks) (δ : TypeTrees) (h : History) → length params ≡ length es
@@ -39,10 +38,10 @@ called p (t ∷ params) (a ∷ es) f e η γ δ h same has n v d =
 called p [] (a ∷ es) f e η γ δ h same has n v d = absurd (omega (arith, same))
 called p (t ∷ params) [] f e η γ δ h same has n v d = absurd (omega (arith, same))
 
-pub call_follows : (p : Program) (h : History) (params : List TypeTree) (e : TermTree) (xs : List ℕ) (γ : Thunks) (δ : TypeTrees) → length params ≡ length xs → HasAllOf p h (closed (on_names (under_lambdas params e) [] xs) γ δ) (closed e (onto (each_closed (names xs) γ δ) γ) δ)
-call_follows p h params e xs γ δ same n v f =
+pub call_follows : Facts → (p : Program) (h : History) (params : List TypeTree) (e : TermTree) (xs : List ℕ) (γ : Thunks) (δ : TypeTrees) → length params ≡ length xs → HasAllOf p h (closed (on_names (under_lambdas params e) [] xs) γ δ) (closed e (onto (each_closed (names xs) γ δ) γ) δ)
+call_follows facts p h params e xs γ δ same n v f =
     let many = length-map xs (λ x. var x) in
-    let d = called p params (names xs) (under_lambdas params e) e γ γ δ h (omega (arith, same, many)) (λ m w g. (m, g)) n v (opened f) in
+    let d = called p params (names xs) (under_lambdas params e) e γ γ δ h (omega (arith, same, many)) (λ m w g. (m, g)) n v (facts.shows.opened f) in
     (d.0, f_closed d.1)
 
 -- the same of thunks
@@ -66,28 +65,28 @@ sampled : {p : Program} {n : ℕ} {f s : Thunk} {h : History} {v : Value} → Fo
 sampled (f_applied f d) = r_samples f d
 
 -- a lifted function has all that the function has on the samples of its operands
-lift_on_samples : (p : Program) (h : History) (γ : Thunks) (δ : TypeTrees) {f u : TermTree} {xs : List TermTree} → IsLiftOf f u xs → HasAllOf p h (closed u γ δ) (on_thunks (closed f γ δ) (samples (each_closed xs γ δ) h))
-lift_on_samples p h γ δ {f} (lift_of_one {d = d} {a = a} {b = b} {x = x}) n v g =
-    let e = prim_whole p Fmap γ δ h (d ∷ a ∷ b ∷ []) (f ∷ x ∷ []) refl refl n v (sampled g) in (e.0, f_closed e.1)
-lift_on_samples p h γ δ {f} (lift_of_more {d = d} {a = a} {b = b} {u = u} {x = x} {xs = xs} more) n v g =
+lift_on_samples : Facts → (p : Program) (h : History) (γ : Thunks) (δ : TypeTrees) {f u : TermTree} {xs : List TermTree} → IsLiftOf f u xs → HasAllOf p h (closed u γ δ) (on_thunks (closed f γ δ) (samples (each_closed xs γ δ) h))
+lift_on_samples facts p h γ δ {f} (lift_of_one {d = d} {a = a} {b = b} {x = x}) n v g =
+    let e = facts.prims.prim_whole p Fmap γ δ h (d ∷ a ∷ b ∷ []) (f ∷ x ∷ []) refl refl n v (sampled g) in (e.0, f_closed e.1)
+lift_on_samples facts p h γ δ {f} (lift_of_more {d = d} {a = a} {b = b} {u = u} {x = x} {xs = xs} more) n v g =
     let last : samples (each_closed (xs ++ x ∷ []) γ δ) h ≡ samples (each_closed xs γ δ) h ++ sample (closed x γ δ) h ∷ [] =
     ap (λ ths. samples ths h) (map-append (λ e. closed e γ δ) xs (x ∷ [])) ∙ map-append (λ th. sample th h) (each_closed xs γ δ) (closed x γ δ ∷ []) in
     let there : on_thunks (closed f γ δ) (samples (each_closed (xs ++ x ∷ []) γ δ) h) ≡ applied (on_thunks (closed f γ δ) (samples (each_closed xs γ δ) h)) (sample (closed x γ δ) h) =
     ap (on_thunks (closed f γ δ)) last ∙ on_last (closed f γ δ) (samples (each_closed xs γ δ) h) (sample (closed x γ δ) h) in
-    through (lift_on_samples p h γ δ more) (subst (λ th. Forces p n th h v) there g)
+    through (lift_on_samples facts p h γ δ more) (subst (λ th. Forces p n th h v) there g)
   where
     through : HasAllOf p h (closed u γ δ) (on_thunks (closed f γ δ) (samples (each_closed xs γ δ) h)) → {n : ℕ} {v : Value} → Forces p n (applied (on_thunks (closed f γ δ) (samples (each_closed xs γ δ) h)) (sample (closed x γ δ) h)) h v → (m : ℕ) × Forces p m (closed (ap_of d a b u x) γ δ) h v
     through below (f_applied {m = m} {n = k} {v = w} {w = y} c s) =
         let i = below m w c in
-        let e = prim_whole p Ap γ δ h (d ∷ a ∷ b ∷ []) (u ∷ x ∷ []) refl refl (suc (plus i.0 k)) y (r_samples i.1 s) in
+        let e = facts.prims.prim_whole p Ap γ δ h (d ∷ a ∷ b ∷ []) (u ∷ x ∷ []) refl refl (suc (plus i.0 k)) y (r_samples i.1 s) in
         (e.0, f_closed e.1)
 
-pub lift_follows : (p : Program) (h : History) (params : List TypeTree) (e u : TermTree) (xs : List TermTree) (γ : Thunks) (δ : TypeTrees) → IsLiftOf (under_lambdas params e) u xs → length params ≡ length xs → HasAllOf p h (closed u γ δ) (closed e (onto (samples (each_closed xs γ δ) h) γ) δ)
-lift_follows p h params e u xs γ δ lift same n v f =
+pub lift_follows : Facts → (p : Program) (h : History) (params : List TypeTree) (e u : TermTree) (xs : List TermTree) (γ : Thunks) (δ : TypeTrees) → IsLiftOf (under_lambdas params e) u xs → length params ≡ length xs → HasAllOf p h (closed u γ δ) (closed e (onto (samples (each_closed xs γ δ) h) γ) δ)
+lift_follows facts p h params e u xs γ δ lift same n v f =
     let one = length-map xs (λ e. closed e γ δ) in
     let two = length-map (each_closed xs γ δ) (λ th. sample th h) in
-    let d = applied_all p params (samples (each_closed xs γ δ) h) (closed (under_lambdas params e) γ δ) e γ δ h (omega (arith, same, one, two)) (λ m w g. (m, f_closed g)) n v (opened f) in
-    lift_on_samples p h γ δ lift d.0 v d.1
+    let d = applied_all p params (samples (each_closed xs γ δ) h) (closed (under_lambdas params e) γ δ) e γ δ h (omega (arith, same, one, two)) (λ m w g. (m, f_closed g)) n v (facts.shows.opened f) in
+    lift_on_samples facts p h γ δ lift d.0 v d.1
 
 -- calls, and lifts, as wholes
 spine_whole : (wholes : ℕ → TermTree) (f g : TermTree) (xs : List ℕ) → with_origins wholes f ≡ g → with_origins wholes (on_names f [] xs) ≡ on_names g [] xs

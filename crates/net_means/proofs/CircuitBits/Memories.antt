@@ -16,7 +16,6 @@ use Rattle.chw_meaning.specs.Values.{History, Value, con_of, Thunk, field, eleme
 use Rattle.chw_meaning.specs.Steps.{Ram, remembers}
 use Rattle.chw_meaning.specs.Eval.{plus, dom, last_tick, Forces, Looks, Runs, r_zero_first, r_zero_outside, r_word, Word, w_content, w_kept, w_elsewhere, w_written}
 use Rattle.chw_meaning.specs.Zeros.{IsZero, IsWide}
-use Rattle.chw_meaning.proofs.Widths.{width_once}
 use Rattle.carrying.specs.Carrying.{Holds, Shows, shows_nothing, shows_bits}
 use Rattle.netlist.specs.NetValue.{Memory, zeros}
 use Rattle.netlist.specs.declared.net.Net.{Net}
@@ -24,7 +23,7 @@ use Rattle.net_built.specs.Memories.{past_all}
 use Rattle.net_built.specs.Wires.{wire}
 use Rattle.use_laws.specs.ValueIn.{ValueIn, HasRamAt, HasWidthAt, unread, outside, shown, WordIn, unwritten, written, kept}
 use Rattle.cell_bits.specs.AddressLaws.{narrow}
-use Rattle.cell_bits.proofs.DataAddresses.{narrow_number}
+use Rattle.net_grounds.specs.Facts.{Facts}
 use Rattle.net_means.specs.CircuitBits.Memories.{IsEarlier, last_before, further_before}
 use Rattle.net_means.proofs.CircuitBits.MemoryCells.{idle, written_here, written_elsewhere}
 
@@ -52,9 +51,9 @@ record Forced (p : Program) (a : TypeTree) (th : Thunk) (h : History) (b : List 
   forces : Forces p turns th h value
   holds : Holds p a value b
 
-forced : {p : Program} {a : TypeTree} {th : Thunk} {h : History} {b : List Bool} → IsWide p.datas a → Shows p a th h b → Forced p a th h b
-forced wide (shows_nothing z) = let bad : 0 ≡ suc wide.0 = width_once z wide.1 in absurd (omega (arith, bad))
-forced wide (shows_bits {n = n} {v = v} some f held) = record { turns = n; value = v; forces = f; holds = held }
+forced : Facts → {p : Program} {a : TypeTree} {th : Thunk} {h : History} {b : List Bool} → IsWide p.datas a → Shows p a th h b → Forced p a th h b
+forced facts wide (shows_nothing z) = let bad : 0 ≡ suc wide.0 = facts.widths.width_once z wide.1 in absurd (omega (arith, bad))
+forced facts wide (shows_bits {n = n} {v = v} some f held) = record { turns = n; value = v; forces = f; holds = held }
 
 -- what is known of the write at a tick, as it is meant and on the wires
 pub data WriteHas (p : Program) (net : Net) (path : List ℕ) (ram : Ram) (mem : Memory) (a : TypeTree) (g : History) : Type 0 where
@@ -94,7 +93,7 @@ pub record RamHas (p : Program) (net : Net) (path : List ℕ) (ram : Ram) (a : T
   pub holds : Holds p a value bits
   pub on_wire : ValueIn net path h w bits
 
-module _ (p : Program) (net : Net) (path : List ℕ) (ram : Ram) (mem : Memory) (a : TypeTree) (wide : IsWide p.datas a) (clock : mem.domain ≡ dom ram.dom) (size : length mem.words ≡ ram.size) (small : ram.size ≤ VECTOR_LENGTH) (content : (i : ℕ) → i < ram.size → ContentHas p ram mem a i) where
+module _ (facts : Facts) (p : Program) (net : Net) (path : List ℕ) (ram : Ram) (mem : Memory) (a : TypeTree) (wide : IsWide p.datas a) (clock : mem.domain ≡ dom ram.dom) (size : length mem.words ≡ ram.size) (small : ram.size ≤ VECTOR_LENGTH) (content : (i : ℕ) → i < ram.size → ContentHas p ram mem a i) where
   -- the word at an address
   record WordHas (h : History) (i : ℕ) : Type 0 where
     bits : List Bool
@@ -130,14 +129,14 @@ module _ (p : Program) (net : Net) (path : List ℕ) (ram : Ram) (mem : Memory) 
       by : (b : Bool) → (number_of place == i) ≡ b → WordHas h i
       by true is =
           let number : number_of place ≡ i = (Decides-eqb (number_of place) i).0 is in
-          let x = forced wide shows in
+          let x = forced facts wide shows in
           record {
             bits = bits;
             turns = suc (plus _ (plus _ x.turns));
             value = x.value;
             word = w_written e f looks number x.forces;
             holds = x.holds;
-            on_wires = written path mem h g i (true ∷ []) (narrow place) bits tick enable at (written_here place i below number) stands;
+            on_wires = written path mem h g i (true ∷ []) (narrow place) bits tick enable at (written_here facts place i below number) stands;
           }
       by false is =
           let other : ¬ (number_of place ≡ i) = λ same. let t : (number_of place == i) ≡ true = (Decides-eqb (number_of place) i).1 same in absurd cc in
@@ -147,13 +146,13 @@ module _ (p : Program) (net : Net) (path : List ℕ) (ram : Ram) (mem : Memory) 
             value = w.value;
             word = w_elsewhere e f looks other w.word;
             holds = w.holds;
-            on_wires = kept path mem h g i (true ∷ []) (narrow place) w.bits tick enable at (written_elsewhere place i below other) w.on_wires;
+            on_wires = kept path mem h g i (true ∷ []) (narrow place) w.bits tick enable at (written_elsewhere facts place i below other) w.on_wires;
           }
 
   word_by : (h : History) → Writes h → (i : ℕ) → i < ram.size → ((g : History) → last_tick ram h ≡ Some g → Writes g → WordHas g i) → (tick : Option (List Event)) → last_tick ram h ≡ tick → WordHas h i
   word_by h all i l rest None e =
       let c = content i l in
-      let x = forced wide (c.shows h) in
+      let x = forced facts wide (c.shows h) in
       record {
         bits = c.bits;
         turns = x.turns;
@@ -179,7 +178,7 @@ module _ (p : Program) (net : Net) (path : List ℕ) (ram : Ram) (mem : Memory) 
       at_read : (g : History) → last_tick ram h ≡ Some g → (r : ReadHas p net path ram mem g) → (number_of r.bits < ram.size) ⊎ (ram.size ≤ number_of r.bits) → RamHas p net path ram a h w
       at_read g e r (inl less) =
           let x = word_has (length g) g (omega arith) (λ k f. all k (further_before e f)) (number_of r.bits) less in
-          let number : number_of (narrow r.bits) ≡ number_of r.bits = omega (arith, narrow_number r.bits, less, small) in
+          let number : number_of (narrow r.bits) ≡ number_of r.bits = omega (arith, facts.data_cells.narrow_number r.bits, less, small) in
           record {
             bits = x.bits;
             turns = plus r.turns x.turns;
@@ -194,7 +193,7 @@ module _ (p : Program) (net : Net) (path : List ℕ) (ram : Ram) (mem : Memory) 
         value = value_of z.zero_value;
         runs = r_zero_outside e r.looks more z.is;
         holds = z.holds;
-        on_wire = zero_bits (outside path (wire w) mem width h g (narrow r.bits) has wires (ap (before h) clock ∙ e) r.value (omega (arith, narrow_number r.bits, more, size, small)));
+        on_wire = zero_bits (outside path (wire w) mem width h g (narrow r.bits) has wires (ap (before h) clock ∙ e) r.value (omega (arith, facts.data_cells.narrow_number r.bits, more, size, small)));
       }
 
       by : (tick : Option (List Event)) → last_tick ram h ≡ tick → RamHas p net path ram a h w

@@ -17,8 +17,8 @@ use Rattle.net_built.specs.Wires.{wire, new_wires, Piece, one, ◌▸◌, after,
 use Rattle.net_built.specs.Words.{only}
 use Rattle.cell_bits.specs.AddressLaws.{narrow}
 use Rattle.cell_bits.specs.Bearing.{HasCells, Bears}
-use Rattle.cell_bits.proofs.DataAddresses.{address_bears, narrow_number}
-use Rattle.cell_bits.proofs.DataCells.{has_left, has_right, value_of, one_bears, cut_value, last_at}
+use Rattle.net_grounds.specs.Facts.{Facts}
+use Rattle.net_means.proofs.Pieces.{has_first, has_second}
 use Rattle.net_means.specs.CircuitBits.Memories.{HasWidths}
 
 -- the pieces of a memory in order: the three cuts, the two addresses
@@ -96,19 +96,19 @@ taken_length k more rest e = length-take-le k rest (omega (arith, e))
 pub idle : (place : List Bool) (i : ℕ) → writes (false ∷ []) place i ≡ false
 idle place i = refl
 
-pub written_here : (place : List Bool) (i : ℕ) → i < past_all → number_of place ≡ i → writes (true ∷ []) (narrow place) i ≡ true
-written_here place i small e =
-    let number : number_of (narrow place) ≡ i = omega (arith, narrow_number place, small, e) in
+pub written_here : Facts → (place : List Bool) (i : ℕ) → i < past_all → number_of place ≡ i → writes (true ∷ []) (narrow place) i ≡ true
+written_here facts place i small e =
+    let number : number_of (narrow place) ≡ i = omega (arith, facts.data_cells.narrow_number place, small, e) in
     (Decides-eqb (number_of (narrow place)) i).1 number
 
-pub written_elsewhere : (place : List Bool) (i : ℕ) → i < past_all → ¬ (number_of place ≡ i) → writes (true ∷ []) (narrow place) i ≡ false
-written_elsewhere place i small e = by (writes (true ∷ []) (narrow place) i) refl
+pub written_elsewhere : Facts → (place : List Bool) (i : ℕ) → i < past_all → ¬ (number_of place ≡ i) → writes (true ∷ []) (narrow place) i ≡ false
+written_elsewhere facts place i small e = by (writes (true ∷ []) (narrow place) i) refl
   where
     by : (b : Bool) → writes (true ∷ []) (narrow place) i ≡ b → b ≡ false
     by false is = refl
     by true is =
         let number : number_of (narrow place) ≡ i = (Decides-eqb (number_of (narrow place)) i).0 is in
-        absurd (e (omega (arith, narrow_number place, small, number)))
+        absurd (e (omega (arith, facts.data_cells.narrow_number place, small, number)))
 
 -- what a memory has at its inputs, where an address is read, and the rest of a write stands behind its first bit
 pub record Inputs (net : Net) (path : List ℕ) (g : List Event) (ram : Memory) (k width : ℕ) (address : List Bool) (bit : Bool) (rest : List Bool) : Type 0 where
@@ -117,44 +117,44 @@ pub record Inputs (net : Net) (path : List ℕ) (g : List Event) (ram : Memory) 
   pub place : ValueIn net path g ram.inputs.place.number (narrow (take k rest))
   pub value : ValueIn net path g ram.inputs.value.number (take width (drop k rest))
 
-module _ (net : Net) (path : List ℕ) (w k n : ℕ) (domain : DomId) (words : List (List Bool)) (read write : List WireId) (has : HasCells net path (memory (suc w) k n domain words read write).cells) where
+module _ (facts : Facts) (net : Net) (path : List ℕ) (w k n : ℕ) (domain : DomId) (words : List (List Bool)) (read write : List WireId) (has : HasCells net path (memory (suc w) k n domain words read write).cells) where
   behind_cuts : HasCells net path (read_address (suc w) k n read write ▸ place_address (suc w) k n read write ▸ one (suc w) (ram_cell (suc w) k n domain words read write)).cells
-  behind_cuts = has_right net path [] (cuts (suc w) k n write).cells (read_address (suc w) k n read write ▸ place_address (suc w) k n read write ▸ one (suc w) (ram_cell (suc w) k n domain words read write)).cells has
+  behind_cuts = has_second (cuts (suc w) k n write).cells (read_address (suc w) k n read write ▸ place_address (suc w) k n read write ▸ one (suc w) (ram_cell (suc w) k n domain words read write)).cells has
 
   behind_read : HasCells net path (place_address (suc w) k n read write ▸ one (suc w) (ram_cell (suc w) k n domain words read write)).cells
-  behind_read = has_right net path [] (read_address (suc w) k n read write).cells (place_address (suc w) k n read write ▸ one (suc w) (ram_cell (suc w) k n domain words read write)).cells behind_cuts
+  behind_read = has_second (read_address (suc w) k n read write).cells (place_address (suc w) k n read write ▸ one (suc w) (ram_cell (suc w) k n domain words read write)).cells behind_cuts
 
   cut_cells : HasCells net path (cuts (suc w) k n write).cells
-  cut_cells = has_left net path [] (cuts (suc w) k n write).cells (read_address (suc w) k n read write ▸ place_address (suc w) k n read write ▸ one (suc w) (ram_cell (suc w) k n domain words read write)).cells has
+  cut_cells = has_first (cuts (suc w) k n write).cells (read_address (suc w) k n read write ▸ place_address (suc w) k n read write ▸ one (suc w) (ram_cell (suc w) k n domain words read write)).cells has
 
   first_cells : HasCells net path (cuts_before (suc w) k n write).cells
-  first_cells = has_left net path [] (cuts_before (suc w) k n write).cells (value_cut (suc w) k n write).cells cut_cells
+  first_cells = has_first (cuts_before (suc w) k n write).cells (value_cut (suc w) k n write).cells cut_cells
 
   pub has_ram : HasRamAt net path (wire (ram_wire (suc w) k n read write)) (ram_of (suc w) k n domain words read write)
-  has_ram = has_right net path [] (place_address (suc w) k n read write).cells (one (suc w) (ram_cell (suc w) k n domain words read write)).cells behind_read 0 _ refl
+  has_ram = has_second (place_address (suc w) k n read write).cells (one (suc w) (ram_cell (suc w) k n domain words read write)).cells behind_read 0 _ refl
 
   pub has_inputs : (g : List Event) (address : List Bool) (bit : Bool) (rest : List Bool) → Bears net path g read address → length address ≡ k → Bears net path g write (bit ∷ rest) → length rest ≡ k + suc w
       → Inputs net path g (ram_of (suc w) k n domain words read write) k (suc w) address bit rest
   has_inputs g address bit rest reads narrow_enough bears size =
       let some : 0 < suc w = omega arith in
-      let v : ValueIn net path g (only write).number (bit ∷ rest) = value_of net path g bears (omega arith) in
+      let v : ValueIn net path g (only write).number (bit ∷ rest) = facts.cells.wire_value net path g bears (omega arith) in
       let place : Bears net path g (place_wires k n) (take k rest) =
-      one_bears net path g (n + 1) k (Cut (wire (n + 1)) (only write) (k + suc w - 1) (suc w)) (take k rest) (taken_length k (suc w) rest size)
-      (has_right net path [] (enable_cut (suc w) k n write).cells (place_cut (suc w) k n write).cells first_cells)
-      (λ lt cell. subst (λ bits. ValueIn net path g (n + 1) bits) (place_bits k (suc w) bit rest some size) (cut_value net path g (n + 1) (k + suc w - 1) (suc w) (only write) (bit ∷ rest) cell v)) in
+      facts.cells.one_bears net path g (n + 1) k (Cut (wire (n + 1)) (only write) (k + suc w - 1) (suc w)) (take k rest) (taken_length k (suc w) rest size)
+      (has_second (enable_cut (suc w) k n write).cells (place_cut (suc w) k n write).cells first_cells)
+      (λ lt cell. subst (λ bits. ValueIn net path g (n + 1) bits) (place_bits k (suc w) bit rest some size) (facts.cells.cut_value net path g (n + 1) (k + suc w - 1) (suc w) (only write) (bit ∷ rest) cell v)) in
       let at : ℕ = after n (cuts_before (suc w) k n write) in
       let long = length-append (cuts_before (suc w) k n write).widths (value_cut (suc w) k n write).widths in
       let last : at ≡ after n (cuts (suc w) k n write) - 1 = omega (arith, long) in
       let value : ValueIn net path g at (take (suc w) (drop k rest)) =
       subst (λ bits. ValueIn net path g at bits) (value_bits k (suc w) bit rest some size)
-      (cut_value net path g at (suc w - 1) 0 (only write) (bit ∷ rest) (has_right net path [] (cuts_before (suc w) k n write).cells (value_cut (suc w) k n write).cells cut_cells 0 _ refl) v) in
+      (facts.cells.cut_value net path g at (suc w - 1) 0 (only write) (bit ∷ rest) (has_second (cuts_before (suc w) k n write).cells (value_cut (suc w) k n write).cells cut_cells 0 _ refl) v) in
       record {
-        read = address_bears net path g k (after n (cuts (suc w) k n write)) read address reads narrow_enough
-            (has_left net path [] (read_address (suc w) k n read write).cells (place_address (suc w) k n read write ▸ one (suc w) (ram_cell (suc w) k n domain words read write)).cells behind_cuts);
+        read = facts.data_cells.address_bears net path g k (after n (cuts (suc w) k n write)) read address reads narrow_enough
+            (has_first (read_address (suc w) k n read write).cells (place_address (suc w) k n read write ▸ one (suc w) (ram_cell (suc w) k n domain words read write)).cells behind_cuts);
         enable = subst (λ bits. ValueIn net path g n bits) (enable_bit k (suc w) bit rest size)
-            (cut_value net path g n (k + suc w) (k + suc w) (only write) (bit ∷ rest) (first_cells 0 _ refl) v);
-        place = address_bears net path g k (after (after n (cuts (suc w) k n write)) (read_address (suc w) k n read write)) (place_wires k n) (take k rest) place (taken_length k (suc w) rest size)
-            (has_left net path [] (place_address (suc w) k n read write).cells (one (suc w) (ram_cell (suc w) k n domain words read write)).cells behind_read);
+            (facts.cells.cut_value net path g n (k + suc w) (k + suc w) (only write) (bit ∷ rest) (first_cells 0 _ refl) v);
+        place = facts.data_cells.address_bears net path g k (after (after n (cuts (suc w) k n write)) (read_address (suc w) k n read write)) (place_wires k n) (take k rest) place (taken_length k (suc w) rest size)
+            (has_first (place_address (suc w) k n read write).cells (one (suc w) (ram_cell (suc w) k n domain words read write)).cells behind_read);
         value = subst (λ i. ValueIn net path g i (take (suc w) (drop k rest))) last value;
       }
 
@@ -167,7 +167,7 @@ module _ (net : Net) (path : List ℕ) (w k n : ℕ) (domain : DomId) (words : L
       let one_more = length-append q (r ++ (s ++ suc w ∷ [])) in
       let two_more = length-append r (s ++ suc w ∷ []) in
       let three_more = length-append s (suc w ∷ []) in
-      last_at n (ram_wire (suc w) k n read write) (suc w) (memory (suc w) k n domain words read write) (λ some. omega (arith, one_more, two_more, three_more))
+      facts.cells.last_at n (ram_wire (suc w) k n read write) (suc w) (memory (suc w) k n domain words read write) (λ some. omega (arith, one_more, two_more, three_more))
 
   pub has_width : HasWidths net path n (memory (suc w) k n domain words read write).widths → HasWidthAt net path (wire (ram_wire (suc w) k n read write)) (suc w)
   has_width widths =

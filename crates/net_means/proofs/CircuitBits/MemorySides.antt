@@ -15,9 +15,7 @@ use Rattle.chw_types.specs.SamePromises.{SameValues, natural_value}
 use Rattle.chw_types.specs.SameTypes.{SameTypes}
 use Rattle.chw_types.specs.TypeMoves.{sub}
 use Rattle.chw_types.specs.TypeTree.{TypeTree, TypeTrees, ty_var, nat_lit, nat_sum, domain, scalar, vector, signal, type_and}
-use Rattle.chw_types.proofs.SameLaws.{same_self, same_turned, same_through}
 use Rattle.type_laws.specs.SameKept.{FieldsKeepSame}
-use Rattle.type_laws.proofs.SameForms.{as_signal}
 use Rattle.chw_prims.specs.declared.prim.Primitive.TheVariants.{BlockRam}
 use Rattle.chw_prims.specs.Schemas.{maybe, pair}
 use Rattle.chw_terms.specs.declared.program.Program.{Program}
@@ -27,29 +25,16 @@ use Rattle.chw_terms.specs.TermTree.{TermTree, var, prim}
 use Rattle.chw_typing.specs.Programs.{IsSound, setting_of}
 use Rattle.chw_typing.specs.Scopes.{Setting, HasKind, AreTermTypes}
 use Rattle.chw_typing.specs.Typing.{HasType, HasTypeUpTo}
-use Rattle.chw_typing.proofs.EvaluatedTypes.{same_evaluated}
-use Rattle.chw_typing.proofs.PutAgreeing.{closed_put}
 use Rattle.chw_typing.specs.Alike.{AreLike}
-use Rattle.chw_typing.proofs.Saturated.{prim_at_arguments}
 use Rattle.rewriting.specs.Origins.{Origins, setting_at}
 use Rattle.normal_forms.specs.Circuits.{beginning_with, content_type}
 use Rattle.chw_layout.specs.Datum.{Datum}
-use Rattle.chw_layout.proofs.Encodings.{BitsMean}
-use Rattle.chw_layout.proofs.Fitting.{scalar_width}
 use Rattle.chw_layout.specs.Measured.{closed_value, HasWidth}
-use Rattle.layout_laws.proofs.SameLayout.{same_number, measured_same, zero_same}
 use Rattle.layout_laws.specs.ZeroThere.{ZeroExists}
 use Rattle.chw_meaning.specs.Values.{History, Value, Thunk, closed, field, known, Thunks, closed_type, value_of}
 use Rattle.chw_meaning.specs.Steps.{Ram, remembers, in_domain}
 use Rattle.chw_meaning.specs.Eval.{dom, Forces, f_closed, f_known, Runs, Looks}
-use Rattle.chw_meaning.proofs.Widths.{width_once}
-use Rattle.chw_meaning.proofs.ZerosEncoded.{zero_bits}
 use Rattle.carrying.specs.Carrying.{Holds, Shows, shows_nothing, shows_bits}
-use Rattle.carrying.proofs.Known.{known_shows}
-use Rattle.carrying.proofs.Same.{shown_same}
-use Rattle.carrying.proofs.Spines.{prim_whole}
-use Rattle.carrying.proofs.Widths.{held_length, held_shows, shown_length}
-use Rattle.carrying.proofs.Words.{shown_looks}
 use Rattle.netlist.specs.NetValue.{Memory}
 use Rattle.netlist.specs.declared.net.Net.{Net}
 use Rattle.net_built.specs.Circuits.{Ground as Built, CircuitCells, of_block_ram}
@@ -58,7 +43,7 @@ use Rattle.net_built.specs.Memories.{HasWords, memory}
 use Rattle.net_built.specs.Terms.{Variable, wires_at, wires_of}
 use Rattle.net_built.specs.Wires.{wire_count, Piece, last_wires}
 use Rattle.cell_bits.specs.Bearing.{HasCells, Bears}
-use Rattle.cell_bits.proofs.DataCells.{bears_at}
+use Rattle.net_grounds.specs.Facts.{Facts}
 use Rattle.net_means.proofs.SideBits.Operands.{sound_alone}
 use Rattle.net_means.proofs.SideBits.Vectors.{vector_within}
 use Rattle.net_means.specs.SideBits.Sides.{ground_of, types_in}
@@ -93,10 +78,10 @@ pub record MemoryTyped (s : Setting) (vars : List TypeTree) (d m k a : TypeTree)
   address_kind : KindOf s.datas s.domains [] k Nat
   kind : KindOf s.datas s.domains [] a Val
 
-pub memory_typed : (s : Setting) (vars : List TypeTree) (d m k a : TypeTree) (c : TermTree) (x y : ℕ) (t : TypeTree) → IsSound s → AreTermTypes s [] vars → HasType s [] vars (beginning_with BlockRam (d ∷ m ∷ k ∷ a ∷ []) c (x ∷ y ∷ [])) t → MemoryTyped s vars d m k a c x y t
+pub memory_typed : Facts → (s : Setting) (vars : List TypeTree) (d m k a : TypeTree) (c : TermTree) (x y : ℕ) (t : TypeTree) → IsSound s → AreTermTypes s [] vars → HasType s [] vars (beginning_with BlockRam (d ∷ m ∷ k ∷ a ∷ []) c (x ∷ y ∷ [])) t → MemoryTyped s vars d m k a c x y t
 unfolding sub
-memory_typed s vars d m k a c x y t sound scoped typed =
-    let at = prim_at_arguments s [] vars BlockRam (Dom ∷ Nat ∷ Nat ∷ Val ∷ []) (vector (nat_sum (ty_var 2) (nat_lit 1)) (ty_var 0) ∷ signal (ty_var 3) (scalar U (ty_var 1)) ∷ signal (ty_var 3) (maybe (pair (scalar U (ty_var 1)) (ty_var 0))) ∷ []) (signal (ty_var 3) (ty_var 0)) (d ∷ m ∷ k ∷ a ∷ []) (c ∷ var x ∷ var y ∷ []) t sound scoped refl refl refl typed in
+memory_typed facts s vars d m k a c x y t sound scoped typed =
+    let at = facts.terms.prim_at_arguments s [] vars BlockRam (Dom ∷ Nat ∷ Nat ∷ Val ∷ []) (vector (nat_sum (ty_var 2) (nat_lit 1)) (ty_var 0) ∷ signal (ty_var 3) (scalar U (ty_var 1)) ∷ signal (ty_var 3) (maybe (pair (scalar U (ty_var 1)) (ty_var 0))) ∷ []) (signal (ty_var 3) (ty_var 0)) (d ∷ m ∷ k ∷ a ∷ []) (c ∷ var x ∷ var y ∷ []) t sound scoped refl refl refl typed in
     let kinds = the_kinds at.have in
     record {
       constant = at.args_given.0;
@@ -112,8 +97,8 @@ memory_typed s vars d m k a c x y t sound scoped typed =
     the_kinds (kind_and i (kind_and j (kind_and k (kind_and l more)))) = (j, k, l)
 
 -- a closed type in an environment means the same
-pub closed_same : {datas : List Data} {domains : ℕ} {t : TypeTree} {j : Kind} → KindOf datas domains [] t j → (δ : TypeTrees) → SameTypes t (evaluated (closed_type t δ))
-closed_same {t = t} kind δ = subst (λ u. SameTypes u (evaluated (closed_type t δ))) (closed_put kind _) (same_evaluated (closed_type t δ))
+pub closed_same : Facts → {datas : List Data} {domains : ℕ} {t : TypeTree} {j : Kind} → KindOf datas domains [] t j → (δ : TypeTrees) → SameTypes t (evaluated (closed_type t δ))
+closed_same facts {t = t} kind δ = subst (λ u. SameTypes u (evaluated (closed_type t δ))) (facts.kinds.closed_put kind _) (facts.same.same_evaluated (closed_type t δ))
 
 -- a domain is evaluated
 domain_stays : (d : ℕ) (δ : TypeTrees) → domain d ≡ evaluated (closed_type (domain d) δ)
@@ -133,10 +118,10 @@ ram_at d m k a c x y γ δ = record {
 }
 
 -- what it remembers it shows
-memory_forces : (p : Program) (d : ℕ) (m k a : TypeTree) (c : TermTree) (x y : ℕ) (γ : Thunks) (δ : TypeTrees) (h : History) (n : ℕ) (v : Value) → Runs p n (remembers (ram_at d m k a c x y γ δ)) h v → (r : ℕ) × Forces p r (closed (beginning_with BlockRam (domain d ∷ m ∷ k ∷ a ∷ []) c (x ∷ y ∷ [])) γ δ) h v
-memory_forces p d m k a c x y γ δ h n v run =
+memory_forces : Facts → (p : Program) (d : ℕ) (m k a : TypeTree) (c : TermTree) (x y : ℕ) (γ : Thunks) (δ : TypeTrees) (h : History) (n : ℕ) (v : Value) → Runs p n (remembers (ram_at d m k a c x y γ δ)) h v → (r : ℕ) × Forces p r (closed (beginning_with BlockRam (domain d ∷ m ∷ k ∷ a ∷ []) c (x ∷ y ∷ [])) γ δ) h v
+memory_forces facts p d m k a c x y γ δ h n v run =
     let step = subst (λ t. Runs p n (in_domain t (λ d. remembers (ram_at d m k a c x y γ δ))) h v) (domain_stays d δ) run in
-    let e = prim_whole p BlockRam γ δ h (domain d ∷ m ∷ k ∷ a ∷ []) (c ∷ var x ∷ var y ∷ []) refl refl n v step in
+    let e = facts.prims.prim_whole p BlockRam γ δ h (domain d ∷ m ∷ k ∷ a ∷ []) (c ∷ var x ∷ var y ∷ []) refl refl n v step in
     (e.0, f_closed e.1)
 
 -- a sum with the same natural
@@ -152,19 +137,19 @@ record WholeSignal (p : Program) (net : Net) (path : List ℕ) (g : History) (v 
   shows : Shows p v th g bits
   bears : Bears net path g wires bits
 
-module _ (o : Origins) (scope : List Variable) (γ : Thunks) (δ : TypeTrees) (net : Net) (path : List ℕ) (values : SameValues) (keep : FieldsKeepSame) (sound : IsSound (setting_at o)) (scoped : AreTermTypes (setting_at o) [] (types_in scope)) (held : AreHeld o.program.datas scope) where
+module _ (facts : Facts) (o : Origins) (scope : List Variable) (γ : Thunks) (δ : TypeTrees) (net : Net) (path : List ℕ) (values : SameValues) (keep : FieldsKeepSame) (sound : IsSound (setting_at o)) (scoped : AreTermTypes (setting_at o) [] (types_in scope)) (held : AreHeld o.program.datas scope) where
   whole_signal : (x : ℕ) (d v : TypeTree) (g : History) → HasTypeUpTo (setting_at o) [] (types_in scope) (var x) (signal d v) → VariableLeaf o.program net path scope γ g x zero → WholeSignal o.program net path g v (closed (var x) γ δ) (wires_at scope x)
   whole_signal x d v g typed has =
       let p : Program = o.program in
-      let s : SignalHas p net path g v (closed (var x) γ δ) (wires_at scope x) = operand_signal o scope γ δ net path values keep sound scoped x d v v g typed (same_self v) has in
+      let s : SignalHas p net path g v (closed (var x) γ δ) (wires_at scope x) = operand_signal facts o scope γ δ net path values keep sound scoped x d v v g typed (facts.same.same_self v) has in
       let it : Variable = has.it in
       let there = held x it has.known in
-      let like = operand_like o scope x it (signal d v) sound scoped has.known typed in
-      let at = as_signal (same_turned like.same) in
+      let like = operand_like facts o scope x it (signal d v) sound scoped has.known typed in
+      let at = facts.same.as_signal (facts.same.same_turned like.same) in
       let part = signal_part (subst (λ t. HasParts p.datas Circuit t there.0) at.2 there.1) in
       let kinded = subst (λ t. HasKind (setting_of p) [] t like.kind) at.2 like.has in
-      let alike : AreLike (setting_of p) at.1 v = payload_like {d = at.0} kinded (same_turned at.4) in
-      let width : part.0 ≡ s.width = width_once (measured_same (setting_of p) (sound_alone o sound) values keep part.1 alike) s.wide in
+      let alike : AreLike (setting_of p) at.1 v = payload_like {d = at.0} kinded (facts.same.same_turned at.4) in
+      let width : part.0 ≡ s.width = facts.widths.width_once (facts.same_layout.measured_same (setting_of p) (sound_alone o sound) values keep part.1 alike) s.wide in
       let wires : wires_at scope x ≡ it.wires = wires_there scope x it has.known in
       let long : wire_count (s.width ∷ []) ≡ length (wires_at scope x) =
       ap (λ w. wire_count (w ∷ [])) (sym width) ∙ ap wire_count (sym part.2) ∙ sym there.2 ∙ ap length (sym wires) in
@@ -180,19 +165,19 @@ module _ (o : Origins) (scope : List Variable) (γ : Thunks) (δ : TypeTrees) (n
 known_value : {p : Program} {n : ℕ} {z : Datum} {h : History} {v : Value} → Forces p n (known z) h v → v ≡ value_of z
 known_value f_known = refl
 
-zero_held : {p : Program} {a : TypeTree} {z : Datum} {h : History} {bits : List Bool} (w : ℕ) → HasWidth p.datas a (suc w) → Shows p a (known z) h bits → Holds p a (value_of z) bits
-zero_held w wide (shows_nothing none) = let bad : 0 ≡ suc w = width_once none wide in absurd (omega (arith, bad))
-zero_held {p} {a} {bits = bits} w wide (shows_bits some f held) = subst (λ v. Holds p a v bits) (known_value f) held
+zero_held : Facts → {p : Program} {a : TypeTree} {z : Datum} {h : History} {bits : List Bool} (w : ℕ) → HasWidth p.datas a (suc w) → Shows p a (known z) h bits → Holds p a (value_of z) bits
+zero_held facts w wide (shows_nothing none) = let bad : 0 ≡ suc w = facts.widths.width_once none wide in absurd (omega (arith, bad))
+zero_held facts {p} {a} {bits = bits} w wide (shows_bits some f held) = subst (λ v. Holds p a v bits) (known_value f) held
 
-module _ (o : Origins) (order : List ℕ) (scope : List Variable) (γ : Thunks) (δ : TypeTrees) (net : Net) (path : List ℕ) (h : History) (n : ℕ) (widths : List ℕ) (t : TypeTree) (piece : Piece) (values : SameValues) (keep : FieldsKeepSame) (mean : BitsMean) (zeros : ZeroExists) (d x y : ℕ) (m k a : TypeTree) (c : TermTree) (g : CircuitGiven o order scope net path n widths t (beginning_with BlockRam (domain d ∷ m ∷ k ∷ a ∷ []) c (x ∷ y ∷ [])) piece) (takes : MemoryTakes o net path scope γ h n d x y m a c piece) where
+module _ (facts : Facts) (o : Origins) (order : List ℕ) (scope : List Variable) (γ : Thunks) (δ : TypeTrees) (net : Net) (path : List ℕ) (h : History) (n : ℕ) (widths : List ℕ) (t : TypeTree) (piece : Piece) (values : SameValues) (keep : FieldsKeepSame) (zeros : ZeroExists) (d x y : ℕ) (m k a : TypeTree) (c : TermTree) (g : CircuitGiven o order scope net path n widths t (beginning_with BlockRam (domain d ∷ m ∷ k ∷ a ∷ []) c (x ∷ y ∷ [])) piece) (takes : MemoryTakes o net path scope γ h n d x y m a c piece) where
   typed : MemoryTyped (setting_at o) (types_in scope) (domain d) m k a c x y g.typed.type
-  typed = memory_typed (setting_at o) (types_in scope) (domain d) m k a c x y g.typed.type g.sound g.scoped g.typed.has
+  typed = memory_typed facts (setting_at o) (types_in scope) (domain d) m k a c x y g.typed.type g.sound g.scoped g.typed.has
 
   q : MemoryPiece (ground_of o.program order) scope n d widths k a c (var x) (var y) piece
   q = memory_piece g.built
 
   at : (e : TypeTree) × (v : TypeTree) × (t ≡ signal e v) × SameTypes (domain d) e × SameTypes a v
-  at = as_signal (same_through typed.same (same_turned g.typed.same))
+  at = facts.same.as_signal (facts.same.same_through typed.same (facts.same.same_turned g.typed.same))
 
   alone : IsSound (setting_of o.program)
   alone = sound_alone o g.sound
@@ -206,7 +191,7 @@ module _ (o : Origins) (order : List ℕ) (scope : List Variable) (γ : Thunks) 
       let first : part.0 ∷ [] ≡ q.width ∷ [] = sym part.2 in
       let width : part.0 ≡ q.width = cc in
       let kinded : HasKind (setting_of o.program) [] (signal at.0 at.1) g.kind = subst (λ t. HasKind (setting_of o.program) [] t g.kind) at.2 g.kinded in
-      measured_same (setting_of o.program) alone values keep (subst (HasWidth o.program.datas at.1) width part.1) (payload_like {d = at.0} kinded (same_turned at.4))
+      facts.same_layout.measured_same (setting_of o.program) alone values keep (subst (HasWidth o.program.datas at.1) width part.1) (payload_like {d = at.0} kinded (facts.same.same_turned at.4))
 
   abbrev the_ram : Ram
   the_ram = ram_at d m k a c x y γ δ
@@ -226,29 +211,29 @@ module _ (o : Origins) (order : List ℕ) (scope : List Variable) (γ : Thunks) 
     has_payload = subst (HasWidth o.program.datas a) wide payload_wide
 
     address_is : closed_value k ≡ the_ram.address
-    address_is = same_number values (closed_same typed.address_kind δ)
+    address_is = facts.same_layout.same_number values (closed_same facts typed.address_kind δ)
 
     size_is : closed_value (nat_sum m (nat_lit 1)) ≡ the_ram.size
-    size_is = same_more m (evaluated (closed_type m δ)) (same_number values (closed_same typed.size_kind δ))
+    size_is = same_more m (evaluated (closed_type m δ)) (facts.same_layout.same_number values (closed_same facts typed.size_kind δ))
 
     -- a tick at which the address and the write have bits
     at_tick : (k' : History) → (r : WholeSignal o.program net path k' (scalar U k) (closed (var x) γ δ) (wires_at scope x)) → (bits : List Bool) → length bits ≡ suc (closed_value k + suc w) → Bears net path k' (wires_at scope y) bits
         → WriteShown o.program k a (closed (var y) γ δ) k' (closed_value k) (suc w) bits → ReadHas o.program net path the_ram mem k' × WriteHas o.program net path the_ram mem a k'
     at_tick g' r bits size bears shown =
         let p : Program = o.program in
-        let narrow_enough : length r.bits ≡ closed_value k = shown_length r.shows r.wide ∙ scalar_width r.wide in
-        let reads = shown_looks r.shows in
+        let narrow_enough : length r.bits ≡ closed_value k = facts.shows.shown_length r.shows r.wide ∙ facts.widths.scalar_width r.wide in
+        let reads = facts.shows.shown_looks r.shows in
         let looks : Looks p reads.0 the_ram.address (closed (var x) γ δ) g' r.bits = subst (λ i. Looks p reads.0 i (closed (var x) γ δ) g' r.bits) (narrow_enough ∙ address_is) reads.1 in
         by bits size bears shown looks narrow_enough
       where
         by : (bits : List Bool) → length bits ≡ suc (closed_value k + suc w) → Bears net path g' (wires_at scope y) bits → WriteShown o.program k a (closed (var y) γ δ) g' (closed_value k) (suc w) bits
             → {turns : ℕ} → Looks o.program turns the_ram.address (closed (var x) γ δ) g' r.bits → length r.bits ≡ closed_value k → ReadHas o.program net path the_ram mem g' × WriteHas o.program net path the_ram mem a g'
         by _ size bears (nothing_written {rest = rest} u) {turns} looks long =
-            let i = has_inputs net path w (closed_value k) n (dom d) q.words (wires_at scope x) (wires_at scope y) cells g' r.bits false rest r.bears long bears (omega (arith, size)) in
+            let i = has_inputs facts net path w (closed_value k) n (dom d) q.words (wires_at scope x) (wires_at scope y) cells g' r.bits false rest r.bears long bears (omega (arith, size)) in
             (record { bits = r.bits; turns = turns; looks = looks; value = i.read }, no_write (take (closed_value k) rest) u.forces i.enable i.place)
         by _ size bears (value_written {rest = rest} u) {turns} looks long =
-            let i = has_inputs net path w (closed_value k) n (dom d) q.words (wires_at scope x) (wires_at scope y) cells g' r.bits true rest r.bears long bears (omega (arith, size)) in
-            let place = shown_looks u.place in
+            let i = has_inputs facts net path w (closed_value k) n (dom d) q.words (wires_at scope x) (wires_at scope y) cells g' r.bits true rest r.bears long bears (omega (arith, size)) in
+            let place = facts.shows.shown_looks u.place in
             let short : length (take (closed_value k) rest) ≡ closed_value k = length-take-le (closed_value k) rest (omega (arith, size)) in
             let at_place : Looks o.program place.0 the_ram.address (field 1 u.couple) g' (take (closed_value k) rest) = subst (λ j. Looks o.program place.0 j (field 1 u.couple) g' (take (closed_value k) rest)) (short ∙ address_is) place.1 in
             (record { bits = r.bits; turns = turns; looks = looks; value = i.read }, a_write u.forces at_place u.value i.enable i.place i.value)
@@ -256,40 +241,40 @@ module _ (o : Origins) (order : List ℕ) (scope : List Variable) (γ : Thunks) 
     tick_has : (k' : History) → IsEarlier d h k' → ReadHas o.program net path the_ram mem k' × WriteHas o.program net path the_ram mem a k'
     tick_has g' earlier =
         let p : Program = o.program in
-        let r = whole_signal o scope γ δ net path values keep g.sound g.scoped g.held x (domain d) (scalar U k) g' typed.reads (takes.read g' earlier) in
-        let s = whole_signal o scope γ δ net path values keep g.sound g.scoped g.held y (domain d) (maybe (pair (scalar U k) a)) g' typed.writes (takes.write g' earlier) in
-        let sized : HasWidth p.datas (scalar U k) (closed_value k) = subst (HasWidth p.datas (scalar U k)) (scalar_width r.wide) r.wide in
-        let long : length s.bits ≡ suc (closed_value k + suc w) = shown_length s.shows s.wide ∙ write_width p g.sound.begins.0 g.sound.begins.1 mean k a (closed_value k) (suc w) sized has_payload s.width s.wide in
-        at_tick g' r s.bits long s.bears (write_shown p g.sound.begins.0 g.sound.begins.1 mean k a (closed_value k) (suc w) sized has_payload (closed (var y) γ δ) g' s.bits s.shows)
+        let r = whole_signal facts o scope γ δ net path values keep g.sound g.scoped g.held x (domain d) (scalar U k) g' typed.reads (takes.read g' earlier) in
+        let s = whole_signal facts o scope γ δ net path values keep g.sound g.scoped g.held y (domain d) (maybe (pair (scalar U k) a)) g' typed.writes (takes.write g' earlier) in
+        let sized : HasWidth p.datas (scalar U k) (closed_value k) = subst (HasWidth p.datas (scalar U k)) (facts.widths.scalar_width r.wide) r.wide in
+        let long : length s.bits ≡ suc (closed_value k + suc w) = facts.shows.shown_length s.shows s.wide ∙ write_width facts p g.sound.begins.0 g.sound.begins.1 k a (closed_value k) (suc w) sized has_payload s.width s.wide in
+        at_tick g' r s.bits long s.bears (write_shown facts p g.sound.begins.0 g.sound.begins.1 k a (closed_value k) (suc w) sized has_payload (closed (var y) γ δ) g' s.bits s.shows)
 
     zero_has : ZeroHas o.program the_ram a (suc w)
     zero_has =
         let p : Program = o.program in
         let z = zeros p.datas a (suc w) takes.constructors has_payload in
-        let like : AreLike (setting_of p) a (evaluated (closed_type a δ)) = record { kind = Val; has = typed.kind; same = closed_same typed.kind δ } in
+        let like : AreLike (setting_of p) a (evaluated (closed_type a δ)) = record { kind = Val; has = typed.kind; same = closed_same facts typed.kind δ } in
         record {
           zero_value = z.0;
-          is = zero_same (setting_of p) alone values keep z.1 like;
-          holds = zero_held w has_payload (known_shows (suc w) has_payload (zero_bits has_payload z.1) h);
+          is = facts.same_layout.zero_same (setting_of p) alone values keep z.1 like;
+          holds = zero_held facts w has_payload (facts.shows.known_shows (suc w) has_payload (facts.encodings.zero_bits has_payload z.1) h);
         }
 
     wide_has : LeafHas o.program net path h t (closed (beginning_with BlockRam (domain d ∷ m ∷ k ∷ a ∷ []) c (x ∷ y ∷ [])) γ δ) (last_wires n piece widths) zero
     wide_has =
         let p : Program = o.program in
-        let small : closed_value (nat_sum m (nat_lit 1)) ≤ VECTOR_LENGTH = vector_within takes.wide in
-        let content = content_shows o (types_in scope) γ δ values keep g.sound g.scoped takes.constant (nat_sum m (nat_lit 1)) a (suc w) q.words q.has has_payload typed.constant small in
-        let r = ram_has p net path the_ram mem a (w, has_payload) refl (content.0 ∙ size_is) (omega (arith, small, size_is))
+        let small : closed_value (nat_sum m (nat_lit 1)) ≤ VECTOR_LENGTH = vector_within facts takes.wide in
+        let content = content_shows facts o (types_in scope) γ δ values keep g.sound g.scoped takes.constant (nat_sum m (nat_lit 1)) a (suc w) q.words q.has has_payload typed.constant small in
+        let r = ram_has facts p net path the_ram mem a (w, has_payload) refl (content.0 ∙ size_is) (omega (arith, small, size_is))
         (λ i l. let one = content.1 i (omega (arith, l, content.0, size_is)) in record { bits = one.bits; word = one.word; shows = one.shows })
         (ram_wire (suc w) (closed_value k) n (wires_at scope x) (wires_at scope y)) h (suc w) zero_has
-        (has_ram net path w (closed_value k) n (dom d) q.words (wires_at scope x) (wires_at scope y) cells)
-        (has_width net path w (closed_value k) n (dom d) q.words (wires_at scope x) (wires_at scope y) cells (subst (λ (r : Piece). HasWidths net path n r.widths) is takes.widths))
+        (has_ram facts net path w (closed_value k) n (dom d) q.words (wires_at scope x) (wires_at scope y) cells)
+        (has_width facts net path w (closed_value k) n (dom d) q.words (wires_at scope x) (wires_at scope y) cells (subst (λ (r : Piece). HasWidths net path n r.widths) is takes.widths))
         (λ k' e. (tick_has k' e).1) (λ k' e. (tick_has k' e).0) in
-        let forces = memory_forces p d m k a c x y γ δ h r.turns r.value r.runs in
-        let shows = shown_same p alone values keep (held_shows (suc w) has_payload forces.1 r.holds) (record { kind = Val; has = typed.kind; same = at.4 }) in
-        let size : length r.bits ≡ suc w = held_length r.holds has_payload in
+        let forces = memory_forces facts p d m k a c x y γ δ h r.turns r.value r.runs in
+        let shows = facts.shows.shown_same p alone values keep (facts.shows.held_shows (suc w) has_payload forces.1 r.holds) (record { kind = Val; has = typed.kind; same = at.4 }) in
+        let size : length r.bits ≡ suc w = facts.shows.held_length r.holds has_payload in
         let bears : Bears net path h (part_wires zero (suc w ∷ []) (last_wires n (memory (suc w) (closed_value k) n (dom d) q.words (wires_at scope x) (wires_at scope y)) (suc w ∷ []))) r.bits =
-        subst (λ ws. Bears net path h (part_wires zero (suc w ∷ []) ws) r.bits) (sym (last_of_memory net path w (closed_value k) n (dom d) q.words (wires_at scope x) (wires_at scope y) cells))
-        (bears_at net path h (ram_wire (suc w) (closed_value k) n (wires_at scope x) (wires_at scope y)) (suc w) r.bits size (λ some. r.on_wire)) in
+        subst (λ ws. Bears net path h (part_wires zero (suc w ∷ []) ws) r.bits) (sym (last_of_memory facts net path w (closed_value k) n (dom d) q.words (wires_at scope x) (wires_at scope y) cells))
+        (facts.cells.bears_at net path h (ram_wire (suc w) (closed_value k) n (wires_at scope x) (wires_at scope y)) (suc w) r.bits size (λ some. r.on_wire)) in
         let there = from_signal (subst (λ i. HasParts p.datas Circuit (signal at.0 at.1) (i ∷ [])) wide parts) shows bears in
         subst (λ t. LeafHas p net path h t (closed (beginning_with BlockRam (domain d ∷ m ∷ k ∷ a ∷ []) c (x ∷ y ∷ [])) γ δ) (last_wires n piece widths) zero) (sym at.2)
         (subst (λ ws. LeafHas p net path h (signal at.0 at.1) (closed (beginning_with BlockRam (domain d ∷ m ∷ k ∷ a ∷ []) c (x ∷ y ∷ [])) γ δ) (last_wires n piece ws) zero) (sym (q.are ∙ ap (λ i. i ∷ []) wide))
@@ -299,5 +284,5 @@ module _ (o : Origins) (order : List ℕ) (scope : List Variable) (γ : Thunks) 
   memory_has = by q.width refl
     where
       by : (w : ℕ) → q.width ≡ w → LeafHas o.program net path h t (closed (beginning_with BlockRam (domain d ∷ m ∷ k ∷ a ∷ []) c (x ∷ y ∷ [])) γ δ) (last_wires n piece widths) zero
-      by zero e = empty_leaf o.program net path h t (closed (beginning_with BlockRam (domain d ∷ m ∷ k ∷ a ∷ []) c (x ∷ y ∷ [])) γ δ) (last_wires n piece widths) widths zero g.parts (ap (λ (ws : List ℕ). slice_get ws zero) q.are ∙ ap (λ w. Some w) e)
+      by zero e = empty_leaf facts o.program net path h t (closed (beginning_with BlockRam (domain d ∷ m ∷ k ∷ a ∷ []) c (x ∷ y ∷ [])) γ δ) (last_wires n piece widths) widths zero g.parts (ap (λ (ws : List ℕ). slice_get ws zero) q.are ∙ ap (λ w. Some w) e)
       by (suc w) e = wide_has w e

@@ -11,22 +11,19 @@ use Rattle.chw_types.specs.SameTypes.{SameTypes}
 use Rattle.chw_types.specs.TypeMoves.{Substitution}
 use Rattle.chw_types.specs.TypeTree.{TypeTree, domain, signal}
 use Rattle.type_laws.specs.SameKept.{FieldsKeepSame}
-use Rattle.type_laws.proofs.SameForms.{as_domain, as_data, as_signal}
 use Rattle.chw_terms.specs.declared.program.Program.{Program}
 use Rattle.chw_terms.specs.declared.scene.Sort.TheVariants.{Circuit}
 use Rattle.chw_typing.specs.Programs.{IsSound, setting_of}
 use Rattle.chw_typing.specs.Scopes.{Setting, HasKind}
-use Rattle.chw_typing.proofs.Lists.{found_in_map}
 use Rattle.chw_typing.specs.Alike.{AreLike}
-use Rattle.chw_typing.proofs.FieldsPut.{AllLike, con_like, fields_like}
-use Rattle.chw_typing.proofs.SameNames.{representable_same, leaves_same}
 use Rattle.chw_layout.specs.Measured.{HasWidth}
-use Rattle.layout_laws.proofs.LeavesAgree.{leaves_agree, leaves_there}
-use Rattle.layout_laws.proofs.SameLayout.{measured_same}
 use Rattle.chw_meaning.specs.Values.{History, Thunk, field}
 use Rattle.chw_meaning.specs.Eval.{plus, f_field}
 use Rattle.chw_meaning.specs.Gives.{LeafOf, leaf_of, PortLeaves, leaf_signal, leaves_product, FieldLeaves, no_field_leaves, field_leaves}
 use Rattle.net_built.specs.Data.{HaveWidths, HasParts, port_parts}
+use Rattle.net_grounds.specs.Facts.{Facts}
+use Rattle.net_grounds.specs.Kinds.{AllLike}
+use Rattle.net_means.proofs.Lists.{found_in_map}
 use Rattle.net_means.specs.CircuitBits.Leaves.{HasAllOf, IsLeaf}
 
 -- so has the field of one what the field of the other has
@@ -48,20 +45,20 @@ follow_beside p h (l ∷ ls) ms (k ∷ ks) ns a b = (a.0, a.1, follow_beside p h
 follow_beside p h [] ms (k ∷ ks) ns a b = absurd a
 follow_beside p h (l ∷ ls) ms [] ns a b = absurd a
 
-module _ (p : Program) (h : History) (sound : IsSound (setting_of p)) (keep : FieldsKeepSame) where
+module _ (facts : Facts) (p : Program) (h : History) (sound : IsSound (setting_of p)) (keep : FieldsKeepSame) where
   mutual
     pub port_follows : {t u : TypeTree} {on : Thunk} {ls : List LeafOf} (th : Thunk) → PortLeaves p.datas t on ls → AreLike (setting_of p) t u → HasAllOf p h th on → (ms : List LeafOf) × PortLeaves p.datas u th ms × LeavesFollow p h ls ms
     port_follows th (leaf_signal {d = d} {t = t} r) l f =
-        let at = as_signal l.same in
+        let at = facts.same.as_signal l.same in
         let like = payload_like {d = domain d} l.has at.4 in
-        let is = at.2 ∙ ap (λ e. signal e at.1) (as_domain at.3) in (
+        let is = at.2 ∙ ap (λ e. signal e at.1) (facts.same.as_domain at.3) in (
           leaf_of at.1 th ∷ [],
-          subst (λ x. PortLeaves p.datas x th (leaf_of at.1 th ∷ [])) (sym is) (leaf_signal (representable_same (setting_of p) sound keep r like)),
+          subst (λ x. PortLeaves p.datas x th (leaf_of at.1 th ∷ [])) (sym is) (leaf_signal (facts.same_layout.representable_same (setting_of p) sound keep r like)),
           (like, f, tt),
         )
     port_follows th (leaves_product {d = d} {it = it} {ts = ts} {k = k} {f = f} {fs = fs} known one fields a) l g =
-        let at = as_data l.same in
-        let likes = con_like (setting_of p) (arguments ts) (arguments at.0) it.cons 0 k (ap (λ cs. slice_get cs 0) one) (fields_like (setting_of p) sound keep d it ts at.0 l.kind known l.has at.2) in
+        let at = facts.same.as_data l.same in
+        let likes = facts.kinds.con_like (setting_of p) (arguments ts) (arguments at.0) it.cons 0 k (ap (λ cs. slice_get cs 0) one) (facts.kinds.fields_like (setting_of p) sound keep d it ts at.0 l.kind known l.has at.2) in
         let more = fields_follow th a (subst (AllLike (setting_of p) (arguments ts) (arguments at.0)) fields likes) g in
         (more.0, subst (λ x. PortLeaves p.datas x th more.0) (sym at.1) (leaves_product known one fields more.1), more.2)
 
@@ -94,9 +91,9 @@ follow_at p h (l ∷ ls) (m ∷ ms) zero leaf f e =
 follow_at p h (l ∷ ls) (m ∷ ms) (suc k) leaf f e =
     let x = follow_at p h ls ms k leaf f.2 e in record { other = x.other; at = x.at; like = x.like; has = x.has }
 
-pub leaf_follows : (p : Program) (h : History) → IsSound (setting_of p) → FieldsKeepSame → {t u : TypeTree} {on : Thunk} {k : ℕ} {leaf : LeafOf} (th : Thunk) → IsLeaf p.datas t on k leaf → AreLike (setting_of p) t u → HasAllOf p h th on → Follower p h u th k leaf
-leaf_follows p h sound keep {k = k} {leaf = leaf} th is like all =
-    let more = port_follows p h sound keep th is.are like all in
+pub leaf_follows : Facts → (p : Program) (h : History) → IsSound (setting_of p) → FieldsKeepSame → {t u : TypeTree} {on : Thunk} {k : ℕ} {leaf : LeafOf} (th : Thunk) → IsLeaf p.datas t on k leaf → AreLike (setting_of p) t u → HasAllOf p h th on → Follower p h u th k leaf
+leaf_follows facts p h sound keep {k = k} {leaf = leaf} th is like all =
+    let more = port_follows facts p h sound keep th is.are like all in
     let x = follow_at p h is.leaves more.0 k leaf more.2 is.at in
     record { other = x.other; is = record { leaves = more.0; are = more.1; at = x.at }; like = x.like; has = x.has }
 
@@ -107,26 +104,26 @@ widths_at datas (u ∷ ts) [] k t h e = absurd h
 widths_at datas (u ∷ ts) (w ∷ ws) zero t h e = let is : u ≡ t = cc in (w, refl, subst (λ t. HasWidth datas t w) is h.0)
 widths_at datas (u ∷ ts) (w ∷ ws) (suc k) t h e = widths_at datas ts ws k t h.1 e
 
-pub leaf_width : {datas : List Data} {t : TypeTree} {ws : List ℕ} {th : Thunk} {k : ℕ} {leaf : LeafOf} → HasParts datas Circuit t ws → IsLeaf datas t th k leaf → (w : ℕ) × (slice_get ws k ≡ Some w) × HasWidth datas leaf.payload w
-leaf_width {datas} {ws = ws} {k = k} {leaf = leaf} (port_parts {leaves = ls} l h) is =
-    let same = leaves_agree l is.are in
+pub leaf_width : Facts → {datas : List Data} {t : TypeTree} {ws : List ℕ} {th : Thunk} {k : ℕ} {leaf : LeafOf} → HasParts datas Circuit t ws → IsLeaf datas t th k leaf → (w : ℕ) × (slice_get ws k ≡ Some w) × HasWidth datas leaf.payload w
+leaf_width facts {datas} {ws = ws} {k = k} {leaf = leaf} (port_parts {leaves = ls} l h) is =
+    let same = facts.ports.leaves_agree l is.are in
     widths_at datas (map (λ (m : LeafOf). m.payload) is.leaves) ws k leaf.payload
     (subst (λ ts. HaveWidths datas ts ws) (sym same) h) (found_in_map (λ (m : LeafOf). m.payload) is.leaves k leaf is.at)
 
-module _ (p : Program) (h : History) (sound : IsSound (setting_of p)) (values : SameValues) (keep : FieldsKeepSame) where
+module _ (facts : Facts) (p : Program) (h : History) (sound : IsSound (setting_of p)) (values : SameValues) (keep : FieldsKeepSame) where
   widths_along : (ls ms : List LeafOf) (ws : List ℕ) → LeavesFollow p h ls ms → HaveWidths p.datas (map (λ (m : LeafOf). m.payload) ls) ws → HaveWidths p.datas (map (λ (m : LeafOf). m.payload) ms) ws
   widths_along [] [] ws f has = has
   widths_along [] (m ∷ ms) ws f has = absurd f
   widths_along (l ∷ ls) [] ws f has = absurd f
   widths_along (l ∷ ls) (m ∷ ms) [] f has = absurd has
-  widths_along (l ∷ ls) (m ∷ ms) (w ∷ ws) f has = (measured_same (setting_of p) sound values keep has.0 f.0, widths_along ls ms ws f.2 has.1)
+  widths_along (l ∷ ls) (m ∷ ms) (w ∷ ws) f has = (facts.same_layout.measured_same (setting_of p) sound values keep has.0 f.0, widths_along ls ms ws f.2 has.1)
 
   -- ports that are the same have the same parts
   pub parts_along : {t u : TypeTree} {ws : List ℕ} → Thunk → HasParts p.datas Circuit t ws → AreLike (setting_of p) t u → HasParts p.datas Circuit u ws
   parts_along {t} {u} {ws} th (port_parts l has) like =
-      let there = leaves_there l th in
-      let more = port_follows p h sound keep th there.1 like (λ n v f. (n, f)) in
-      let other = leaves_same (setting_of p) sound keep l like in
+      let there = facts.ports.leaves_there l th in
+      let more = port_follows facts p h sound keep th there.1 like (λ n v f. (n, f)) in
+      let other = facts.same_layout.leaves_same (setting_of p) sound keep l like in
       port_parts other.1
-      (subst (λ ts. HaveWidths p.datas ts ws) (leaves_agree other.1 more.1)
-      (widths_along there.0 more.0 ws more.2 (subst (λ ts. HaveWidths p.datas ts ws) (sym (leaves_agree l there.1)) has)))
+      (subst (λ ts. HaveWidths p.datas ts ws) (facts.ports.leaves_agree other.1 more.1)
+      (widths_along there.0 more.0 ws more.2 (subst (λ ts. HaveWidths p.datas ts ws) (sym (facts.ports.leaves_agree l there.1)) has)))

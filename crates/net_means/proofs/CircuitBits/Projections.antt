@@ -12,7 +12,6 @@ use Rattle.chw_types.specs.SamePromises.{SameValues}
 use Rattle.chw_types.specs.SameTypes.{SameTypes}
 use Rattle.chw_types.specs.TypeMoves.{sub}
 use Rattle.chw_types.specs.TypeTree.{TypeTree, TypeTrees, data_of}
-use Rattle.chw_types.proofs.SameLaws.{same_turned, same_through}
 use Rattle.type_laws.specs.SameKept.{FieldsKeepSame}
 use Rattle.chw_terms.specs.Constructors.{Constructor, con_at}
 use Rattle.chw_terms.specs.declared.program.Program.{Program}
@@ -23,26 +22,19 @@ use Rattle.chw_typing.specs.HeadTypes.{PatternOf, of_con, fields_at}
 use Rattle.chw_typing.specs.Programs.{setting_of}
 use Rattle.chw_typing.specs.Scopes.{Setting, HasKind, AreSame, with_more}
 use Rattle.chw_typing.specs.Typing.{HasType, h_case}
-use Rattle.chw_typing.proofs.Heads.{is_constructor}
-use Rattle.chw_typing.proofs.Lists.{found_before_map, turned_onto}
 use Rattle.chw_typing.specs.Alike.{AreLike}
-use Rattle.chw_typing.proofs.FieldKinds.{field_kind}
 use Rattle.rewriting.specs.Origins.{Origins, setting_at}
 use Rattle.chw_meaning.specs.Values.{History, Thunk, closed, Thunks, field}
 use Rattle.chw_meaning.specs.Eval.{f_closed, e_takes, e_var, takes, choice, by_fields, is_only}
-use Rattle.chw_meaning.proofs.Once.{same_some}
 use Rattle.carrying.specs.Carrying.{Shows}
-use Rattle.carrying.proofs.Environments.{field_variables}
-use Rattle.carrying.proofs.Same.{shown_same}
-use Rattle.carrying.proofs.Terms.{shows_through}
-use Rattle.carrying.proofs.Widths.{shown_length}
 use Rattle.netlist.specs.declared.net.Net.{Net}
 use Rattle.net_built.specs.Circuits.{Ground as Built, CircuitCells, of_projection, HaveParts, field_wires}
 use Rattle.net_built.specs.Data.{HasParts, port_parts}
 use Rattle.net_built.specs.Terms.{Variable}
 use Rattle.net_built.specs.Wires.{Piece, present, wire_count, last_wires, copies}
-use Rattle.net_built.proofs.Parts.{parts_once, all_parts_once, pattern_once}
 use Rattle.cell_bits.specs.Bearing.{HasCells, Bears}
+use Rattle.net_grounds.specs.Facts.{Facts}
+use Rattle.net_means.proofs.Lists.{found_before_map, turned_onto, same_some}
 use Rattle.net_means.specs.SideBits.Sides.{ground_of, types_in}
 use Rattle.net_means.proofs.SideBits.Operands.{sound_alone, var_at}
 use Rattle.net_means.specs.CircuitBits.Leaves.{HasAllOf, part_wires, leaves_before, IsLeaf, LeafHas, ProjectedLeaf, CircuitGiven}
@@ -149,16 +141,16 @@ projected_wires (vs ∷ parts) (suc i) j ws wires e l many =
     ∙ projected_wires parts i j ws (drop (wire_count vs) wires) e l (omega (arith, left, sum, many))
 
 -- a projection has what the field has
-projection_has_all : (p : Program) (c : ConId) (count x z : ℕ) (it : Constructor) (γ : Thunks) (δ : TypeTrees) (h : History) → con_at p.datas c.number ≡ Some it → length it.it.cons ≡ 1 → z < count → HasAllOf p h (closed (projected c count x z) γ δ) (field z (closed (var x) γ δ))
-projection_has_all p c count x z it γ δ h known single below n v f =
+projection_has_all : Facts → (p : Program) (c : ConId) (count x z : ℕ) (it : Constructor) (γ : Thunks) (δ : TypeTrees) (h : History) → con_at p.datas c.number ≡ Some it → length it.it.cons ≡ 1 → z < count → HasAllOf p h (closed (projected c count x z) γ δ) (field z (closed (var x) γ δ))
+projection_has_all facts p c count x z it γ δ h known single below n v f =
     let one : (length it.it.cons == 1) ≡ (1 == 1) = ap (λ k. k == 1) single in
     let taken : choice p.datas (alt (OfCon c count) (var z) no_alts) ≡ takes count (var z) = ap (λ o. by_fields (is_only o) count (var z)) known ∙ ap (λ b. by_fields b count (var z)) one in
-    (suc (suc n), f_closed (e_takes taken (e_var (field_variables count z (closed (var x) γ δ) γ below) f)))
+    (suc (suc n), f_closed (e_takes taken (e_var (facts.environments.field_variables count z (closed (var x) γ δ) γ below) f)))
 
 pub data_kinds : (s : Setting) {d : ℕ} {it : Data} {ts : TypeTrees} {k : Kind} → slice_get s.datas d ≡ Some it → HasKind s [] (data_of d ts) k → KindsOf s.datas s.domains [] ts it.params
 data_kinds s {it = it} {ts = ts} known (kind_data {it = other} there kinds) = let same : other ≡ it = same_some there known in subst (λ (x : Data). KindsOf s.datas s.domains [] ts x.params) same kinds
 
-module _ (o : Origins) (order : List ℕ) (scope : List Variable) (γ : Thunks) (δ : TypeTrees) (net : Net) (path : List ℕ) (h : History) (n : ℕ) (widths : List ℕ) (t : TypeTree) (piece : Piece) (values : SameValues) (keep : FieldsKeepSame) where
+module _ (facts : Facts) (o : Origins) (order : List ℕ) (scope : List Variable) (γ : Thunks) (δ : TypeTrees) (net : Net) (path : List ℕ) (h : History) (n : ℕ) (widths : List ℕ) (t : TypeTree) (piece : Piece) (values : SameValues) (keep : FieldsKeepSame) where
   pub projection_has : (c : ConId) (count x z i j : ℕ) (parts : List (List ℕ)) → z + suc i ≡ count → CircuitGiven o order scope net path n widths t (projected c count x z) piece → ProjectedLeaf o.program net path scope γ h c count x parts i j
       → LeafHas o.program net path h t (closed (projected c count x z) γ δ) (last_wires n piece widths) j
   projection_has c count x z i j parts place g f = of_port (subst (λ t. HasParts p.datas Circuit t f.leaf.has.widths) pattern.is f.leaf.has.parts)
@@ -185,7 +177,7 @@ module _ (o : Origins) (order : List ℕ) (scope : List Variable) (γ : Thunks) 
       own = let v = found_before_map (λ (v : Variable). v.ty) scope x one.of one.is in let same : v.0 ≡ it = same_some v.1 f.leaf.known in ap (λ (v : Variable). v.ty) (sym same) ∙ v.2
 
       fields_are : one.fields ≡ fields_at pattern.it pattern.ts
-      fields_are = pattern_once one.pattern (subst (λ u. PatternOf p.datas u (OfCon c count) f.fields) own f.pattern) ∙ pattern.are
+      fields_are = facts.patterns.pattern_once one.pattern (subst (λ u. PatternOf p.datas u (OfCon c count) f.fields) own f.pattern) ∙ pattern.are
 
       many : length (fields_at pattern.it pattern.ts) ≡ count
       many = length-map pattern.it.decl.fields (λ f. sub f (arguments pattern.ts)) ∙ pattern.many
@@ -204,13 +196,13 @@ module _ (o : Origins) (order : List ℕ) (scope : List Variable) (γ : Thunks) 
 
       kinded : (k : Kind) × HasKind s [] u k
       kinded =
-          let at = is_constructor p.datas c.number pattern.it pattern.known in
+          let at = facts.constructors.is_constructor p.datas c.number pattern.it pattern.known in
           let whole : HasKind s [] (data_of pattern.it.of pattern.ts) one.kind = subst (λ t. HasKind s [] t one.kind) (sym own ∙ pattern.is) one.has in
-          let k = field_kind s g.sound pattern.it.of pattern.it.it pattern.ts field_type.0 at.data_type (record { con = at.place; of = pattern.it.decl; is_con = at.decl; at = i; is_field = field_type.1 }) (data_kinds s at.data_type whole) in
+          let k = facts.kinds.field_kind s g.sound pattern.it.of pattern.it.it pattern.ts field_type.0 at.data_type (record { con = at.place; of = pattern.it.decl; is_con = at.decl; at = i; is_field = field_type.1 }) (data_kinds s at.data_type whole) in
           (k.0, k.2)
 
       like : AreLike (setting_of p) u t
-      like = record { kind = kinded.0; has = kinded.1; same = same_through (subst (λ v. SameTypes v g.typed.type) (sym field_type.2) named.2) (same_turned g.typed.same) }
+      like = record { kind = kinded.0; has = kinded.1; same = facts.same.same_through (subst (λ v. SameTypes v g.typed.type) (sym field_type.2) named.2) (facts.same.same_turned g.typed.same) }
 
       have : HaveParts p.datas (fields_at pattern.it pattern.ts) parts
       have = subst (λ fs. HaveParts p.datas fs parts) pattern.are f.have
@@ -222,7 +214,7 @@ module _ (o : Origins) (order : List ℕ) (scope : List Variable) (γ : Thunks) 
       field_has = let same : part.0 ≡ f.widths = same_some part.1 f.one in subst (λ ws. HasParts p.datas Circuit u ws) same (subst (λ v. HasParts p.datas Circuit v part.0) (sym field_type.2) part.2)
 
       width : f.widths ≡ widths
-      width = parts_once (parts_along p h (sound_alone o g.sound) values keep th field_has like) g.parts
+      width = facts.built.parts_once (parts_along facts p h (sound_alone o g.sound) values keep th field_has like) g.parts
 
       q : ProjectionPiece (ground_of p order) scope n widths c count x z piece
       q = projection_piece g.built
@@ -230,27 +222,27 @@ module _ (o : Origins) (order : List ℕ) (scope : List Variable) (γ : Thunks) 
       wires_are : field_wires (count - 1 - z) q.parts q.it.wires ≡ field_wires i parts it.wires
       wires_are =
           let same : q.it ≡ it = same_some q.known f.leaf.known in
-          let types : q.fields ≡ f.fields = pattern_once (subst (λ (v : Variable). PatternOf p.datas v.ty (OfCon c count) q.fields) same q.pattern) f.pattern in
-          let all : q.parts ≡ parts = all_parts_once p.datas f.fields q.parts parts (subst (λ fs. HaveParts p.datas fs q.parts) types q.have) f.have in
+          let types : q.fields ≡ f.fields = facts.patterns.pattern_once (subst (λ (v : Variable). PatternOf p.datas v.ty (OfCon c count) q.fields) same q.pattern) f.pattern in
+          let all : q.parts ≡ parts = facts.built.all_parts_once p.datas f.fields q.parts parts (subst (λ fs. HaveParts p.datas fs q.parts) types q.have) f.have in
           let number : count - 1 - z ≡ i = omega (arith, place) in
           λ k. field_wires (number k) (all k) ((same k).wires)
 
       of_port : HasParts p.datas Circuit (data_of pattern.it.of pattern.ts) f.leaf.has.widths → LeafHas p net path h t th (last_wires n piece widths) j
       of_port (port_parts {leaves = ls} leaves has) =
-          let con = only_con p.datas c.number pattern.it pattern.known leaves in
+          let con = only_con facts p.datas c.number pattern.it pattern.known leaves in
           let count_fields : length pattern.it.decl.fields ≡ count = pattern.many in
           let whole : IsLeaf p.datas (data_of pattern.it.of pattern.ts) f.leaf.thunk (leaves_before i parts + j) f.leaf.has.leaf = subst (λ t. IsLeaf p.datas t f.leaf.thunk (leaves_before i parts + j) f.leaf.has.leaf) pattern.is f.leaf.has.is in
           let leaf : IsLeaf p.datas u (field z f.leaf.thunk) j f.leaf.has.leaf =
-          field_of_leaf p.datas pattern.it pattern.ts ls con f.leaf.thunk parts i j z field_type.0 f.widths f.leaf.has.leaf have field_type.1 f.one f.within (place ∙ sym count_fields) whole in
+          field_of_leaf facts p.datas pattern.it pattern.ts ls con f.leaf.thunk parts i j z field_type.0 f.widths f.leaf.has.leaf have field_type.1 f.one f.within (place ∙ sym count_fields) whole in
           let all : HasAllOf p h th (field z f.leaf.thunk) =
-          λ m v d. let e = field_has_all z (variable_has_all f.leaf.there) m v d in projection_has_all p c count x z pattern.it γ δ h pattern.known con.single (omega (arith, place)) e.0 v e.1 in
-          let follower : Follower p h t th j f.leaf.has.leaf = leaf_follows p h (sound_alone o g.sound) keep th leaf like all in
-          let shown : Shows p follower.other.payload follower.other.thunk h f.leaf.has.bits = shown_same p (sound_alone o g.sound) values keep (shows_through follower.has f.leaf.has.shows) follower.like in
-          let at = leaf_width g.parts follower.is in
-          let long : slice_get widths j ≡ Some (length f.leaf.has.bits) = at.1 ∙ ap (λ w. Some w) (sym (shown_length shown at.2)) in
-          let turn : f.leaf.has.widths ≡ in_turn parts = parts_in_turn con.leaves f.leaf.has.widths parts has have in
+          λ m v d. let e = field_has_all z (variable_has_all f.leaf.there) m v d in projection_has_all facts p c count x z pattern.it γ δ h pattern.known con.single (omega (arith, place)) e.0 v e.1 in
+          let follower : Follower p h t th j f.leaf.has.leaf = leaf_follows facts p h (sound_alone o g.sound) keep th leaf like all in
+          let shown : Shows p follower.other.payload follower.other.thunk h f.leaf.has.bits = facts.shows.shown_same p (sound_alone o g.sound) values keep (facts.shows.shows_through follower.has f.leaf.has.shows) follower.like in
+          let at = leaf_width facts g.parts follower.is in
+          let long : slice_get widths j ≡ Some (length f.leaf.has.bits) = at.1 ∙ ap (λ w. Some w) (sym (facts.shows.shown_length shown at.2)) in
+          let turn : f.leaf.has.widths ≡ in_turn parts = parts_in_turn facts con.leaves f.leaf.has.widths parts has have in
           let held = g.held x it f.leaf.known in
-          let same : held.0 ≡ in_turn parts = parts_once held.1 f.leaf.has.parts ∙ turn in
+          let same : held.0 ≡ in_turn parts = facts.built.parts_once held.1 f.leaf.has.parts ∙ turn in
           let counted : length it.wires ≡ wire_count (in_turn parts) = held.2 ∙ ap (λ ws. wire_count ws) same in
           let these : part_wires (leaves_before i parts + j) (in_turn parts) it.wires ≡ part_wires j f.widths (field_wires i parts it.wires) = projected_wires parts i j f.widths it.wires f.one f.within counted in
           let before : Bears net path h (part_wires (leaves_before i parts + j) (in_turn parts) it.wires) f.leaf.has.bits = subst (λ ws. Bears net path h (part_wires (leaves_before i parts + j) ws it.wires) f.leaf.has.bits) turn f.leaf.has.bears in

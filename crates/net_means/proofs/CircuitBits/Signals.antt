@@ -8,27 +8,19 @@ use Rattle.chw_types.specs.Ports.{one_leaf}
 use Rattle.chw_types.specs.SamePromises.{SameValues}
 use Rattle.chw_types.specs.SameTypes.{SameTypes}
 use Rattle.chw_types.specs.TypeTree.{TypeTree, TypeTrees, signal}
-use Rattle.chw_types.proofs.SameLaws.{same_turned, same_through}
 use Rattle.type_laws.specs.SameKept.{FieldsKeepSame}
-use Rattle.type_laws.proofs.SameForms.{as_signal}
 use Rattle.chw_terms.specs.declared.program.Program.{Program}
 use Rattle.chw_terms.specs.declared.scene.Sort.TheVariants.{Circuit}
 use Rattle.chw_terms.specs.TermTree.{var}
 use Rattle.chw_typing.specs.Programs.{IsSound, setting_of}
 use Rattle.chw_typing.specs.Scopes.{HasKind, AreTermTypes, IsTermType}
 use Rattle.chw_typing.specs.Typing.{HasTypeUpTo}
-use Rattle.chw_typing.proofs.Kinded.{type_kinded}
-use Rattle.chw_typing.proofs.Lists.{found_before_map}
 use Rattle.chw_typing.specs.Alike.{AreLike}
 use Rattle.rewriting.specs.Origins.{Origins, setting_at}
 use Rattle.chw_layout.specs.Measured.{HasWidth}
-use Rattle.layout_laws.proofs.SameLayout.{measured_same}
 use Rattle.chw_meaning.specs.Gives.{LeafOf, leaf_of, PortLeaves, leaf_signal}
 use Rattle.chw_meaning.specs.Values.{History, Thunk, closed, Thunks}
-use Rattle.chw_meaning.proofs.Once.{same_some}
 use Rattle.carrying.specs.Carrying.{Shows}
-use Rattle.carrying.proofs.Same.{shown_same}
-use Rattle.carrying.proofs.Terms.{variable_shows}
 use Rattle.netlist.specs.declared.net.Cell.{Cell}
 use Rattle.netlist.specs.declared.net.Net.{Net}
 use Rattle.use_laws.specs.ValueIn.{ValueIn}
@@ -37,6 +29,8 @@ use Rattle.net_built.specs.Terms.{Variable, wires_at}
 use Rattle.net_built.specs.Wires.{one, last_wires}
 use Rattle.net_built.specs.Words.{only}
 use Rattle.cell_bits.specs.Bearing.{Bears, bears_nothing, bears_bits}
+use Rattle.net_grounds.specs.Facts.{Facts}
+use Rattle.net_means.proofs.Lists.{found_before_map, same_some}
 use Rattle.net_means.specs.SideBits.Sides.{types_in}
 use Rattle.net_means.proofs.SideBits.Operands.{sound_alone, var_at}
 use Rattle.net_means.specs.CircuitBits.Leaves.{part_wires, LeafHas, VariableLeaf}
@@ -48,16 +42,16 @@ wires_there (u ∷ scope) zero v e = let is : u ≡ v = cc in ap (λ (v : Variab
 wires_there (u ∷ scope) (suc x) v e = wires_there scope x v e
 
 -- a variable that is used at a type: its own is the same
-pub operand_like : (o : Origins) (scope : List Variable) (x : ℕ) (it : Variable) (c : TypeTree) → IsSound (setting_at o) → AreTermTypes (setting_at o) [] (types_in scope) → slice_get scope x ≡ Some it → HasTypeUpTo (setting_at o) [] (types_in scope) (var x) c → AreLike (setting_of o.program) it.ty c
-operand_like o scope x it c sound scoped known typed =
+pub operand_like : Facts → (o : Origins) (scope : List Variable) (x : ℕ) (it : Variable) (c : TypeTree) → IsSound (setting_at o) → AreTermTypes (setting_at o) [] (types_in scope) → slice_get scope x ≡ Some it → HasTypeUpTo (setting_at o) [] (types_in scope) (var x) c → AreLike (setting_of o.program) it.ty c
+operand_like facts o scope x it c sound scoped known typed =
     let v = found_before_map (λ (v : Variable). v.ty) scope x typed.type (var_at typed.has) in
     let same : v.0 ≡ it = same_some v.1 known in
     let is : it.ty ≡ typed.type = ap (λ (v : Variable). v.ty) (sym same) ∙ v.2 in
-    let kinded : IsTermType (setting_at o) [] typed.type = type_kinded typed.has sound scoped in
+    let kinded : IsTermType (setting_at o) [] typed.type = facts.terms.type_kinded typed.has sound scoped in
     record {
       kind = kinded.kind;
       has = subst (λ u. HasKind (setting_at o) [] u kinded.kind) (sym is) kinded.has;
-      same = subst (λ u. SameTypes u c) (sym is) (same_turned typed.same);
+      same = subst (λ u. SameTypes u c) (sym is) (facts.same.same_turned typed.same);
     }
 
 -- the parts of a signal are one
@@ -105,21 +99,21 @@ from_signal {v = v} {th = th} {ws = ws} {bits = bits} (port_parts (one_leaf {dom
     }
 
 -- what a variable has that is used as a signal of these values
-module _ (o : Origins) (scope : List Variable) (γ : Thunks) (δ : TypeTrees) (net : Net) (path : List ℕ) (values : SameValues) (keep : FieldsKeepSame) (sound : IsSound (setting_at o)) (scoped : AreTermTypes (setting_at o) [] (types_in scope)) where
+module _ (facts : Facts) (o : Origins) (scope : List Variable) (γ : Thunks) (δ : TypeTrees) (net : Net) (path : List ℕ) (values : SameValues) (keep : FieldsKeepSame) (sound : IsSound (setting_at o)) (scoped : AreTermTypes (setting_at o) [] (types_in scope)) where
   pub operand_signal : (x : ℕ) (d a v : TypeTree) (g : History) → HasTypeUpTo (setting_at o) [] (types_in scope) (var x) (signal d a) → SameTypes a v → VariableLeaf o.program net path scope γ g x zero → SignalHas o.program net path g v (closed (var x) γ δ) (wires_at scope x)
   operand_signal x d a v g typed same has =
       let p : Program = o.program in
       let it : Variable = has.it in
-      let like = operand_like o scope x it (signal d a) sound scoped has.known typed in
-      let at = as_signal (same_turned like.same) in
+      let like = operand_like facts o scope x it (signal d a) sound scoped has.known typed in
+      let at = facts.same.as_signal (facts.same.same_turned like.same) in
       let whole = to_signal (subst (λ t. LeafHas p net path g t has.thunk it.wires zero) at.2 has.has) in
       let kinded = subst (λ t. HasKind (setting_of p) [] t like.kind) at.2 like.has in
-      let alike : AreLike (setting_of p) at.1 v = payload_like {d = at.0} kinded (same_through (same_turned at.4) same) in
+      let alike : AreLike (setting_of p) at.1 v = payload_like {d = at.0} kinded (facts.same.same_through (facts.same.same_turned at.4) same) in
       record {
         width = whole.width;
-        wide = measured_same (setting_of p) (sound_alone o sound) values keep whole.wide alike;
+        wide = facts.same_layout.measured_same (setting_of p) (sound_alone o sound) values keep whole.wide alike;
         bits = whole.bits;
-        shows = variable_shows has.there (shown_same p (sound_alone o sound) values keep whole.shows alike);
+        shows = facts.shows.variable_shows has.there (facts.shows.shown_same p (sound_alone o sound) values keep whole.shows alike);
         bears = subst (λ wires. Bears net path g (part_wires zero (whole.width ∷ []) wires) whole.bits) (sym (wires_there scope x it has.known)) whole.bears;
       }
 

@@ -14,9 +14,6 @@ use Rattle.normal_forms.specs.Values.{on_names}
 use Rattle.chw_meaning.specs.Values.{History, Thunk, closed, Thunks}
 use Rattle.carrying.specs.Carrying.{Shows}
 use Rattle.carrying.specs.TermLaws.{onto, under_lambdas, each_closed}
-use Rattle.carrying.proofs.Same.{shown_same}
-use Rattle.carrying.proofs.Terms.{shows_through}
-use Rattle.carrying.proofs.Widths.{shown_length}
 use Rattle.netlist.specs.declared.net.Cell.TheVariants.{Use}
 use Rattle.netlist.specs.declared.net.Module.{Module}
 use Rattle.netlist.specs.declared.net.Net.{Net}
@@ -24,8 +21,8 @@ use Rattle.use_laws.specs.ValueIn.{HasUseAt, HasCellAt, IsModuleAt, used as used
 use Rattle.net_built.specs.Circuits.{Ground, place_in, module_of, used}
 use Rattle.net_built.specs.Data.{HasParts}
 use Rattle.net_built.specs.Wires.{wire, wire_count, new_wires, wires_from}
-use Rattle.net_built.proofs.Parts.{parts_once}
 use Rattle.cell_bits.specs.Bearing.{HasCells, Bears, bears_nothing, bears_bits}
+use Rattle.net_grounds.specs.Facts.{Facts}
 use Rattle.net_means.specs.SideBits.Sides.{SideHas}
 use Rattle.net_means.specs.CircuitBits.Leaves.{HasAllOf, part_wires, LeafHas}
 use Rattle.net_means.specs.CircuitBits.Uses.{IsLiftOf, samples, UsedAt}
@@ -105,11 +102,11 @@ part_leaves net path h inner n widths reads k b at e bears =
     (λ i m o f g. let same : m ≡ i = omega (arith, f) in ap (slice_get inner.outputs) same ∙ g)
     (λ i m w f g. let same : m ≡ i = omega (arith, f) in ap (slice_get (new_wires n widths)) same ∙ g) e bears
 
-module _ (p : Program) (net : Net) (h : History) (values : SameValues) (keep : FieldsKeepSame) (sound : IsSound (setting_of p)) where
+module _ (facts : Facts) (p : Program) (net : Net) (h : History) (values : SameValues) (keep : FieldsKeepSame) (sound : IsSound (setting_of p)) where
   pub follower_has : (path : List ℕ) (t u : TypeTree) (on th : Thunk) (wires : List WireId) (k : ℕ) → AreLike (setting_of p) t u → HasAllOf p h th on → LeafHas p net path h t on wires k → LeafHas p net path h u th wires k
   follower_has path t u on th wires k like all has =
-      let parts = parts_along p h sound values keep on has.parts like in
-      let along = leaf_along p sound values keep th has.widths has like all parts in
+      let parts = parts_along facts p h sound values keep on has.parts like in
+      let along = leaf_along facts p sound values keep th has.widths has like all parts in
       record { widths = has.widths; parts = parts; leaf = along.leaf; is = along.is; bits = has.bits; shows = along.shows; bears = has.bears }
 
   pub call_has : (path : List ℕ) (params : List TypeTree) (e : TermTree) (xs : List ℕ) (γ : Thunks) (δ : TypeTrees) (t u : TypeTree) (n : ℕ) (widths : List ℕ) (reads : List WireId) (inner : Module) (k : ℕ) (at : UsedAt net path reads (new_wires n widths) inner) → AreLike (setting_of p) u t → HasParts p.datas Circuit t widths → length params ≡ length xs
@@ -117,8 +114,8 @@ module _ (p : Program) (net : Net) (h : History) (values : SameValues) (keep : F
       → LeafHas p net path h t (closed (on_names (under_lambdas params e) [] xs) γ δ) (new_wires n widths) k
   call_has path params e xs γ δ t u n widths reads inner k at like parts same has =
       let th : Thunk = closed (on_names (under_lambdas params e) [] xs) γ δ in
-      let along = leaf_along p sound values keep th widths has like (call_follows p h params e xs γ δ same) parts in
-      let width : has.widths ≡ widths = parts_once (parts_along p h sound values keep th has.parts like) parts in
+      let along = leaf_along facts p sound values keep th widths has like (call_follows facts p h params e xs γ δ same) parts in
+      let width : has.widths ≡ widths = facts.built.parts_once (parts_along facts p h sound values keep th has.parts like) parts in
       let inside : Bears net (at.place ∷ path) h (part_wires k widths inner.outputs) has.bits = subst (λ ws. Bears net (at.place ∷ path) h (part_wires k ws inner.outputs) has.bits) width has.bears in
       record {
         widths = widths;
@@ -142,8 +139,8 @@ module _ (p : Program) (net : Net) (h : History) (values : SameValues) (keep : F
       → LeafHas p net path h (signal d t) (closed f γ δ) (new_wires n widths) zero
   lift_has path params e f xs γ δ d t u n widths reads inner at like parts lift same has =
       let part = signal_part parts in
-      let shown : Shows p t (closed f γ δ) h has.bits = shown_same p sound values keep (shows_through (lift_follows p h params e f xs γ δ lift same) (has.carries h)) like in
-      let size : length has.bits ≡ part.0 = shown_length shown part.1 in
+      let shown : Shows p t (closed f γ δ) h has.bits = facts.shows.shown_same p sound values keep (facts.shows.shows_through (lift_follows facts p h params e f xs γ δ lift same) (has.carries h)) like in
+      let size : length has.bits ≡ part.0 = facts.shows.shown_length shown part.1 in
       let long : slice_get widths zero ≡ Some (length has.bits) = ap (λ (ws : List ℕ). slice_get ws zero) part.2 ∙ ap (λ w. Some w) (sym size) in
       let inside : Bears net (at.place ∷ path) h (part_wires zero widths inner.outputs) has.bits =
       subst (λ ws. Bears net (at.place ∷ path) h (part_wires zero ws inner.outputs) has.bits) (sym part.2) (as_part (at.place ∷ path) part.0 inner.outputs has.bits size has.bears) in

@@ -9,15 +9,12 @@ use Rattle.chw_types.specs.TypeTree.{TypeTree, TypeTrees, ty_var, scalar, no_typ
 use Rattle.chw_prims.specs.Schemas.{maybe, pair}
 use Rattle.chw_terms.specs.Constructors.{Constructor, con_at}
 use Rattle.chw_terms.specs.declared.program.Program.{Program}
-use Rattle.chw_layout.proofs.Encodings.{BitsMean}
 use Rattle.chw_layout.specs.Measured.{HasWidth}
 use Rattle.chw_meaning.specs.Values.{History, con_of, Thunk, field, Thunks, none, thunk_and, thunk_at, count_of}
 use Rattle.chw_meaning.specs.Eval.{Forces}
-use Rattle.chw_meaning.proofs.Widths.{width_once}
 use Rattle.carrying.specs.Carrying.{tag_of, Shows, shows_nothing, shows_bits, CarryFields, carry_field, carry_no_field}
 use Rattle.carrying.specs.DataLaws.{tag_in, Parts, no_parts, part_and}
-use Rattle.carrying.proofs.Data.{is_built, field_shows}
-use Rattle.carrying.proofs.Widths.{held_length, shown_length}
+use Rattle.net_grounds.specs.Facts.{Facts}
 use Rattle.net_means.proofs.MaybePairs.{maybe_data, pair_data, Stand, stand, maybe_width, pair_width}
 
 abbrev nothing_con : Constructor
@@ -97,7 +94,7 @@ no_more : (bits more rest : List Bool) → bits ++ more ≡ rest → length bits
 no_more bits [] rest e l = sym (append-nil bits) ∙ e
 no_more bits (x ∷ more) rest e l = let size = length-append bits (x ∷ more) in let same = ap length e in absurd (omega (arith, size, same, l))
 
-module _ (p : Program) (others : List Data) (begins : p.datas ≡ built_in ++ others) (mean : BitsMean) (k a : TypeTree) (size width : ℕ) (sized : HasWidth p.datas (scalar U k) size) (wide : HasWidth p.datas a width) where
+module _ (facts : Facts) (p : Program) (others : List Data) (begins : p.datas ≡ built_in ++ others) (k a : TypeTree) (size width : ℕ) (sized : HasWidth p.datas (scalar U k) size) (wide : HasWidth p.datas a width) where
   stands : Stand p.datas
   stands = stand p.datas others begins
 
@@ -107,10 +104,10 @@ module _ (p : Program) (others : List Data) (begins : p.datas ≡ built_in ++ ot
   -- an optional pair has its bit before both
   pub write_width : (w : ℕ) → HasWidth p.datas (maybe (pair (scalar U k) a)) w → w ≡ suc (size + width)
   write_width w has =
-      let m = maybe_width stands has in
-      let c = pair_width stands m.1 in
-      let first = width_once c.2 sized in
-      let second = width_once c.3 wide in
+      let m = maybe_width facts stands has in
+      let c = pair_width facts stands m.1 in
+      let first = facts.widths.width_once c.2 sized in
+      let second = facts.widths.width_once c.3 wide in
       let is = m.2 in
       let sum = c.4 in
       omega (arith, first, second, is, sum)
@@ -123,28 +120,28 @@ module _ (p : Program) (others : List Data) (begins : p.datas ≡ built_in ++ ot
       let parts : List (List Bool) = take size rest ∷ take width (drop size rest) ∷ [] in
       let has : Parts p.datas (scalar U k ∷ a ∷ []) rest parts = part_and sized (part_and wide no_parts) in
       let tag : tag_in pair_con rest ≡ tag_of p.datas 4 pair_con = sym at.pair_tag in (
-        field_shows p 4 pair_con ts th h rest parts 1 0 (scalar U k) (take size rest) mean at.pair_con_there shown tag has refl refl refl,
-        field_shows p 4 pair_con ts th h rest parts 0 1 a (take width (drop size rest)) mean at.pair_con_there shown tag has refl refl refl,
+        facts.data_bits.field_shows p 4 pair_con ts th h rest parts 1 0 (scalar U k) (take size rest) at.pair_con_there shown tag has refl refl refl,
+        facts.data_bits.field_shows p 4 pair_con ts th h rest parts 0 1 a (take width (drop size rest)) at.pair_con_there shown tag has refl refl refl,
       )
 
   pub write_shown : (th : Thunk) (h : History) (bits : List Bool) → Shows p (maybe (pair (scalar U k) a)) th h bits → WriteShown p k a th h size width bits
   unfolding sub
   write_shown th h bits (shows_nothing z) = let size = write_width 0 z in absurd (omega (arith, size))
   write_shown th h [] (shows_bits some f held) =
-      let long = held_length held some.1 in absurd (omega (arith, long))
+      let long = facts.shows.held_length held some.1 in absurd (omega (arith, long))
   write_shown th h (false ∷ rest) (shows_bits {n = n} some f held) =
-      let v = is_built p 2 1 nothing_con (type_and (pair (scalar U k) a) no_types) _ (false ∷ rest) mean at.nothing_there refl held (sym at.nothing_tag) in
+      let v = facts.data_bits.is_built p 2 1 nothing_con (type_and (pair (scalar U k) a) no_types) _ (false ∷ rest) at.nothing_there refl held (sym at.nothing_tag) in
       nothing_written
       (record {
         turns = n;
         forces = subst (λ ths. Forces p n th h (con_of 2 ths)) (no_thunks v.ths v.many) (subst (λ v. Forces p n th h v) v.is f);
       })
   write_shown th h (true ∷ rest) (shows_bits {n = n} some f held) =
-      let v = is_built p 3 1 just_con (type_and (pair (scalar U k) a) no_types) _ (true ∷ rest) mean at.just_there refl held (sym at.just_tag) in
+      let v = facts.data_bits.is_built p 3 1 just_con (type_and (pair (scalar U k) a) no_types) _ (true ∷ rest) at.just_there refl held (sym at.just_tag) in
       let one : Alone p (pair (scalar U k) a) v.ths v.bits = alone v.many v.fields in
-      let m = maybe_width stands some.1 in
-      let long = held_length held some.1 in
-      let short = shown_length (one.shows h) m.1 in
+      let m = maybe_width facts stands some.1 in
+      let long = facts.shows.held_length held some.1 in
+      let short = facts.shows.shown_length (one.shows h) m.1 in
       let is = m.2 in
       let same : v.bits ≡ rest = no_more v.bits v.more rest v.rest (omega (arith, long, short, is)) in
       let both = couple_shows one.thunk h rest (subst (λ b. Shows p (pair (scalar U k) a) one.thunk h b) same (one.shows h)) in

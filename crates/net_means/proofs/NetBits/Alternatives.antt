@@ -7,6 +7,8 @@ use Rattle.net_built.specs.Bodies.{AltsBuilt, BlockBuilt, alts_and, alts_none}
 use Rattle.carrying.specs.DataLaws.{AreFor, Taken}
 use Rattle.chw_typing.specs.Scopes.{AreTermTypes, Setting, declared, with_more}
 use Rattle.chw_types.specs.declared.declarations.Data.{Data}
+use Rattle.net_grounds.specs.Facts.{Facts}
+use Rattle.net_means.proofs.Lists.{found_in_map, same_some}
 use Rattle.net_means.specs.CircuitBits.Instances.{Design}
 use Rattle.net_means.proofs.NetFits.Scopes.{Fits, var_at}
 use Rattle.net_built.specs.Circuits.{Ground}
@@ -26,16 +28,10 @@ use Rattle.chw_terms.specs.declared.scene.Sort.TheVariants.{Value}
 use Rattle.net_built.specs.Terms.{Variable}
 use Rattle.chw_base.specs.declared.index.WireId.{WireId}
 use Rattle.net_means.proofs.NetFits.ValueDrivers.{alternative, case_typed}
-use Rattle.chw_typing.proofs.SameScopes.{are_same_self}
 use Rattle.chw_meaning.specs.Values.{body_at}
-use Rattle.chw_typing.proofs.Lists.{found_in_map}
 use Rattle.net_built.specs.Built.{ground_of}
 use Rattle.net_means.proofs.WireOrder.Looks.{looked}
-use Rattle.chw_typing.proofs.OneType.{one_type}
 use Rattle.net_means.proofs.NetBits.Insides.{piece_first, piece_rest, widths_first, widths_rest}
-use Rattle.chw_types.proofs.SameLaws.{same_self, same_through, same_turned}
-use Rattle.chw_meaning.proofs.Once.{same_some}
-use Rattle.chw_typing.proofs.Kinded.{typed_more}
 use Rattle.net_means.specs.SideBits.Sides.{types_in}
 use Rattle.rewriting.specs.Origins.{with_origins, with_origins_alts}
 
@@ -165,19 +161,19 @@ alt_typed : (d : Design) (scope : List Variable) {u v : TypeTree} {alts : Alts} 
 alt_typed d scope alt_here (give_and {bound = bnd} {v = v} b typed same more) = record { bnd = bnd; binding = b; type = v; typed = typed; same = same }
 alt_typed d scope (alt_later rest) (give_and b typed same more) = alt_typed d scope rest more
 
-pub alt_result : (d : Design) (m : ℕ) {g : Group} {scope : List Variable} {x : ℕ} {alts : Alts} {q : Pattern} {f : TermTree} {it : Variable} (i : ℕ) (fields : List TypeTree) (widths : List ℕ) (t v : TypeTree) → GroupFormed d Value g scope → body_at g i ≡ Some (case_of (var x) alts) → slice_get (declared g) i ≡ Some t → HasAlt alts q f
+pub alt_result : Facts → (d : Design) (m : ℕ) {g : Group} {scope : List Variable} {x : ℕ} {alts : Alts} {q : Pattern} {f : TermTree} {it : Variable} (i : ℕ) (fields : List TypeTree) (widths : List ℕ) (t v : TypeTree) → GroupFormed d Value g scope → body_at g i ≡ Some (case_of (var x) alts) → slice_get (declared g) i ≡ Some t → HasAlt alts q f
     → slice_get scope x ≡ Some it → PatternOf d.program.datas it.ty q fields → HaveWidths d.program.datas fields widths → AreTermTypes (setting d) [] (types_in (reverse (variables_from m fields widths) ++ scope)) → HasType (setting d) [] (types_in (reverse (variables_from m fields widths) ++ scope)) f v → SameTypes v t
-alt_result d m {g} {scope} {x} {alts} {q} {f} {it} i fields widths t v formed at declares has known pattern have scoped typed =
+alt_result facts d m {g} {scope} {x} {alts} {q} {f} {it} i fields widths t v formed at declares has known pattern have scoped typed =
     let side = side_formed d formed i t (case_of (var x) alts) declares at in
-    let c = case_typed side.typed.has in
+    let c = case_typed facts side.typed.has in
     let a = alt_typed d scope has c.give in
     let is : slice_get (types_in scope) x ≡ Some it.ty = found_in_map (λ (v : Variable). v.ty) scope x it known in
     let own : c.of ≡ it.ty = same_some (var_at c.typed) is in
-    let fit : Fits (types_in scope) scope = record { same = are_same_self (types_in scope) } in
-    let there = alternative (setting d) (types_in scope) a.bnd fields scope q c.of it.ty c.kind m widths d.sound fit c.has (subst (SameTypes c.of) own (same_self c.of)) a.binding pattern have in
-    let inner = typed_more (setting d) [] a.bnd (types_in scope) a.binding.typed formed.scoped in
-    let one : SameTypes a.type v = one_type a.typed typed d.sound inner scoped there.fit.same in
-    same_turned (same_through side.typed.same (same_through a.same one))
+    let fit : Fits (types_in scope) scope = record { same = facts.scopes.are_same_self (types_in scope) } in
+    let there = alternative facts (setting d) (types_in scope) a.bnd fields scope q c.of it.ty c.kind m widths d.sound fit c.has (subst (SameTypes c.of) own (facts.same.same_self c.of)) a.binding pattern have in
+    let inner = facts.scopes.typed_more (setting d) [] a.bnd (types_in scope) a.binding.typed formed.scoped in
+    let one : SameTypes a.type v = facts.terms.one_type a.typed typed d.sound inner scoped there.fit.same in
+    facts.same.same_turned (facts.same.same_through side.typed.same (facts.same.same_through a.same one))
 
 pub none_hidden : {s : Setting} {vars : List TypeTree} {e : TermTree} {alts : Alts} {t : TypeTree} → HasType s [] vars (case_of e alts) t → NoneHidden alts
 none_hidden (h_case typed looked kind b has of_kind functions more hidden) = hidden

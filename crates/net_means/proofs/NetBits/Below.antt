@@ -1,6 +1,7 @@
 -- What the induction over wires takes as known, and variables without wires.
 use Rattle.std.proofs.Common.{List, Some, [], ap, arith, length, refl, subst, suc, sym, zero, ℕ, ◌<◌, ◌∙◌, ◌∷◌, ◌≡◌}
 use Rattle.std.specs.Prelude.{slice_get}
+use Rattle.net_grounds.specs.Facts.{Facts}
 use Rattle.net_means.specs.WireOrder.Awaits.{AllSettle, Ranked}
 use Rattle.cell_bits.specs.Bearing.{Bears, bears_nothing}
 use Rattle.net_means.specs.CircuitBits.Instances.{Block, BlockAt, Design, HaveBits, Inside}
@@ -22,7 +23,6 @@ use Rattle.net_built.specs.Terms.{Variable}
 use Rattle.net_means.specs.CircuitBits.Leaves.{VariableLeaf, part_wires}
 use Rattle.chw_base.specs.declared.index.WireId.{WireId}
 use Rattle.net_means.proofs.NetBits.Standing.{formed}
-use Rattle.net_built.proofs.Parts.{parts_once}
 use Rattle.carrying.specs.Carrying.{shows_nothing}
 use Rattle.net_built.specs.Wires.{wire_count}
 
@@ -85,20 +85,20 @@ empty_in d path h scope x it th held_all known nope =
       },
     )
 
-module _ (law : SameKeepsMeasure) (prims : PrimAtArguments) (d : Design) (inputs : List Thunk) (top : TopThere d inputs) where
+module _ (facts : Facts) (law : SameKeepsMeasure) (prims : PrimAtArguments) (d : Design) (inputs : List Thunk) (top : TopThere d inputs) where
   pub empty_value : {path : List ℕ} {h : History} {b : Block} {g : Group} {scope : List Variable} {γ : Thunks} (x : ℕ) (it : Variable) → BlockAt d inputs path h b → Inside d path b g scope γ → b.sort ≡ Value → slice_get scope x ≡ Some it → it.wires ≡ [] → HasBits d.program d.net path h γ x it
   empty_value {path} {h} {b} {g} {scope} x it at inside value known nope =
-      let th = inside_there law prims d inputs top at inside x it known in
-      let formed = subst (λ sort. GroupFormed d sort g scope) value (inside_formed law d inside (formed law d at)) in
+      let th = inside_there facts law prims d inputs top at inside x it known in
+      let formed = subst (λ sort. GroupFormed d sort g scope) value (inside_formed facts law d inside (formed facts law d at)) in
       empty_in d path h scope x it th formed.held known nope
 
   pub empty_leaf : EmptyLeavesHave → {path : List ℕ} {h : History} {b : Block} {g : Group} {scope : List Variable} {γ : Thunks} (x k : ℕ) (it : Variable) (widths : List ℕ) → BlockAt d inputs path h b → Inside d path b g scope γ → b.sort ≡ Circuit → slice_get scope x ≡ Some it
       → HasParts d.program.datas Circuit it.ty widths → k < length widths → part_wires k widths it.wires ≡ [] → VariableLeaf d.program d.net path scope γ h x k
   empty_leaf empty {path} {h} {b} {g} {scope} x k it widths at inside circuit known parts l nope =
-      let th = inside_there law prims d inputs top at inside x it known in
-      let formed = subst (λ sort. GroupFormed d sort g scope) circuit (inside_formed law d inside (formed law d at)) in
+      let th = inside_there facts law prims d inputs top at inside x it known in
+      let formed = subst (λ sort. GroupFormed d sort g scope) circuit (inside_formed facts law d inside (formed facts law d at)) in
       let held = formed.held x it known in
-      let same : held.0 ≡ widths = parts_once held.1 parts in
+      let same : held.0 ≡ widths = facts.built.parts_once held.1 parts in
       let own = found_at widths k l in
       let many = part_length k widths it.wires own.0 own.1 (held.2 ∙ ap (λ ws. wire_count ws) same) in
       let zero_wide : own.0 ≡ 0 = no_width own.0 (part_wires k widths it.wires) many nope in

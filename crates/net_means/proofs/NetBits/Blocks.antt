@@ -5,8 +5,10 @@ use Rattle.std.proofs.lemmas.Bool.{or_left, or_right}
 use Rattle.std.proofs.Common.{List, Some, [], ap, arith, inl, inr, length, refl, reverse, subst, suc, sym, true, zero, ℕ, ◌++◌, ◌+◌, ◌-◌, ◌<◌, ◌∙◌, ◌∷◌, ◌≡◌, ◌≤◌, ◌⊎◌}
 use Rattle.std.proofs.lemmas.List.{length-map}
 use Rattle.std.specs.Prelude.{slice_get}
+use Rattle.net_grounds.specs.Facts.{Facts}
+use Rattle.net_means.proofs.References.{along_references}
+use Rattle.net_means.proofs.Lists.{same_some}
 use Rattle.net_means.proofs.NetBits.Insides.{Place, own_place, outer_place, place_of, Within, of_binding, from_outside, within, body_whole}
-use Rattle.net_built.proofs.ValueWires.{along_references}
 use Rattle.net_means.proofs.NetFits.ValueDrivers.{same_place, side_in_group}
 use Rattle.net_built.specs.Loops.{side_at, refers}
 use Rattle.net_means.proofs.NetBits.There.{block_there, found_within, fields_count, inside_there, variables_count}
@@ -48,13 +50,10 @@ use Rattle.chw_typing.specs.Scopes.{declared}
 use Rattle.net_means.proofs.NetBits.Standing.{formed}
 use Rattle.net_built.specs.Built.{ground_of}
 use Rattle.net_means.proofs.NetFits.Shapes.{head_then}
-use Rattle.carrying.proofs.Terms.{member_shows}
 use Rattle.net_means.proofs.SideBits.Heads.{names}
 use Rattle.net_means.proofs.NetBits.Results.{opened}
 use Rattle.net_means.proofs.NetFits.CircuitDrivers.{operands_then}
-use Rattle.carrying.proofs.Environments.{outside_alternative}
 use Rattle.net_means.proofs.NetBits.ValueSides.{plain_bears}
-use Rattle.chw_meaning.proofs.Once.{same_some}
 use Rattle.chw_types.specs.TypeMoves.{sub}
 use Rattle.net_means.proofs.NetBits.CaseFirst.{unseen_outside}
 
@@ -136,7 +135,7 @@ called_piece {ground} {scope} {n} {w} (value_call {m = k} {es = es}) e = let is 
     made_number : {k m : ℕ} → made k ≡ made m → k ≡ m
     made_number e = cc
 
-module _ (s : Situation) (r : ℕ) (known : Known s r) where
+module _ (facts : Facts) (s : Situation) (r : ℕ) (known : Known s r) where
   -- variables in a scope, of which this holds, have bits
   abbrev pub Have : List ℕ → List Variable → Thunks → (ℕ → Type 0) → Type 0
   Have path scope γ P = (z : ℕ) (v : Variable) → P z → slice_get scope z ≡ Some v → Ranks s.order path v.wires (suc r) → HasBits s.d.program s.d.net path s.h γ z v
@@ -161,16 +160,16 @@ module _ (s : Situation) (r : ℕ) (known : Known s r) where
       within_fields = omega (arith, place_is, count)
 
       of_wires : (ws : List WireId) → v.wires ≡ ws → HasBits s.d.program s.d.net path s.h (unseen_outside x fields γ) z v
-      of_wires [] nope = empty_in s.d path s.h (reverse (variables_from m fields widths) ++ scope) z v (block_there s.laws.measure s.laws.prims s.d s.inputs s.top stands z v there) (formed s.laws.measure s.d stands).held there nope
+      of_wires [] nope = empty_in s.d path s.h (reverse (variables_from m fields widths) ++ scope) z v (block_there facts s.laws.measure s.laws.prims s.d s.inputs s.top stands z v there) (formed facts s.laws.measure s.d stands).held there nope
       of_wires (a ∷ ws) some =
-          let settle = s.laws.fields_order s.d.net path (whole - (tested_of s.d.program.datas it.ty whole n it.wires).bits) whole m k it.wires fields widths v cells (value_wires s.d group x it whole place wide) is in
+          let settle = s.laws.fields_order s.d.net path (whole - (tested_of s.d.program.datas it.ty whole n it.wires).bits) whole m k it.wires fields widths v cells (value_wires facts s.d group x it whole place wide) is in
           let scrutinee = known.values path b g scope γ x it at inside value place (settled_ranks s.order path path v.wires it.wires a r settle (ap (λ ws. slice_get ws 0) some) lower) in
-          unseen_field s path scope γ x n m whole q e more it fields widths z v unseen wide pattern sizes cells (there, within_fields) scrutinee
+          unseen_field facts s path scope γ x n m whole q e more it fields widths z v unseen wide pattern sizes cells (there, within_fields) scrutinee
 
   -- a variable around such an alternative, and around any other, has inside it what it has outside
   pub past_fields : (path : List ℕ) (ths γ : Thunks) (z y : ℕ) (v : Variable) → z ≡ count_of ths + y → HasBits s.d.program s.d.net path s.h γ y v → HasBits s.d.program s.d.net path s.h (joined ths γ) z v
   past_fields path ths γ z y v place has =
-      (has.0, record { thunk = has.1.thunk; there = ap (thunk_at (joined ths γ)) place ∙ outside_alternative ths γ y ∙ has.1.there; carries = has.1.carries; bears = has.1.bears })
+      (has.0, record { thunk = has.1.thunk; there = ap (thunk_at (joined ths γ)) place ∙ facts.environments.outside_alternative ths γ y ∙ has.1.there; carries = has.1.carries; bears = has.1.bears })
 
   -- the result of the first alternative of a case that doesn't look
   unseen_result : (fuel : ℕ) → Claim fuel → (path : List ℕ) (b : Block) (g : Group) (scope : List Variable) (γ : Thunks) (i x n w whole : ℕ) (t : TypeTree) (q : Pattern) (e : TermTree) (more : Alts) (it : Variable) (on : Tested) (p : Piece) (results : List (List WireId)) (start : WireId) (c : CaseIn s path b g scope γ i x n w whole t (alt q e more) it on p results)
@@ -179,16 +178,16 @@ module _ (s : Situation) (r : ℕ) (known : Known s r) where
   unfolding occurs occurs_alts
   unseen_result fuel claim path b g scope γ i x n w whole t q e more it on p results start c unseen small is_first ranks free =
       let d = s.d in
-      let own = (first_at s path b g scope γ i x n w whole t q e more it on p results c unseen).own in
-      let at = first_stands s path b g scope γ i x n w whole t q e more it on p results c unseen in
-      let f = formed s.laws.measure d at in
-      let o = opened d at f in
+      let own = (first_at facts s path b g scope γ i x n w whole t q e more it on p results c unseen).own in
+      let at = first_stands facts s path b g scope γ i x n w whole t q e more it on p results c unseen in
+      let f = formed facts s.laws.measure d at in
+      let o = opened facts d at f in
       let lower : Ranks s.order path o.it.wires (suc r) = below_result o.results in
-      unseen_has s path b g scope γ i x n w whole t q e more it on p results c unseen f o
+      unseen_has facts s path b g scope γ i x n w whole t q e more it on p results c unseen f o
       (claim path _ o.g o.scope o.γ at o.inside refl small outer o.x o.it o.free o.known lower)
     where
       first : AltAt s.d path scope it (whole - on.bits) results 0 q e
-      first = first_at s path b g scope γ i x n w whole t q e more it on p results c unseen
+      first = first_at facts s path b g scope γ i x n w whole t q e more it on p results c unseen
 
       fields : List TypeTree
       fields = first.own.fields
@@ -197,7 +196,7 @@ module _ (s : Situation) (r : ℕ) (known : Known s r) where
       front = variables_from first.own.m fields first.own.widths
 
       stands : Stands s path (record { sort = Value; scope = reverse front ++ scope; outside = unseen_outside x fields γ; term = e; results = first.wires })
-      stands = first_stands s path b g scope γ i x n w whole t q e more it on p results c unseen
+      stands = first_stands facts s path b g scope γ i x n w whole t q e more it on p results c unseen
 
       -- the ranks of the result
       below_result : {wires : List WireId} → first.wires ≡ wires → Ranks s.order path wires (suc r)
@@ -210,7 +209,7 @@ module _ (s : Situation) (r : ℕ) (known : Known s r) where
               subst (λ ws. Ranks s.order path ws (suc r)) one (subst (λ more. Ranks s.order path (case_wires on (alt q e more) w n p results) (suc r)) are ranks)
           of_wires (alt u z others) are =
               let two : 2 ≤ alts_count (alt q e more) = let l : alts_count more ≡ suc (alts_count others) = ap (λ more. alts_count more) are in omega (arith, l) in
-              let settle = s.laws.results_order s.d.net path on (alt q e more) w n 0 p results first.wires c.has two (results_count c.built) first.result (result_wires s path b g scope γ i x n w whole t (alt q e more) it on p results c 0 first.wires first.result) in
+              let settle = s.laws.results_order s.d.net path on (alt q e more) w n 0 p results first.wires c.has two (results_count c.built) first.result (result_wires facts s path b g scope γ i x n w whole t (alt q e more) it on p results c 0 first.wires first.result) in
               let lower = settled_ranks s.order path path (case_wires on (alt q e more) w n p results) first.wires start r settle is_first ranks in
               λ k v at. let l = lower k v at in omega (arith, l)
 
@@ -223,7 +222,7 @@ module _ (s : Situation) (r : ℕ) (known : Known s r) where
           by : Place front scope z v → HasBits s.d.program s.d.net path s.h (unseen_outside x fields γ) z v
           by (own_place k place is) =
               field_bits path b g scope γ x n first.own.m whole q e more it fields first.own.widths first.wires z k v c.stands c.inside c.value c.group c.known unseen c.whole_wide first.own.pattern first.own.sizes
-              (cut_cells s path b g scope γ i x n w whole t q e more it on p results c unseen) stands there place is lower
+              (cut_cells facts s path b g scope γ i x n w whole t q e more it on p results c unseen) stands there place is lower
           by (outer_place y place is) =
               let same : z ≡ y + binders q = let pn = pattern_names first.own.pattern in omega (arith, place, count, pn) in
               let occ_case : occurs (case_of (var x) (alt q e more)) y ≡ true = or_right (x == y) (occurs e (y + binders q) || occurs_alts more y) (or_left (occurs e (y + binders q)) (occurs_alts more y) (ap (λ z. occurs e z) (sym same) ∙ occ)) in
@@ -250,7 +249,7 @@ module _ (s : Situation) (r : ℕ) (known : Known s r) where
               let long : length (last_wires n p (w ∷ [])) ≡ wire_count (w ∷ []) = count_from _ (wire_count (w ∷ [])) in
               let some : 0 < wire_count (w ∷ []) = let l = found_within (last_wires n p (w ∷ [])) 0 start start_there in omega (arith, l, long) in
               let same : last_wires n p (w ∷ []) ≡ new_wires n (w ∷ []) = ap (λ (p : Piece). last_wires n p (w ∷ [])) piece ∙ (let place : n + length (present (w ∷ [])) - wire_count (w ∷ []) ≡ n = omega arith in ap (λ k. wires_from k (wire_count (w ∷ []))) place) in
-              let call_has = call_bears s r known i c.m n w c.xs t at inside value group (body ∙ ap (λ e. Some e) c.is) declares wide some (subst (λ (p : Piece). HasCells s.d.net path p.cells) piece has) (subst (λ ws. Ranks s.order path ws (suc r)) same ranks) in
+              let call_has = call_bears facts s r known i c.m n w c.xs t at inside value group (body ∙ ap (λ e. Some e) c.is) declares wide some (subst (λ (p : Piece). HasCells s.d.net path p.cells) piece has) (subst (λ ws. Ranks s.order path ws (suc r)) same ranks) in
               subst (λ ws. SideHas s.d.program γ no_types s.d.net path s.h t (with_origins s.d.wholes e) ws) (sym same)
               (subst (λ e. SideHas s.d.program γ no_types s.d.net path s.h t (with_origins s.d.wholes e) (new_wires n (w ∷ []))) (sym c.is) call_has)
   side_has fuel claim path b g scope γ i n t e p wires start at inside value group body declares (side_of_case {x = x} {whole = whole} {w = w} {alts = alts} {it = it} {p = q} {results = results} on place whole_wide wide is built) has widths small is_first ranks free = by_alts alts refl
@@ -288,7 +287,7 @@ module _ (s : Situation) (r : ℕ) (known : Known s r) where
 
           by_choice : (choice s.d.program.datas (alt u f more) ≡ looks) ⊎ (¬ (choice s.d.program.datas (alt u f more) ≡ looks)) → SideHas s.d.program γ no_types s.d.net path s.h t (case_of (var x) (with_origins_alts s.d.wholes (alt u f more))) (case_wires on (alt u f more) w n q results)
           by_choice (inl looking) =
-              let has_it = looks_bear s r known path b g scope γ i x n w whole t u f more it on q results start (case_in (alt u f more) are) looking first lower in
+              let has_it = looks_bear facts s r known path b g scope γ i x n w whole t u f more it on q results start (case_in (alt u f more) are) looking first lower in
               subst (λ ws. SideHas s.d.program γ no_types s.d.net path s.h t (case_of (var x) (with_origins_alts s.d.wholes (alt u f more))) ws) (wires_whole s.d.wholes on (alt u f more) w n q results) has_it
           by_choice (inr unseen) =
               let depth : nesting_alts alts ≡ nesting_alts (alt u f more) = ap nesting_alts are in
@@ -305,7 +304,7 @@ module _ (s : Situation) (r : ℕ) (known : Known s r) where
       → Stands s path (record { sort = sort; scope = scope; outside = γ; term = letrec g (var y); results = results }) → sort ≡ Value → nesting_group g ≤ fuel → Have path scope γ (λ z. occurs (letrec g (var y)) z ≡ true)
       → Have path (reverse bound ++ scope) (in_group (with_origins_group s.d.wholes g) γ no_types) (λ x. (z : ℕ) → x ≡ size_of g + z → occurs (letrec g (var y)) z ≡ true)
   unfolding occurs
-  letrec_items fuel claim path γ sort scope bound g y n p results built has wide at value small outer x it free place ranks = by (within s.d path inside x it place)
+  letrec_items fuel claim path γ sort scope bound g y n p results built has wide at value small outer x it free place ranks = by (within facts s.d path inside x it place)
     where
       b : Block
       b = record { sort = sort; scope = scope; outside = γ; term = letrec g (var y); results = results }
@@ -317,7 +316,7 @@ module _ (s : Situation) (r : ℕ) (known : Known s r) where
       inside = inside_letrec built has wide
 
       group : GroupFormed s.d sort g (reverse bound ++ scope)
-      group = inside_formed s.laws.measure s.d inside (formed s.laws.measure s.d at)
+      group = inside_formed facts s.laws.measure s.d inside (formed facts s.laws.measure s.d at)
 
       values : GroupFormed s.d Value g (reverse bound ++ scope)
       values = subst (λ sort. GroupFormed s.d sort g (reverse bound ++ scope)) value group
@@ -329,7 +328,7 @@ module _ (s : Situation) (r : ℕ) (known : Known s r) where
       step i l before x it place known_there ranks = of_wires it.wires refl
         where
           in_side : (e : TermTree) → body_at g i ≡ Some e → Have path (reverse bound ++ scope) η (λ y. occurs e y ≡ true)
-          in_side e at_e u v occ there lower = from (within s.d path inside u v there)
+          in_side e at_e u v occ there lower = from (within facts s.d path inside u v there)
             where
               occ_side : occurs (side_at g i) u ≡ true
               occ_side = ap (λ e. occurs e u) (side_is g i e at_e) ∙ occ
@@ -342,8 +341,8 @@ module _ (s : Situation) (r : ℕ) (known : Known s r) where
                   past_group u z v same (outer z v (or_left (occurs_group g (z + size_of g)) (occurs (var y) (z + size_of g)) occ_group) is lower)
 
           of_wires : (ws : List WireId) → it.wires ≡ ws → HasBits s.d.program s.d.net path s.h η x it
-          of_wires [] nope = empty_in s.d path s.h (reverse bound ++ scope) x it (inside_there s.laws.measure s.laws.prims s.d s.inputs s.top at inside x it known_there) values.held known_there nope
-          of_wires (a ∷ ws) some = of_place (within s.d path inside x it known_there)
+          of_wires [] nope = empty_in s.d path s.h (reverse bound ++ scope) x it (inside_there facts s.laws.measure s.laws.prims s.d s.inputs s.top at inside x it known_there) values.held known_there nope
+          of_wires (a ∷ ws) some = of_place (within facts s.d path inside x it known_there)
             where
               of_place : Within s.d path b g (reverse bound ++ scope) η x it → HasBits s.d.program s.d.net path s.h η x it
               of_place (from_outside z number is same) = absurd (omega (arith, number, place))
@@ -358,13 +357,13 @@ module _ (s : Situation) (r : ℕ) (known : Known s r) where
                     record {
                       thunk = member (with_origins_group s.d.wholes g) j γ no_types;
                       there = thunk;
-                      carries = λ k. member_shows (body_whole s.d.wholes g j binding.term binding.at) (side.carries k);
+                      carries = λ k. facts.shows.member_shows (body_whole s.d.wholes g j binding.term binding.at) (side.carries k);
                       bears = side.bears;
                     },
                   )
 
       by : Within s.d path b g (reverse bound ++ scope) η x it → HasBits s.d.program s.d.net path s.h η x it
-      by (of_binding i number binding env thunk) = along_references (refers g) values.form.acyclic (size_of g) (BindingHas path g (reverse bound ++ scope) η) step i (omega (arith, number)) x it number place ranks
+      by (of_binding i number binding env thunk) = along_references facts (refers g) values.form.acyclic (size_of g) (BindingHas path g (reverse bound ++ scope) η) step i (omega (arith, number)) x it number place ranks
       by (from_outside z number is same) = past_group x z it same (outer z it (free z number) is ranks)
 
   step_claim : (fuel : ℕ) → Claim fuel → Claim (suc fuel)
@@ -383,7 +382,7 @@ module _ (s : Situation) (r : ℕ) (known : Known s r) where
   -- all variables inside a block have bits where those outside have
   pub inside_bits : (path : List ℕ) (b : Block) (g : Group) (scope : List Variable) (γ : Thunks) → Stands s path b → Inside s.d path b g scope γ → b.sort ≡ Value → ((z : ℕ) (v : Variable) → slice_get b.scope z ≡ Some v → Ranks s.order path v.wires (suc r) → HasBits s.d.program s.d.net path s.h b.outside z v)
       → (x : ℕ) (v : Variable) → slice_get scope x ≡ Some v → Ranks s.order path v.wires (suc r) → HasBits s.d.program s.d.net path s.h γ x v
-  inside_bits path b g scope γ at inside value outer x v place ranks = by (within s.d path inside x v place)
+  inside_bits path b g scope γ at inside value outer x v place ranks = by (within facts s.d path inside x v place)
     where
       by : Within s.d path b g scope γ x v → HasBits s.d.program s.d.net path s.h γ x v
       by (from_outside z number is same) = let has = outer z v is ranks in (has.0, record { thunk = has.1.thunk; there = same ∙ has.1.there; carries = has.1.carries; bears = has.1.bears })

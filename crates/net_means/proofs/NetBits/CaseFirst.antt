@@ -7,6 +7,7 @@ use Rattle.std.specs.Prelude.{slice_get}
 use Rattle.chw_meaning.specs.Values.{History, Thunk, Thunks, closed, field, fields_from, joined, none, thunk_and}
 use Rattle.cell_bits.specs.ChoiceLaws.{CasesBear as CellCasesBear}
 use Rattle.chw_types.specs.SamePromises.{SameValues, natural_value}
+use Rattle.net_grounds.specs.Facts.{Facts}
 use Rattle.net_means.proofs.SideBits.Choices.{words_wide}
 use Rattle.chw_typing.specs.HeadTypes.{PatternOf, of_con, of_lit, of_any}
 use Rattle.chw_terms.specs.TermTree.{Alts, TermTree, alt, case_of, no_alts, var}
@@ -31,10 +32,6 @@ use Rattle.chw_base.specs.declared.index.WireId.{WireId}
 use Rattle.chw_types.specs.Arguments.{arguments}
 use Rattle.chw_meaning.specs.Eval.{by_fields, choice, is_only, looks, takes}
 use Rattle.chw_terms.specs.Constructors.{con_at}
-use Rattle.carrying.proofs.Cases.{goes_on_shows, takes_shows}
-use Rattle.chw_typing.proofs.Heads.{is_constructor}
-use Rattle.layout_laws.proofs.SameLayout.{same_number}
-use Rattle.chw_layout.proofs.Fitting.{scalar_width}
 use Rattle.chw_types.specs.TypeMoves.{sub}
 
 -- as fields of a thunk before others
@@ -55,7 +52,7 @@ nothing_of_default of_any = refl
 nothing_of_literal : {datas : List Data} {u : TypeTree} {s : Scalar} {a : List Bool} {fields : List TypeTree} → PatternOf datas u (OfLit s a) fields → fields ≡ []
 nothing_of_literal (of_lit l e) = refl
 
-module _ (p : Program) (t : TypeTree) (x : ℕ) (γ : Thunks) (k : History) (b : List Bool) where
+module _ (facts : Facts) (p : Program) (t : TypeTree) (x : ℕ) (γ : Thunks) (k : History) (b : List Bool) where
   bare : (f : TermTree) (fields : List TypeTree) → fields ≡ [] → Shows p t (closed f (unseen_outside x fields γ) no_types) k b → Shows p t (closed f γ no_types) k b
   bare f fields nope shown = subst (λ fs. Shows p t (closed f (unseen_outside x fs γ) no_types) k b) nope shown
 
@@ -63,9 +60,9 @@ module _ (p : Program) (t : TypeTree) (x : ℕ) (γ : Thunks) (k : History) (b :
       → Shows p t (closed f (unseen_outside x fields γ) no_types) k b → Shows p t (closed (case_of (var x) (alt q f others)) γ no_types) k b
   unseen_shows u Default e f no_alts others fields unseen same pattern shown =
       subst (λ alts. Shows p t (closed (case_of (var x) (alt Default f alts)) γ no_types) k b) (sym (same refl))
-      (goes_on_shows p t (var x) f (alt Default f no_alts) γ no_types k b refl (bare f fields (nothing_of_default pattern) shown))
+      (facts.cases.goes_on_shows p t (var x) f (alt Default f no_alts) γ no_types k b refl (bare f fields (nothing_of_default pattern) shown))
   unseen_shows u Default e f (alt r g more) others fields unseen same pattern shown = absurd (unseen refl)
-  unseen_shows u (OfLit s []) e f more others fields unseen same pattern shown = goes_on_shows p t (var x) f (alt (OfLit s []) f others) γ no_types k b refl (bare f fields (nothing_of_literal pattern) shown)
+  unseen_shows u (OfLit s []) e f more others fields unseen same pattern shown = facts.cases.goes_on_shows p t (var x) f (alt (OfLit s []) f others) γ no_types k b refl (bare f fields (nothing_of_literal pattern) shown)
   unseen_shows u (OfLit s (bit ∷ bits)) e f more others fields unseen same pattern shown = absurd (unseen refl)
   unseen_shows u (OfCon c n) e f more others fields unseen same pattern shown = by (is_only (con_at p.datas c.number)) refl
     where
@@ -75,17 +72,17 @@ module _ (p : Program) (t : TypeTree) (x : ℕ) (γ : Thunks) (k : History) (b :
           let is : choice p.datas (alt (OfCon c n) f others) ≡ takes n f = ap (λ o. by_fields o n f) only in
           let th : Thunk = closed (var x) γ no_types in
           let env : unseen_outside x fields γ ≡ fields_from zero n th γ = joined_fields zero (length fields) th γ ∙ ap (λ k. fields_from zero k th γ) (fields_named pattern) in
-          takes_shows p t (var x) f n (alt (OfCon c n) f others) γ no_types k b is (subst (λ η. Shows p t (closed f η no_types) k b) env shown)
+          facts.cases.takes_shows p t (var x) f n (alt (OfCon c n) f others) γ no_types k b is (subst (λ η. Shows p t (closed f η no_types) k b) env shown)
 
 -- nothing is tested where there are further alternatives
-module _ (values : SameValues) (datas : List Data) (whole n : ℕ) (wires : List WireId) where
+module _ (facts : Facts) (values : SameValues) (datas : List Data) (whole n : ℕ) (wires : List WireId) where
   nothing_tested : (u : TypeTree) (q r : Pattern) (e f : TermTree) (more : Alts) {fields : List TypeTree} → ¬ (choice datas (alt q e (alt r f more)) ≡ looks) → PatternOf datas u q fields → HasWidth datas u whole → length wires ≡ wire_count (whole ∷ [])
       → ((tested_of datas u whole n wires).bits ≡ 0) × ((tested_of datas u whole n wires).wires ≡ [])
   unfolding natural_value
   nothing_tested u Default r e f more unseen pattern wide many = absurd (unseen refl)
   nothing_tested u (OfLit s (bit ∷ bits)) r e f more unseen pattern wide many = absurd (unseen refl)
   nothing_tested u (OfLit s []) r e f more unseen (of_lit {w = w} l same) wide many =
-      let zero_whole : whole ≡ 0 = scalar_width wide ∙ same_number values same in
+      let zero_whole : whole ≡ 0 = facts.widths.scalar_width wide ∙ facts.same_layout.same_number values same in
       (zero_whole, no_list wires (many ∙ ap (λ w. wire_count (w ∷ [])) zero_whole))
     where
       no_list : (ws : List WireId) → length ws ≡ 0 → ws ≡ []
@@ -96,7 +93,7 @@ module _ (values : SameValues) (datas : List Data) (whole n : ℕ) (wires : List
       by : (o : Bool) → is_only (con_at datas c.number) ≡ o → (tag_width (constructor_count datas d) ≡ 0) × (new_wires n (tag_width (constructor_count datas d) ∷ []) ≡ [])
       by false nope = absurd (unseen (ap (λ o. by_fields o k e) nope))
       by true only =
-          let place = is_constructor datas c.number it known in
+          let place = facts.constructors.is_constructor datas c.number it known in
           let here : slice_get datas d ≡ Some it.it = subst (λ d. slice_get datas d ≡ Some it.it) of place.data_type in
           let one : (length it.it.cons == 1) ≡ true = sym (ap is_only known) ∙ only in
           let size : constructor_count datas d ≡ 1 = ap (λ o. unwrap_or (option_map (λ (it : Data). length it.cons) o) 0) here ∙ eqb-true (length it.it.cons) 1 one in
@@ -109,17 +106,17 @@ empty_words [] e = refl
 empty_words (b ∷ w) e = absurd (omega (arith, e))
 
 -- so the cells choose the first result
-pub unseen_bears : SameValues → CellCasesBear → (net : Net) (path : List ℕ) (h : History) (datas : List Data) (u : TypeTree) (whole : ℕ) (wires : List WireId) (on : Tested) (q r : Pattern) (e f : TermTree) (more : Alts) {fields : List TypeTree} (w n : ℕ) (p : Piece) (results : List (List WireId)) (all : List (List Bool)) (bits : List Bool)
+pub unseen_bears : Facts → SameValues → CellCasesBear → (net : Net) (path : List ℕ) (h : History) (datas : List Data) (u : TypeTree) (whole : ℕ) (wires : List WireId) (on : Tested) (q r : Pattern) (e f : TermTree) (more : Alts) {fields : List TypeTree} (w n : ℕ) (p : Piece) (results : List (List WireId)) (all : List (List Bool)) (bits : List Bool)
     → ¬ (choice datas (alt q e (alt r f more)) ≡ looks) → PatternOf datas u q fields → HasWidth datas u whole → AreFor datas u (alt q e (alt r f more)) → NoneHidden (alt q e (alt r f more)) → on ≡ tested_of datas u whole n wires → length wires ≡ wire_count (whole ∷ [])
     → BearAll net path h results all → AreWide w all → slice_get all 0 ≡ Some bits → HasCells net path (case_cells on (alt q e (alt r f more)) w n p results).cells
     → Bears net path h (case_wires on (alt q e (alt r f more)) w n p results) bits
-unseen_bears values cases net path h datas u whole wires on q r e f more w n p results all bits unseen pattern wide are hidden is many bear sizes first has =
+unseen_bears facts values cases net path h datas u whole wires on q r e f more w n p results all bits unseen pattern wide are hidden is many bear sizes first has =
     let alts : Alts = alt q e (alt r f more) in
-    let none_tested = nothing_tested values datas whole n wires u q r e f more unseen pattern wide many in
+    let none_tested = nothing_tested facts values datas whole n wires u q r e f more unseen pattern wide many in
     let no_bits : on.bits ≡ 0 = ap (λ (on : Tested). on.bits) is ∙ none_tested.0 in
     let bare_wires : on.wires ≡ [] = ap (λ (on : Tested). on.wires) is ∙ none_tested.1 in
     let long : length (replicate whole false) ≡ whole = length-replicate whole false in
-    let wide_words : AreWide on.bits (words_of on.bits on.first alts) = subst (λ (on : Tested). AreWide on.bits (words_of on.bits on.first alts)) (sym is) (words_wide values datas whole n wires (replicate whole false) alts are hidden wide long) in
+    let wide_words : AreWide on.bits (words_of on.bits on.first alts) = subst (λ (on : Tested). AreWide on.bits (words_of on.bits on.first alts)) (sym is) (words_wide facts values datas whole n wires (replicate whole false) alts are hidden wide long) in
     let word : word_of on.bits on.first q ≡ [] = empty_words (word_of on.bits on.first q) (wide_words.0 ∙ no_bits) in
     cases net path h on alts w n 0 p results all [] bits (subst (λ ws. Bears net path h ws []) (sym bare_wires) bears_nothing) (sym no_bits) wide_words bear sizes first
     (record { none_before = λ i l f. absurd (omega (arith, l)); own_or_last = inl (ap (λ w. Some w) word) }) has

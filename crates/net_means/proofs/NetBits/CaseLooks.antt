@@ -3,6 +3,8 @@ use Rattle.std.proofs.Common.{Bool, List, Some, [], ap, arith, drop, length, ref
 use Rattle.std.specs.Prelude.{slice_get}
 use Rattle.chw_meaning.specs.Eval.{looks, choice}
 use Rattle.chw_typing.specs.Scopes.{declared}
+use Rattle.net_grounds.specs.Facts.{Facts}
+use Rattle.net_means.proofs.Lists.{found_in_map, same_some}
 use Rattle.net_means.proofs.NetBits.Insides.{piece_first, piece_rest, widths_first, widths_rest}
 use Rattle.net_built.specs.Words.{only}
 use Rattle.net_means.specs.WireOrder.Awaits.{AllSettle}
@@ -40,18 +42,12 @@ use Rattle.chw_base.specs.declared.index.WireId.{WireId}
 use Rattle.net_means.proofs.NetBits.SomeBits.{WiresOnce}
 use Rattle.net_means.proofs.NetBits.ResultBits.{all_bear, alts_counted, case_wide}
 use Rattle.net_means.proofs.NetBits.Alternatives.{alt_at, alt_result, alts_for, cells_whole, count_whole, first_whole, for_whole, hidden_whole, none_hidden, results_count}
-use Rattle.chw_typing.proofs.SameScopes.{are_same_self}
 use Rattle.net_means.proofs.NetFits.ValueDrivers.{case_typed}
 use Rattle.net_means.proofs.NetBits.There.{found_at, found_within}
-use Rattle.chw_typing.proofs.Lists.{found_in_map}
 use Rattle.net_built.specs.Built.{ground_of}
 use Rattle.net_means.proofs.NetBits.Taken.{looks_many, taken_there}
 use Rattle.net_means.proofs.SideBits.Choices.{looks_wide}
-use Rattle.chw_types.proofs.SameLaws.{same_self}
-use Rattle.chw_meaning.proofs.Once.{same_some}
 use Rattle.chw_typing.specs.Programs.{setting_of}
-use Rattle.carrying.proofs.Widths.{shown_length}
-use Rattle.carrying.proofs.Same.{shown_same}
 use Rattle.net_means.proofs.NetFits.Scopes.{var_at}
 use Rattle.rewriting.specs.Origins.{with_origins, with_origins_alts}
 
@@ -98,12 +94,12 @@ parts_of datas [] (w ∷ ws) b have = absurd have
 parts_of datas (t ∷ ts) [] b have = absurd have
 parts_of datas (t ∷ ts) (w ∷ ws) b have = let rest = parts_of datas ts ws (drop w b) have.1 in (take w b ∷ rest.0, part_and have.0 rest.1)
 
-module _ (s : Situation) (path : List ℕ) (b : Block) (g : Group) (scope : List Variable) (γ : Thunks) (i x n w whole : ℕ) (t : TypeTree) (alts : Alts) (it : Variable) (on : Tested) (p : Piece) (results : List (List WireId)) (c : CaseIn s path b g scope γ i x n w whole t alts it on p results) where
+module _ (facts : Facts) (s : Situation) (path : List ℕ) (b : Block) (g : Group) (scope : List Variable) (γ : Thunks) (i x n w whole : ℕ) (t : TypeTree) (alts : Alts) (it : Variable) (on : Tested) (p : Piece) (results : List (List WireId)) (c : CaseIn s path b g scope γ i x n w whole t alts it on p results) where
   pub case_side_of : SideFormed s.d Value scope t (case_of (var x) alts)
   case_side_of = side_formed s.d c.group i t (case_of (var x) alts) c.declares c.at
 
   pub looked_wires : length it.wires ≡ wire_count (whole ∷ [])
-  looked_wires = value_wires s.d c.group x it whole c.known c.whole_wide
+  looked_wires = value_wires facts s.d c.group x it whole c.known c.whole_wide
 
   pub piece_cells : HasCells s.d.net path p.cells
   piece_cells =
@@ -124,10 +120,10 @@ module _ (s : Situation) (path : List ℕ) (b : Block) (g : Group) (scope : List
   pub result_wires : (k : ℕ) (r : List WireId) → slice_get results k ≡ Some r → length r ≡ wire_count (w ∷ [])
   result_wires k r e =
       let side = case_side_of in
-      let typed = case_typed side.typed.has in
+      let typed = case_typed facts side.typed.has in
       let own : typed.of ≡ it.ty = same_some (var_at typed.typed) (found_in_map (λ (v : Variable). v.ty) scope x it c.known) in
-      alts_counted s.laws.measure (setting s.d) s.d.built.order s.d.sound c.built typed.give typed.has (subst (SameTypes typed.of) own (same_self typed.of)) (record { same = are_same_self (types_in scope) })
-      (held_sized (setting s.d) scope c.group.held) side.form.free t side.kind w side.kinded side.typed.same c.wide k r e
+      alts_counted facts s.laws.measure (setting s.d) s.d.built.order s.d.sound c.built typed.give typed.has (subst (SameTypes typed.of) own (facts.same.same_self typed.of)) (record { same = facts.scopes.are_same_self (types_in scope) })
+      (held_sized facts (setting s.d) scope c.group.held) side.form.free t side.kind w side.kinded side.typed.same c.wide k r e
 
   -- with several alternatives each result is as wide as the case
   pub result_wide : (q : Pattern) (e : TermTree) (more : Alts) → alts ≡ alt q e more → 0 < alts_count more → (k : ℕ) (r : List WireId) → slice_get results k ≡ Some r → (v : ℕ) → w ≡ suc v → HasWidthAt s.d.net path (only r) w
@@ -137,18 +133,18 @@ module _ (s : Situation) (path : List ℕ) (b : Block) (g : Group) (scope : List
       subst (λ w. HasCells s.d.net path (case_cells on (alt q e more) w n p results).cells) is (subst (λ alts. HasCells s.d.net path (case_cells on alts w n p results).cells) are c.has) in
       let wide : HasWidths s.d.net path n (case_cells on (alt q e more) (suc v) n p results).widths =
       subst (λ w. HasWidths s.d.net path n (case_cells on (alt q e more) w n p results).widths) is (subst (λ alts. HasWidths s.d.net path n (case_cells on alts w n p results).widths) are c.widths) in
-      subst (λ w. HasWidthAt s.d.net path (only r) w) (sym is) (case_wide s.d.net path s.good on q e more v n k p results r has wide some many there)
+      subst (λ w. HasWidthAt s.d.net path (only r) w) (sym is) (case_wide facts s.d.net path s.good on q e more v n k p results r has wide some many there)
 
   -- the variables of an alternative have the type of the case in the end
   pub alternative_like : (m : ℕ) (fields : List TypeTree) (widths : List ℕ) (q : Pattern) (e : TermTree) (η : Thunks) (wires : List WireId) → HasAlt alts q e → PatternOf s.d.program.datas it.ty q fields → HaveWidths s.d.program.datas fields widths
       → (at : Stands s path (record { sort = Value; scope = reverse (variables_from m fields widths) ++ scope; outside = η; term = e; results = wires })) (f : Formed s.d (record { sort = Value; scope = reverse (variables_from m fields widths) ++ scope; outside = η; term = e; results = wires }))
       → (o : Opened s.d path (record { sort = Value; scope = reverse (variables_from m fields widths) ++ scope; outside = η; term = e; results = wires }) f.type) → AreLike (setting_of s.d.program) o.it.ty t
   alternative_like m fields widths q e η wires has pattern sizes at f o =
-      let same = alt_result s.d m i fields widths t f.type c.group c.at c.declares has c.known pattern sizes f.scoped f.typed in
-      let typed = variable_typed s.d (inside_formed s.laws.measure s.d o.inside f) o.x o.it o.known in
+      let same = alt_result facts s.d m i fields widths t f.type c.group c.at c.declares has c.known pattern sizes f.scoped f.typed in
+      let typed = variable_typed facts s.d (inside_formed facts s.laws.measure s.d o.inside f) o.x o.it o.known in
       record { kind = typed.kind; has = typed.has; same = subst (λ u. SameTypes u t) o.type same }
 
-module _ (s : Situation) (r : ℕ) (known : Known s r) where
+module _ (facts : Facts) (s : Situation) (r : ℕ) (known : Known s r) where
   pub looks_bear : (path : List ℕ) (b : Block) (g : Group) (scope : List Variable) (γ : Thunks) (i x n w whole : ℕ) (t : TypeTree) (q0 : Pattern) (e0 : TermTree) (more0 : Alts) (it : Variable) (on : Tested) (p : Piece) (results : List (List WireId)) (first_wire_of : WireId) → CaseIn s path b g scope γ i x n w whole t (alt q0 e0 more0) it on p results
       → choice s.d.program.datas (alt q0 e0 more0) ≡ looks → slice_get (case_wires on (alt q0 e0 more0) w n p results) 0 ≡ Some first_wire_of → Ranks s.order path (case_wires on (alt q0 e0 more0) w n p results) (suc r)
       → SideHas s.d.program γ no_types s.d.net path s.h t (case_of (var x) (with_origins_alts s.d.wholes (alt q0 e0 more0))) (case_wires on (with_origins_alts s.d.wholes (alt q0 e0 more0)) w n p results)
@@ -156,8 +152,8 @@ module _ (s : Situation) (r : ℕ) (known : Known s r) where
       let d = s.d in
       let alts : Alts = alt q0 e0 more0 in
       let wires : List WireId = case_wires on alts w n p results in
-      let side = case_side_of s path b g scope γ i x n w whole t alts it on p results c in
-      let many = looked_wires s path b g scope γ i x n w whole t alts it on p results c in
+      let side = case_side_of facts s path b g scope γ i x n w whole t alts it on p results c in
+      let many = looked_wires facts s path b g scope γ i x n w whole t alts it on p results c in
       let are : AreFor d.program.datas it.ty alts = alts_for c.built in
       let hidden = none_hidden side.typed.has in
       let tested : AreTested d.program.datas it.ty whole alts = record { wide = c.whole_wide; for_type = are; shown = hidden } in
@@ -168,19 +164,19 @@ module _ (s : Situation) (r : ℕ) (known : Known s r) where
       let looked = known.values path b g scope γ x it c.stands c.inside c.value c.known (settled_ranks s.order path path wires it.wires start r on_order is_first ranks) in
       let bits : List Bool = looked.0 in
       let has = looked.1 in
-      let is_wide : IsWide d.program.datas it.ty = looks_wide s.laws.values d.program.datas whole alts are hidden c.whole_wide (omega (arith, two)) looking in
-      let chosen_one = taken_there s.laws.tags d.program it.ty has.thunk s.h bits alts side.form.complete.0 are is_wide (has.carries s.h) in
+      let is_wide : IsWide d.program.datas it.ty = looks_wide facts s.laws.values d.program.datas whole alts are hidden c.whole_wide (omega (arith, two)) looking in
+      let chosen_one = taken_there facts s.laws.tags d.program it.ty has.thunk s.h bits alts side.form.complete.0 are is_wide (has.carries s.h) in
       let number = s.laws.back d.program.datas bits alts chosen_one.0 chosen_one.1 in
       let k : ℕ = number.0 in
       let a : Taken = chosen_one.0 in
       let first : IsFirst d.program.datas bits alts k a = number.1 in
-      let alternative_at = alt_at d path c.built (piece_cells s path b g scope γ i x n w whole t alts it on p results c) (piece_widths s path b g scope γ i x n w whole t alts it on p results c) first in
+      let alternative_at = alt_at d path c.built (piece_cells facts s path b g scope γ i x n w whole t alts it on p results c) (piece_widths facts s path b g scope γ i x n w whole t alts it on p results c) first in
       let own = alternative_at.own in
-      let wide_result = result_wide s path b g scope γ i x n w whole t alts it on p results c q0 e0 more0 refl several in
-      let all = all_bear d.net path s.h w results s.have (λ k r e. (result_wires s path b g scope γ i x n w whole t alts it on p results c k r e, wide_result k r e)) in
+      let wide_result = result_wide facts s path b g scope γ i x n w whole t alts it on p results c q0 e0 more0 refl several in
+      let all = all_bear d.net path s.h w results s.have (λ k r e. (result_wires facts s path b g scope γ i x n w whole t alts it on p results c k r e, wide_result k r e)) in
       let given = found_at all.0 k (let l = found_within results k alternative_at.wires alternative_at.result in let size = all.3 in omega (arith, l, size)) in
       let given_bears : Bears d.net path s.h alternative_at.wires given.0 = all_at all.1 k alternative_at.wires given.0 alternative_at.result given.1 in
-      let result_count = result_wires s path b g scope γ i x n w whole t alts it on p results c k alternative_at.wires alternative_at.result in
+      let result_count = result_wires facts s path b g scope γ i x n w whole t alts it on p results c k alternative_at.wires alternative_at.result in
       let cut = parts_of d.program.datas own.fields own.widths (behind d.program.datas a.pattern bits) own.sizes in
       let body : (ths : Thunks) → count_of ths ≡ length own.fields → CarryParts d.program own.fields ths cut.0 → Carries d.program t (closed (with_origins d.wholes a.body) (joined ths γ) no_types) given.0 =
       λ ths counted carry.
@@ -200,15 +196,15 @@ module _ (s : Situation) (r : ℕ) (known : Known s r) where
       } in
       let at : Stands s path (record { sort = Value; scope = reverse (variables_from own.m own.fields own.widths) ++ scope; outside = joined ths γ; term = a.body; results = alternative_at.wires }) =
       an_alternative i c.stands c.inside c.at fields c.known first (record { n = own.n; piece = own.piece; built = own.built; cells = own.cells; widths = own.wide }) in
-      let f = formed s.laws.measure d at in
-      let o = opened d at f in
+      let f = formed facts s.laws.measure d at in
+      let o = opened facts d at f in
       let settle = s.laws.results_order d.net path on alts w n k p results alternative_at.wires c.has (omega (arith, two)) count alternative_at.result result_count in
       let inner = known.values path _ o.g o.scope o.γ o.x o.it at o.inside refl o.known
       (settled_ranks s.order path path wires o.it.wires start r (subst (λ ws. AllSettle d.net path wires path ws) o.results settle) is_first ranks) in
-      let v = value_result d o inner in
-      let like = alternative_like s path b g scope γ i x n w whole t alts it on p results c own.m own.fields own.widths a.pattern a.body (joined ths γ) alternative_at.wires (alt_of_first first) own.pattern own.sizes at f o in
-      let shown : (j : History) → Shows d.program t (closed (with_origins d.wholes a.body) (joined ths γ) no_types) j v.bits = λ j. shown_same d.program (alone d) s.laws.values s.laws.keep (v.carries j) like in
-      let size : length v.bits ≡ w = shown_length (shown []) c.wide in
+      let v = value_result facts d o inner in
+      let like = alternative_like facts s path b g scope γ i x n w whole t alts it on p results c own.m own.fields own.widths a.pattern a.body (joined ths γ) alternative_at.wires (alt_of_first first) own.pattern own.sizes at f o in
+      let shown : (j : History) → Shows d.program t (closed (with_origins d.wholes a.body) (joined ths γ) no_types) j v.bits = λ j. facts.shows.shown_same d.program (alone d) s.laws.values s.laws.keep (v.carries j) like in
+      let size : length v.bits ≡ w = facts.shows.shown_length (shown []) c.wide in
       let same : v.bits ≡ given.0 = bears_once d.net path s.h s.once w alternative_at.wires v.bits given.0 (wide_result k alternative_at.wires alternative_at.result) size v.bears given_bears in
       λ j. subst (λ bits. Shows d.program t (closed (with_origins d.wholes a.body) (joined ths γ) no_types) j bits) same (shown j) in
       s.laws.cases d.program scope γ no_types d.net path s.h n w t x (with_origins_alts d.wholes alts) on p results

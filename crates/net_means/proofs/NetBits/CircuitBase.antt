@@ -5,12 +5,13 @@ use Rattle.std.proofs.Common.{Bool, List, Some, [], ap, append_assoc, arith, fal
 use Rattle.std.proofs.lemmas.List.{length-map}
 use Rattle.std.specs.Prelude.{slice_get}
 use Rattle.chw_prims.specs.declared.prim.Primitive.{Primitive as Prim}
-use Rattle.netlist.proofs.Before.{before_fits, before_shorter, taken_fits, taken_shorter}
 use Rattle.chw_clock.specs.Histories.{FitsPorts, before, taken, ticks, up_to_tick, is_reset, unless_reset}
 use Rattle.normal_forms.specs.Circuits.{IsConstant, constant_literal, constant_constructor, constant_vector, AreConstants, no_constants, constant_and, beginning_with}
 use Rattle.rewriting.specs.Origins.{with_origins, with_origins_all}
 use Rattle.chw_typing.specs.Given.{types_then}
 use Rattle.chw_terms.specs.TermView.{applied, terms_of}
+use Rattle.net_grounds.specs.Facts.{Facts}
+use Rattle.net_means.proofs.Lists.{found_before_map, same_some}
 use Rattle.net_means.specs.CircuitBits.Instances.{Block, HaveBits, Inside}
 use Rattle.chw_terms.specs.declared.scene.Sort.TheVariants.{Circuit}
 use Rattle.net_built.specs.Circuits.{CircuitCells}
@@ -35,11 +36,9 @@ use Rattle.chw_types.specs.TypeTree.{TypeTree, fun}
 use Rattle.net_built.specs.Terms.{Variable, head_of, operands_of, types_of}
 use Rattle.net_means.proofs.NetBits.Sorts.{block_stays}
 use Rattle.chw_meaning.specs.Eval.{dom}
-use Rattle.chw_typing.proofs.Lists.{found_before_map}
 use Rattle.net_built.specs.Built.{ground_of}
 use Rattle.net_means.proofs.SideBits.Heads.{names}
 use Rattle.normal_forms.specs.Values.{on_names}
-use Rattle.chw_meaning.proofs.Once.{same_some}
 use Rattle.net_means.specs.SideBits.Sides.{types_in}
 use Rattle.net_means.proofs.NetFits.Scopes.{var_at}
 
@@ -76,11 +75,11 @@ pub record Earlier (s : Situation) (g : History) : Type 0 where
   pub past : IsPast s.last g
   pub fits : FitsPorts s.d.net.ports g
 
-pub taken_earlier : (s : Situation) (d : DomId) (g : History) → taken s.h d ≡ Some g → Earlier s g
-taken_earlier s d g e = record {
-  shorter = taken_shorter s.d.net.ports s.h g d s.fits e;
+pub taken_earlier : Facts → (s : Situation) (d : DomId) (g : History) → taken s.h d ≡ Some g → Earlier s g
+taken_earlier facts s d g e = record {
+  shorter = facts.flat.taken_shorter s.d.net.ports s.h g d s.fits e;
   past = past_further s.past (before_past s.h g d (taken_before s.h g d e));
-  fits = taken_fits s.d.net.ports s.h g d s.fits e;
+  fits = facts.flat.taken_fits s.d.net.ports s.h g d s.fits e;
 }
 
 -- what holds of a history at an earlier tick
@@ -89,12 +88,12 @@ record Ago (s : Situation) (h g : History) : Type 0 where
   fits : FitsPorts s.d.net.ports g
   later : (later : History) × (h ≡ later ++ g)
 
-ago : (s : Situation) (d : ℕ) {h g : History} → IsEarlier d h g → FitsPorts s.d.net.ports h → Ago s h g
-ago s d {h} {g} (last_before e) fits = record { shorter = before_shorter s.d.net.ports h g (dom d) fits e; fits = before_fits s.d.net.ports h g (dom d) fits e; later = before_past h g (dom d) e }
-ago s d {h} {g = k} (further_before {g = g} e rest) fits =
+ago : Facts → (s : Situation) (d : ℕ) {h g : History} → IsEarlier d h g → FitsPorts s.d.net.ports h → Ago s h g
+ago facts s d {h} {g} (last_before e) fits = record { shorter = facts.flat.before_shorter s.d.net.ports h g (dom d) fits e; fits = facts.flat.before_fits s.d.net.ports h g (dom d) fits e; later = before_past h g (dom d) e }
+ago facts s d {h} {g = k} (further_before {g = g} e rest) fits =
     let first = before_past h g (dom d) e in
-    let less = before_shorter s.d.net.ports h g (dom d) fits e in
-    let more = ago s d rest (before_fits s.d.net.ports h g (dom d) fits e) in
+    let less = facts.flat.before_shorter s.d.net.ports h g (dom d) fits e in
+    let more = ago facts s d rest (facts.flat.before_fits s.d.net.ports h g (dom d) fits e) in
     let shorter = more.shorter in
     record {
       shorter = omega (arith, less, shorter);
@@ -102,8 +101,8 @@ ago s d {h} {g = k} (further_before {g = g} e rest) fits =
       later = (first.0 ++ more.later.0, first.1 ∙ ap (λ l. first.0 ++ l) more.later.1 ∙ sym (append_assoc first.0 more.later.0 k));
     }
 
-pub tick_earlier : (s : Situation) (d : ℕ) (g : History) → IsEarlier d s.h g → Earlier s g
-tick_earlier s d g e = let a = ago s d e s.fits in record { shorter = a.shorter; past = past_further s.past a.later; fits = a.fits }
+pub tick_earlier : Facts → (s : Situation) (d : ℕ) (g : History) → IsEarlier d s.h g → Earlier s g
+tick_earlier facts s d g e = let a = ago facts s d e s.fits in record { shorter = a.shorter; past = past_further s.past a.later; fits = a.fits }
 
 -- a port has a leaf
 leaves_some : {datas : List Data} {t : TypeTree} {ls : List Leaf} → Leaves datas t ls → 0 < length ls
@@ -192,14 +191,14 @@ module _ (s : Situation) {path : List ℕ} {b : Block} {g : Group} {scope : List
     cells = c.cells;
   }
 
-module _ (s : Situation) (r : ℕ) (known : Known s r) where
+module _ (facts : Facts) (s : Situation) (r : ℕ) (known : Known s r) where
   -- the first leaf of a variable in scope, at an earlier history
   pub earlier_leaf : {path : List ℕ} {b : Block} {g : Group} {scope : List Variable} {γ : Thunks} → Stands s path b → Inside s.d path b g scope γ → b.sort ≡ Circuit → GroupFormed s.d Circuit g scope → (x : ℕ) (t : TypeTree) → slice_get (types_in scope) x ≡ Some t → (h : History) → Earlier s h
       → VariableLeaf s.d.program s.d.net path scope γ h x zero
   earlier_leaf {path} {b} {g} {scope} {γ} stands inside circuit group x t typed h before_this =
       let there = found_before_map (λ (v : Variable). v.ty) scope x t typed in
       let held = group.held x there.0 there.1 in
-      let all = known.earlier path h b g scope γ before_this.shorter before_this.past before_this.fits (block_stays s.laws.measure s.d s.inputs stands circuit h) inside in
+      let all = known.earlier path h b g scope γ before_this.shorter before_this.past before_this.fits (block_stays facts s.laws.measure s.d s.inputs stands circuit h) inside in
       subst (λ sort. HaveBits s.d sort path h scope γ) circuit all x zero there.0 held.0 there.1 held.1 (parts_some held.1)
 
 -- the variable to which something is applied last

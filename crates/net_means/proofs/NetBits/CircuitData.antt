@@ -2,12 +2,13 @@
 use Rattle.std.proofs.Common.{List, Some, [], ap, arith, length, length-append, refl, subst, suc, sym, zero, ℕ, ◌+◌, ◌-◌, ◌<◌, ◌∙◌, ◌∷◌, ◌≡◌}
 use Rattle.std.specs.Prelude.{slice_get}
 use Rattle.chw_typing.specs.HeadTypes.{PatternOf, of_con, fields_at}
+use Rattle.net_grounds.specs.Facts.{Facts}
+use Rattle.net_means.proofs.Lists.{found_in_map, same_some}
 use Rattle.net_means.proofs.CircuitBits.FieldWires.{in_turn, parts_in_turn}
 use Rattle.net_means.proofs.CircuitBits.Products.{port_asks, product_typed}
 use Rattle.net_means.proofs.CircuitBits.Projections.{name_at}
 use Rattle.net_means.proofs.NetFits.Ports.{con_leaves, parts_at}
 use Rattle.net_built.specs.Circuits.{Ground, CircuitCells, HaveParts, of_projection}
-use Rattle.chw_typing.proofs.Patterns.{binds}
 use Rattle.net_means.specs.WireOrder.Awaits.{AllSettle}
 use Rattle.chw_typing.specs.Given.{AreGiven}
 use Rattle.chw_typing.specs.Typing.{Binds, HasType, HasTypeUpTo, h_case}
@@ -35,16 +36,10 @@ use Rattle.chw_base.specs.declared.index.WireId.{WireId}
 use Rattle.net_means.proofs.NetFits.Calls.{any_kept}
 use Rattle.net_means.proofs.NetFits.Scopes.{bound_fields, var_at}
 use Rattle.net_means.proofs.NetBits.Operands.{call_parts, typed_name}
-use Rattle.chw_typing.proofs.Saturated.{con_at_arguments}
-use Rattle.chw_typing.proofs.Lists.{found_in_map}
 use Rattle.net_means.proofs.WireOrder.Looks.{looked}
 use Rattle.net_means.proofs.SideBits.Heads.{names}
 use Rattle.normal_forms.specs.Values.{on_names}
 use Rattle.net_means.proofs.NetBits.Forms.{origins, setting}
-use Rattle.net_built.proofs.Parts.{parts_once}
-use Rattle.chw_typing.proofs.SameScopes.{same_at}
-use Rattle.chw_types.proofs.SameLaws.{same_self, same_through, same_turned}
-use Rattle.chw_meaning.proofs.Once.{same_some}
 use Rattle.chw_types.specs.TypeView.{trees_of}
 use Rattle.net_means.specs.SideBits.Sides.{types_in}
 use Rattle.rewriting.specs.Origins.{with_origins}
@@ -65,8 +60,8 @@ operand_given s vars (t ∷ ts) (x ∷ xs) zero f given e = let is : t ≡ f = c
 operand_given s vars (t ∷ ts) (x ∷ xs) (suc i) f given e = operand_given s vars ts xs i f given.1 e
 
 -- the parts of a variable are those of its fields in turn
-whole_turn : {datas : List Data} {u : TypeTree} {c : ConId} {n : ℕ} {fields : List TypeTree} (ws : List ℕ) (parts : List (List ℕ)) → PatternOf datas u (OfCon c n) fields → HasParts datas Circuit u ws → HaveParts datas fields parts → ws ≡ in_turn parts
-whole_turn {datas} ws parts (of_con {d = d} {c = c} {ts = ts} it known of count) (port_parts leaves have) fields = parts_in_turn (con_leaves datas c.number d it known of leaves) ws parts have fields
+whole_turn : Facts → {datas : List Data} {u : TypeTree} {c : ConId} {n : ℕ} {fields : List TypeTree} (ws : List ℕ) (parts : List (List ℕ)) → PatternOf datas u (OfCon c n) fields → HasParts datas Circuit u ws → HaveParts datas fields parts → ws ≡ in_turn parts
+whole_turn facts {datas} ws parts (of_con {d = d} {c = c} {ts = ts} it known of count) (port_parts leaves have) fields = parts_in_turn facts (con_leaves facts datas c.number d it known of leaves) ws parts have fields
 
 turn_within : (parts : List (List ℕ)) (i j : ℕ) (own : List ℕ) → slice_get parts i ≡ Some own → j < length own → leaves_before i parts + j < length (in_turn parts)
 turn_within [] i j own e l = absurd cc
@@ -101,7 +96,7 @@ record Projected (datas : List Data) (scope : List Variable) (x count : ℕ) (c 
 projected_of : {ground : Ground} {scope : List Variable} {n x count z : ℕ} {widths : List ℕ} {c : ConId} {p : Piece} → CircuitCells ground scope n widths (case_of (var x) (alt (OfCon c count) (var z) no_alts)) [] [] p → Projected ground.datas scope x count c
 projected_of (of_projection {it = it} {fields = fields} parts place pattern have) = record { it = it; fields = fields; parts = parts; place = place; pattern = pattern; have = have }
 
-module _ (s : Situation) (r : ℕ) (known : Known s r) where
+module _ (facts : Facts) (s : Situation) (r : ℕ) (known : Known s r) where
   pub product_leaf : (path : List ℕ) (b : Block) (g : Group) (scope : List Variable) (γ : Thunks) (i n c0 : ℕ) (types : List TypeTree) (xs : List ℕ) (con_of : Constructor) (t : TypeTree) (p : Piece) (widths : List ℕ) (k : ℕ) (start : WireId) → con_at s.d.program.datas c0 ≡ Some con_of → CircuitIn s path b g scope γ i n t (on_names (con c0) types xs) p widths → k < length widths
       → slice_get (part_wires k widths (last_wires n p widths)) 0 ≡ Some start → Ranks s.order path (part_wires k widths (last_wires n p widths)) (suc r) → LeafHas s.d.program s.d.net path s.h t (closed (with_origins s.d.wholes (on_names (con c0) types xs)) γ no_types) (last_wires n p widths) k
   unfolding with_origins
@@ -109,15 +104,15 @@ module _ (s : Situation) (r : ℕ) (known : Known s r) where
       let d = s.d in
       let e : TermTree = on_names (con c0) types xs in
       let side = circuit_side_of s c in
-      let asks = port_asks c.parts side.typed.type side.typed.same in
-      let typed = product_typed (setting d) (types_in scope) c0 con_of types xs t side.typed.type d.sound s.laws.keep c.group.scoped con_known side.typed.has side.typed.same asks in
-      let at_types = con_at_arguments (setting d) [] (types_in scope) c0 con_of types (names xs) side.typed.type d.sound c.group.scoped con_known typed.on_types typed.on_terms side.typed.has in
-      let whole : HasParts d.program.datas Circuit (data_of con_of.of (trees_of types)) widths = any_kept s.laws.keep s.laws.measure (setting d) d.sound t (data_of con_of.of (trees_of types)) widths (record { kind = side.kind; has = side.kinded; same = same_through side.typed.same (same_turned at_types.2) }) c.parts in
+      let asks = port_asks facts c.parts side.typed.type side.typed.same in
+      let typed = product_typed facts (setting d) (types_in scope) c0 con_of types xs t side.typed.type d.sound s.laws.keep c.group.scoped con_known side.typed.has side.typed.same asks in
+      let at_types = facts.terms.con_at_arguments (setting d) [] (types_in scope) c0 con_of types (names xs) side.typed.type d.sound c.group.scoped con_known typed.on_types typed.on_terms side.typed.has in
+      let whole : HasParts d.program.datas Circuit (data_of con_of.of (trees_of types)) widths = any_kept facts s.laws.keep s.laws.measure (setting d) d.sound t (data_of con_of.of (trees_of types)) widths (record { kind = side.kind; has = side.kinded; same = facts.same.same_through side.typed.same (facts.same.same_turned at_types.2) }) c.parts in
       let f = s.laws.parts d.program.datas c0 con_of (trees_of types) widths k con_known whole l in
       let field = field_at d.program.datas (fields_at con_of (trees_of types)) f.parts f.field f.own f.have f.one in
       let operand = operand_given (setting d) (types_in scope) (fields_at con_of (trees_of types)) xs f.field field.0 at_types.1 field.1 in
-      let name = typed_name d c.group operand.0 field.0 operand.2 in
-      let own = call_parts s.laws d c.group operand.0 field.0 f.own name field.2 in
+      let name = typed_name facts d c.group operand.0 field.0 operand.2 in
+      let own = call_parts facts s.laws d c.group operand.0 field.0 f.own name field.2 in
       let given = given_of s c in
       let settle = s.laws.products_order (origins d) d.built.order scope d.net path n widths f.own t p c0 types xs f.parts f.field f.leaf operand.0 con_of name.it given con_known f.have operand.1 name.known own.0 f.within in
       let all : AllSettle d.net path (part_wires k widths (last_wires n p widths)) path (part_wires f.leaf f.own name.it.wires) = subst (λ k. AllSettle d.net path (part_wires k widths (last_wires n p widths)) path (part_wires f.leaf f.own name.it.wires)) (sym f.is) settle in
@@ -146,16 +141,16 @@ module _ (s : Situation) (r : ℕ) (known : Known s r) where
           let j : ℕ = count - 1 - z in
           let number : z + suc j ≡ count = omega (arith, below) in
           let own_type : one.of ≡ it.ty = same_some one.is (found_in_map (λ (v : Variable). v.ty) scope x it place) in
-          let fields_same = bound_fields (setting d) one.of it.ty (OfCon c0 count) fields one.bnd one.kind d.sound one.has (subst (SameTypes one.of) own_type (same_self one.of)) one.binding pattern in
-          let names_count : length one.bnd ≡ count = binds one.binding in
+          let fields_same = bound_fields facts (setting d) one.of it.ty (OfCon c0 count) fields one.bnd one.kind d.sound one.has (subst (SameTypes one.of) own_type (facts.same.same_self one.of)) one.binding pattern in
+          let names_count : length one.bnd ≡ count = facts.patterns.binds one.binding in
           let named = name_at one.bnd (types_in scope) z j side.typed.type (omega (arith, number, names_count)) (var_at one.typed) in
-          let field = same_at one.bnd fields j side.typed.type fields_same named in
+          let field = facts.scopes.same_at one.bnd fields j side.typed.type fields_same named in
           let part = parts_at d.program.datas fields parts j field.0 have field.1 in
-          let kept = any_kept s.laws.keep s.laws.measure (setting d) d.sound t field.0 widths (record { kind = side.kind; has = side.kinded; same = same_through side.typed.same field.2 }) c.parts in
-          let width : part.0 ≡ widths = parts_once part.2 kept in
+          let kept = any_kept facts s.laws.keep s.laws.measure (setting d) d.sound t field.0 widths (record { kind = side.kind; has = side.kinded; same = facts.same.same_through side.typed.same field.2 }) c.parts in
+          let width : part.0 ≡ widths = facts.built.parts_once part.2 kept in
           let own_there : slice_get parts j ≡ Some widths = part.1 ∙ ap (λ ws. Some ws) width in
           let held = c.group.held x it place in
-          let turn = whole_turn held.0 parts pattern held.1 have in
+          let turn = whole_turn facts held.0 parts pattern held.1 have in
           let within : leaves_before j parts + k < length held.0 = subst (λ (ws : List ℕ). leaves_before j parts + k < length ws) (sym turn) (turn_within parts j k widths own_there l) in
           let given = given_of s c in
           let settle = s.laws.projections_order (origins d) d.built.order scope d.net path n widths held.0 widths t p c0 count x z j k fields parts it number given place held.1 pattern have own_there l in

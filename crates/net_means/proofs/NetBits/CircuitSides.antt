@@ -4,6 +4,7 @@ use Rattle.std.specs.Prelude.{slice_get}
 use Rattle.chw_prims.specs.declared.prim.Primitive.{Primitive as Prim}
 use Rattle.normal_forms.specs.Circuits.{IsConstant, beginning_with, content_type}
 use Rattle.net_built.specs.Circuits.{Ground, CircuitCells, of_register, of_block_ram, of_pure}
+use Rattle.net_grounds.specs.Facts.{Facts}
 use Rattle.net_means.specs.CircuitBits.Instances.{Block}
 use Rattle.chw_prims.specs.declared.prim.Primitive.TheVariants.{BlockRam, Pure, Register, UnsafeSynchronizer}
 use Rattle.chw_terms.specs.declared.scene.Sort.TheVariants.{Circuit}
@@ -28,7 +29,6 @@ use Rattle.chw_meaning.specs.Eval.{dom}
 use Rattle.normal_forms.specs.Values.{on_names}
 use Rattle.net_means.proofs.NetBits.Forms.{origins, setting}
 use Rattle.rewriting.specs.Shapes.{pure_of}
-use Rattle.chw_types.proofs.SameLaws.{same_through, same_turned}
 use Rattle.net_means.proofs.NetFits.Ports.{signal_part}
 use Rattle.chw_types.specs.TypeMoves.{sub}
 use Rattle.net_means.specs.SideBits.Sides.{types_in}
@@ -54,7 +54,7 @@ pure_single (of_pure {w = w} has) = (w, refl)
 only_leaf : {widths : List ℕ} {w : ℕ} (k : ℕ) → widths ≡ w ∷ [] → k < length widths → k ≡ 0
 only_leaf k single l = let long = ap (λ (ws : List ℕ). length ws) single in omega (arith, l, long)
 
-module _ (s : Situation) (r : ℕ) (known : Known s r) (path : List ℕ) (b : Block) (g : Group) (scope : List Variable) (γ : Thunks) (i n : ℕ) (t : TypeTree) (p : Piece) (widths : List ℕ) (k : ℕ) (l : k < length widths) where
+module _ (facts : Facts) (s : Situation) (r : ℕ) (known : Known s r) (path : List ℕ) (b : Block) (g : Group) (scope : List Variable) (γ : Thunks) (i n : ℕ) (t : TypeTree) (p : Piece) (widths : List ℕ) (k : ℕ) (l : k < length widths) where
   -- what a right side has at this leaf
   abbrev pub HasLeaf : TermTree → Type 0
   HasLeaf e = LeafHas s.d.program s.d.net path s.h t (closed (with_origins s.d.wholes e) γ no_types) (last_wires n p widths) k
@@ -69,8 +69,8 @@ module _ (s : Situation) (r : ℕ) (known : Known s r) (path : List ℕ) (b : Bl
   unfolding with_origins
   name_leaf x start c first ranks =
       let side = circuit_side_of s c in
-      let name = typed_name s.d c.group x t side.typed in
-      let own = call_parts s.laws s.d c.group x t widths name c.parts in
+      let name = typed_name facts s.d c.group x t side.typed in
+      let own = call_parts facts s.laws s.d c.group x t widths name c.parts in
       let given = given_of s c in
       let settle = s.laws.copies_order (origins s.d) s.d.built.order scope s.d.net path n widths widths t p x k name.it given name.known own.0 in
       let leaf = known.leaves path b g scope γ x k name.it widths c.stands c.inside c.circuit name.known own.0 l (settled_ranks s.order path path (part_wires k widths (last_wires n p widths)) (part_wires k widths name.it.wires) start r settle first ranks) in
@@ -87,7 +87,7 @@ module _ (s : Situation) (r : ℕ) (known : Known s r) (path : List ℕ) (b : Bl
           let given : CircuitGiven (origins s.d) s.d.built.order scope s.d.net path n widths t (beginning_with Register (domain at.number ∷ a ∷ []) v (x ∷ [])) p =
           subst (λ d. CircuitGiven (origins s.d) s.d.built.order scope s.d.net path n widths t (beginning_with Register (d ∷ a ∷ []) v (x ∷ [])) p) domain_is (given_of s c) in
           let has = s.laws.registers at.number a v x (origins s.d) s.d.built.order scope γ no_types s.d.net path s.h n widths t p given
-          (constant, λ h e. earlier_leaf s r known c.stands c.inside c.circuit c.group x operand.0 operand.1 h (taken_earlier s (dom at.number) h e)) in
+          (constant, λ h e. earlier_leaf facts s r known c.stands c.inside c.circuit c.group x operand.0 operand.1 h (taken_earlier facts s (dom at.number) h e)) in
           let back = subst (λ d. LeafHas s.d.program s.d.net path s.h t (closed (beginning_with Register (d ∷ a ∷ []) v (x ∷ [])) γ no_types) (last_wires n p widths) zero) (sym domain_is) has in
           unchanged e (beginning_whole s.d.wholes Register (d ∷ a ∷ []) v (x ∷ []) constant) (at_zero e (only_leaf k at.single l) back)
         where
@@ -113,8 +113,8 @@ module _ (s : Situation) (r : ℕ) (known : Known s r) (path : List ℕ) (b : Bl
             wide = wide;
             constructors = s.d.constructors;
             widths = c.wide;
-            read = λ h e. earlier_leaf s r known c.stands c.inside c.circuit c.group x read.0 read.1 h (tick_earlier s at.number h e);
-            write = λ h e. earlier_leaf s r known c.stands c.inside c.circuit c.group y write.0 write.1 h (tick_earlier s at.number h e);
+            read = λ h e. earlier_leaf facts s r known c.stands c.inside c.circuit c.group x read.0 read.1 h (tick_earlier facts s at.number h e);
+            write = λ h e. earlier_leaf facts s r known c.stands c.inside c.circuit c.group y write.0 write.1 h (tick_earlier facts s at.number h e);
           }) in
           let back = subst (λ d. LeafHas s.d.program s.d.net path s.h t (closed (beginning_with BlockRam (d ∷ m ∷ z ∷ a ∷ []) v (x ∷ y ∷ [])) γ no_types) (last_wires n p widths) zero) (sym domain_is) has in
           unchanged e (beginning_whole s.d.wholes BlockRam (d ∷ m ∷ z ∷ a ∷ []) v (x ∷ y ∷ []) constant) (at_zero e (only_leaf k at.single l) back)
@@ -137,8 +137,8 @@ module _ (s : Situation) (r : ℕ) (known : Known s r) (path : List ℕ) (b : Bl
       let all = s.laws.prims (setting s.d) [] (types_in scope) UnsafeSynchronizer (Dom ∷ Dom ∷ Val ∷ []) (signal (ty_var 2) (ty_var 0) ∷ []) (signal (ty_var 1) (ty_var 0)) (d ∷ u ∷ a ∷ []) (var x ∷ []) side.typed.type s.d.sound c.group.scoped refl refl refl side.typed.has in
       let gives : SameTypes (signal u a) side.typed.type = all.gives in
       let operand : HasTypeUpTo (setting s.d) [] (types_in scope) (var x) (signal d a) = all.args_given.0 in
-      let name = typed_name s.d c.group x (signal d a) operand in
-      let whole : HasParts s.d.program.datas Circuit (signal u a) widths = any_kept s.laws.keep s.laws.measure (setting s.d) s.d.sound t (signal u a) widths (record { kind = side.kind; has = side.kinded; same = same_through side.typed.same (same_turned gives) }) c.parts in
+      let name = typed_name facts s.d c.group x (signal d a) operand in
+      let whole : HasParts s.d.program.datas Circuit (signal u a) widths = any_kept facts s.laws.keep s.laws.measure (setting s.d) s.d.sound t (signal u a) widths (record { kind = side.kind; has = side.kinded; same = facts.same.same_through side.typed.same (facts.same.same_turned gives) }) c.parts in
       let single = signal_part whole in
       let leaf_is : k ≡ 0 = only_leaf k single.2 l in
       let held = c.group.held x name.it name.known in

@@ -1,6 +1,8 @@
 -- The laws on which the induction stands, and where it is.
 use Rattle.std.proofs.Common.{List, Some, [], ap, arith, length, refl, suc, zero, ℕ, ◌<◌, ◌∙◌, ◌∷◌, ◌≡◌}
 use Rattle.std.specs.Prelude.{slice_get}
+use Rattle.net_grounds.specs.Facts.{Facts}
+use Rattle.net_means.proofs.Lists.{found_in_map}
 use Rattle.net_means.specs.SideBits.Cases.{CasesBear, FieldsHaveBits, TakenIsFirst}
 use Rattle.net_means.specs.SideBits.Laws.{SidesBear}
 use Rattle.cell_bits.specs.ChoiceLaws.{CasesBear as CellCasesBear}
@@ -34,12 +36,9 @@ use Rattle.net_built.specs.Terms.{Variable}
 use Rattle.net_rules.specs.WellFormed.{WellFormed}
 use Rattle.net_means.proofs.NetBits.SomeBits.{WiresHave, WiresOnce}
 use Rattle.net_means.proofs.NetBits.Standing.{formed}
-use Rattle.chw_typing.proofs.Lists.{found_in_map}
 use Rattle.net_built.specs.Wires.{new_wires, wire, wire_count, wires_from}
 use Rattle.net_means.proofs.SideBits.Operands.{sound_alone}
-use Rattle.chw_typing.proofs.Kinded.{typed_at}
 use Rattle.net_means.specs.SideBits.Sides.{types_in}
-use Rattle.net_built.proofs.Parts.{width_once}
 
 pub record Laws : Type 0 where
   pub keep : FieldsKeepSame
@@ -110,15 +109,15 @@ abbrev pub Stands : Situation → List ℕ → Block → Type 0
 Stands s path b = BlockAt s.d s.inputs path s.h b
 
 -- a variable inside a block has a type that has a kind
-pub variable_typed : (d : Design) {sort : Sort} {g : Group} {scope : List Variable} → GroupFormed d sort g scope → (x : ℕ) (it : Variable) → slice_get scope x ≡ Some it → IsTermType (setting d) [] it.ty
-variable_typed d {scope = scope} formed x it known = typed_at (setting d) [] (types_in scope) x it.ty formed.scoped (found_in_map (λ (v : Variable). v.ty) scope x it known)
+pub variable_typed : Facts → (d : Design) {sort : Sort} {g : Group} {scope : List Variable} → GroupFormed d sort g scope → (x : ℕ) (it : Variable) → slice_get scope x ≡ Some it → IsTermType (setting d) [] it.ty
+variable_typed facts d {scope = scope} formed x it known = facts.scopes.typed_at (setting d) [] (types_in scope) x it.ty formed.scoped (found_in_map (λ (v : Variable). v.ty) scope x it known)
 
 -- and a value has as many wires as its width asks for
-pub value_wires : (d : Design) {g : Group} {scope : List Variable} → GroupFormed d Value g scope → (x : ℕ) (it : Variable) (w : ℕ) → slice_get scope x ≡ Some it → HasWidth d.program.datas it.ty w → length it.wires ≡ wire_count (w ∷ [])
-value_wires d formed x it w known wide =
+pub value_wires : Facts → (d : Design) {g : Group} {scope : List Variable} → GroupFormed d Value g scope → (x : ℕ) (it : Variable) (w : ℕ) → slice_get scope x ≡ Some it → HasWidth d.program.datas it.ty w → length it.wires ≡ wire_count (w ∷ [])
+value_wires facts d formed x it w known wide =
     let held = formed.held x it known in
     let part = value_parts held.1 in
-    held.2 ∙ ap (λ ws. wire_count ws) part.2 ∙ ap (λ w. wire_count (w ∷ [])) (width_once part.1 wide)
+    held.2 ∙ ap (λ ws. wire_count ws) part.2 ∙ ap (λ w. wire_count (w ∷ [])) (facts.widths.width_once part.1 wide)
 
 -- of some wires for parts there is a first
 pub first_wire : (n : ℕ) (widths : List ℕ) → 0 < wire_count widths → slice_get (new_wires n widths) 0 ≡ Some (wire n)

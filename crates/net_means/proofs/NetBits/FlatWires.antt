@@ -4,10 +4,6 @@ use Rattle.use_laws.specs.ValueIn.IsModuleAt.{top, used}
 use Rattle.use_laws.specs.ValueIn.BeginsAt.{top as begins_top, used as begins_used}
 use Rattle.netlist.specs.declared.net.Cell.TheVariants.{Use}
 use Rattle.net_flat.specs.Flattened.{IsFlatOf, IsInstance, IsTop, wires_before, widths_in}
-use Rattle.net_flat.proofs.Fitting.{Shows}
-use Rattle.net_flat.proofs.Lists.{get_left, get_right}
-use Rattle.net_flat.proofs.Widths.{widths_step}
-use Rattle.net_flat.proofs.Within.{long_before, stands_at, use_split, wires_of_uses}
 use Rattle.std.proofs.Common.{◌≡◌, ℕ, ◌+◌, List, [], ◌∷◌, ◌++◌, length, take, Some, slice_get, sym, ap, subst, ◌∙◌, arith}
 use Rattle.chw_base.specs.declared.index.ModId.{ModId}
 use Rattle.chw_base.specs.declared.index.WireId.{WireId}
@@ -16,6 +12,9 @@ use Rattle.netlist.specs.declared.net.Flat.{Flat}
 use Rattle.netlist.specs.declared.net.Module.{Module}
 use Rattle.netlist.specs.declared.net.Net.{Net}
 use Rattle.use_laws.specs.ValueIn.{BeginsAt, HasUseAt, IsModuleAt}
+use Rattle.net_grounds.specs.Facts.{Facts}
+use Rattle.net_grounds.specs.FlatNets.{wires_of_uses}
+use Rattle.net_means.proofs.Lists.{get_left, get_right}
 
 -- the module of an instance that is used: the use, and the module that it names
 pub record UsedBy (net : Net) (path : List ℕ) (place : ℕ) (inner : Module) : Type 0 where
@@ -70,38 +69,42 @@ pub record InstanceOf (net : Net) (base : ℕ) (m : Module) : Type 0 where
   pub stands : IsInstance net base i
   pub found : slice_get net.modules i ≡ Some m
 
-pub instance_of : (net : Net) (path : List ℕ) (base : ℕ) (m : Module) → BeginsAt net path base → IsModuleAt net path m → InstanceOf net base m
-instance_of net _ _ m begins_top v =
+pub instance_of : Facts → (net : Net) (path : List ℕ) (base : ℕ) (m : Module) → BeginsAt net path base → IsModuleAt net path m → InstanceOf net base m
+instance_of facts net _ _ m begins_top v =
     let t = at_top net m v in record { i = t.0; stands = flattened.top t.0 t.1.last; found = t.1.stands }
-instance_of net _ _ m (begins_used path base place n k reads drives begins at stands) v =
-    let outer = instance_of net path base n begins at in
+instance_of facts net _ _ m (begins_used path base place n k reads drives begins at stands) v =
+    let outer = instance_of facts net path base n begins at in
     let u : HasUseAt net path place reads drives = record { k = k; m = n; at = at; stands = stands } in
     record {
       i = k.number;
-      stands = flattened.used base outer.i n (take place n.cells) k reads drives outer.stands outer.found (stands_at n place k reads drives stands);
+      stands = flattened.used base outer.i n (take place n.cells) k reads drives outer.stands outer.found (facts.flat.stands_at n place k reads drives stands);
       found = module_used net path place reads drives m u v;
     }
 
+-- the wires of these widths are among all from this one on
+abbrev Shows : List ℕ → List ℕ → ℕ → Type 0
+Shows widths all base = (w n : ℕ) → slice_get widths w ≡ Some n → slice_get all (base + w) ≡ Some n
+
 -- the wires of an instance and of those that it uses are among the flat wires, from its first on
-all_shown : (net : Net) (last base i : ℕ) → WellFormed net → last + 1 ≡ length net.modules → IsInstance net base i
+all_shown : Facts → (net : Net) (last base i : ℕ) → WellFormed net → last + 1 ≡ length net.modules → IsInstance net base i
     → Shows (widths_in net i) (widths_in net last) base
-all_shown net last _ _ wf end (flattened.top i e) w n found =
+all_shown facts net last _ _ wf end (flattened.top i e) w n found =
     let same : i ≡ last = omega arith in
     let here : w ≡ 0 + w = omega arith in
     subst (λ k. slice_get (widths_in net last) k ≡ Some n) here (subst (λ k. slice_get (widths_in net k) w ≡ Some n) same found)
-all_shown net last _ _ wf end (flattened.used base i m before k reads drives p found u) w n shown =
+all_shown facts net last _ _ wf end (flattened.used base i m before k reads drives p found u) w n shown =
     let first = m.widths ++ wires_of_uses net before in
     let rest = widths_in net k.number ++ wires_of_uses net u.after in
     let inner : slice_get rest w ≡ Some n = get_left (widths_in net k.number) (wires_of_uses net u.after) w n shown in
     let there : slice_get (widths_in net i) (length first + w) ≡ Some n =
-    ap (λ (ws : List ℕ). slice_get ws (length first + w)) (use_split net i m before k reads drives wf found u) ∙ get_right first rest w ∙ inner in
-    let place : base + (length first + w) ≡ base + wires_before net m before + w = omega (arith, long_before net m before) in
-    subst (λ j. slice_get (widths_in net last) j ≡ Some n) place (all_shown net last base i wf end p (length first + w) n there)
+    ap (λ (ws : List ℕ). slice_get ws (length first + w)) (facts.flat.use_split net i m before k reads drives wf found u) ∙ get_right first rest w ∙ inner in
+    let place : base + (length first + w) ≡ base + wires_before net m before + w = omega (arith, facts.flat.long_before net m before) in
+    subst (λ j. slice_get (widths_in net last) j ≡ Some n) place (all_shown facts net last base i wf end p (length first + w) n there)
 
-pub flat_width : (net : Net) (flat : Flat) (base : ℕ) (m : Module) (w n : ℕ) → WellFormed net → IsFlatOf net flat → InstanceOf net base m
+pub flat_width : Facts → (net : Net) (flat : Flat) (base : ℕ) (m : Module) (w n : ℕ) → WellFormed net → IsFlatOf net flat → InstanceOf net base m
     → slice_get m.widths w ≡ Some n → slice_get flat.widths (base + w) ≡ Some n
-flat_width net flat base m w n wf f inst e =
-    let step = widths_step net inst.i m wf inst.found in
+flat_width facts net flat base m w n wf f inst e =
+    let step = facts.flat.widths_step net inst.i m wf inst.found in
     let own : slice_get (widths_in net inst.i) w ≡ Some n =
     ap (λ (ws : List ℕ). slice_get ws w) step ∙ get_left m.widths (wires_of_uses net m.cells) w n e in
-    ap (λ (ws : List ℕ). slice_get ws (base + w)) f.widths ∙ all_shown net f.place base inst.i wf f.top.last inst.stands w n own
+    ap (λ (ws : List ℕ). slice_get ws (base + w)) f.widths ∙ all_shown facts net f.place base inst.i wf f.top.last inst.stands w n own

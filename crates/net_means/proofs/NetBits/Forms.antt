@@ -7,6 +7,8 @@ use Rattle.normal_forms.specs.Values.{IsBlock, block_letrec as letrec_is, AreSid
 use Rattle.chw_typing.specs.Typing.{AreBound, HasType, HasTypeUpTo, bound_and, h_letrec, none_bound}
 use Rattle.normal_forms.specs.Circuits.{AreCircuitSides, IsCircuitBody, IsCircuitSide, circuit_letrec, circuit_side_and, no_circuit_sides}
 use Rattle.chw_typing.specs.Scopes.{AreTermTypes, HasKind, Setting, declared, with_more}
+use Rattle.net_grounds.specs.Facts.{Facts}
+use Rattle.net_means.proofs.Lists.{map_reverse}
 use Rattle.net_means.specs.CircuitBits.Instances.{Block, Design, Inside, inside_letrec, inside_variable}
 use Rattle.chw_terms.specs.declared.scene.Sort.TheVariants.{Circuit, Value}
 use Rattle.chw_types.specs.declared.declarations.Data.{Data}
@@ -30,18 +32,13 @@ use Rattle.chw_types.specs.TypeTree.{TypeTree}
 use Rattle.chw_types.specs.declared.kind.Kind.TheVariants.{Val}
 use Rattle.net_built.specs.Terms.{Variable, variable}
 use Rattle.chw_base.specs.declared.index.WireId.{WireId}
-use Rattle.chw_typing.proofs.SameScopes.{are_same_self}
 use Rattle.net_means.proofs.NetFits.CircuitBodies.{bound_held}
-use Rattle.chw_typing.proofs.Kinded.{bound_typed, typed_more}
-use Rattle.net_built.proofs.ValueSizes.{bound_types}
 use Rattle.net_means.proofs.NetFits.Pieces.{count_from}
 use Rattle.net_built.specs.Built.{ground_of}
 use Rattle.net_means.proofs.NetFits.ValueDrivers.{letrec_sized}
-use Rattle.chw_typing.proofs.Lists.{map_reverse}
 use Rattle.chw_terms.specs.Occurs.{occurs}
 use Rattle.rewriting.specs.Steps.{origins_in}
 use Rattle.net_means.specs.SideBits.Sides.{types_in}
-use Rattle.net_built.proofs.Parts.{width_once}
 
 -- over what the terms of a design are typed
 abbrev pub origins : Design → Origins
@@ -184,11 +181,11 @@ pub value_parts : {datas : List Data} {t : TypeTree} {ws : List ℕ} → HasPart
 value_parts (value_part {w = w} h) = (w, h, refl)
 
 -- so it is counted as net_fits counts
-pub held_sized : (s : Setting) (scope : List Variable) → ScopeHeld s.datas Value scope → (x : ℕ) → SizedAt s scope x
-held_sized s scope held x v w e h =
+pub held_sized : Facts → (s : Setting) (scope : List Variable) → ScopeHeld s.datas Value scope → (x : ℕ) → SizedAt s scope x
+held_sized facts s scope held x v w e h =
     let all = held x v e in
     let part = value_parts all.1 in
-    all.2 ∙ ap (λ ws. wire_count ws) part.2 ∙ ap (λ w. wire_count (w ∷ [])) (width_once part.1 h)
+    all.2 ∙ ap (λ ws. wire_count ws) part.2 ∙ ap (λ w. wire_count (w ∷ [])) (facts.widths.width_once part.1 h)
 
 -- the bindings of values have widths
 bound_wide : {ground : Ground} {scope : List Variable} {n : ℕ} {g : Group} {p : Piece} {b : List Variable} → GroupBuilt ground Value scope n g p b → (x : ℕ) (it : Variable) → slice_get b x ≡ Some it → (w : ℕ) × HasWidth ground.datas it.ty w
@@ -215,13 +212,13 @@ none_refers a leads = first leads
     first (step {a = a} {b = b} s) = never a b s
     first (step_and {a = a} {b = b} s more) = never a b s
 
-module _ (law : SameKeepsMeasure) (d : Design) where
+module _ (facts : Facts) (law : SameKeepsMeasure) (d : Design) where
   sized_inside : (scope : List Variable) {n : ℕ} {g : Group} {p : Piece} {k : Kind} (b : List Variable) → GroupBuilt (ground_of d.program d.built.order) Value (reverse b ++ scope) n g p b → AreBound (setting d) [] (with_more (declared g) (types_in scope)) k g → ScopeHeld d.program.datas Value scope
       → HasNoCycle (λ i j. refers g i j ≡ true) → HaveNoLoops g → ScopeHeld d.program.datas Value (reverse b ++ scope)
   sized_inside scope b more bound held acyclic free x it e = by (place_of b scope x it e)
     where
       sized : SizedAt (setting d) (reverse b ++ scope) x
-      sized = letrec_sized law (setting d) d.built.order d.sound b more bound (record { same = are_same_self (types_in scope) }) (held_sized (setting d) scope held) acyclic free x
+      sized = letrec_sized facts law (setting d) d.built.order d.sound b more bound (record { same = facts.scopes.are_same_self (types_in scope) }) (held_sized facts (setting d) scope held) acyclic free x
 
       by : Place b scope x it → (widths : List ℕ) × HasParts d.program.datas Value it.ty widths × (length it.wires ≡ wire_count widths)
       by (outer_place z place at) = held z it at
@@ -239,8 +236,8 @@ module _ (law : SameKeepsMeasure) (d : Design) where
   letrec_formed : (sort : Sort) (scope : List Variable) {n x : ℕ} {g : Group} {p : Piece} {t : TypeTree} (b : List Variable) → GroupBuilt (ground_of d.program d.built.order) sort (reverse b ++ scope) n g p b → AreTermTypes (setting d) [] (types_in scope) → ScopeHeld d.program.datas sort scope
       → HasType (setting d) [] (types_in scope) (letrec g (var x)) t → FormOf d sort (letrec g (var x)) → GroupFormed d sort g (reverse b ++ scope)
   letrec_formed Value scope {g = g} b more scoped held (h_letrec {k = k} typed kind bound) form =
-      let types : with_more (declared g) (types_in scope) ≡ types_in (reverse b ++ scope) = ap (λ ts. with_more ts (types_in scope)) (sym (bound_types more)) ∙ sym (types_onto b scope) in
-      let inner : AreTermTypes (setting d) [] (with_more (declared g) (types_in scope)) = typed_more (setting d) [] (declared g) (types_in scope) (bound_typed bound) scoped in
+      let types : with_more (declared g) (types_in scope) ≡ types_in (reverse b ++ scope) = ap (λ ts. with_more ts (types_in scope)) (sym (facts.built.bound_types more)) ∙ sym (types_onto b scope) in
+      let inner : AreTermTypes (setting d) [] (with_more (declared g) (types_in scope)) = facts.scopes.typed_more (setting d) [] (declared g) (types_in scope) (facts.scopes.bound_typed bound) scoped in
       record {
         scoped = subst (AreTermTypes (setting d) []) types inner;
         held = sized_inside scope b more bound held form.free.0 form.free.1;
@@ -249,8 +246,8 @@ module _ (law : SameKeepsMeasure) (d : Design) where
         form = group_of form.block form.free.0 form.free.1 form.complete.0;
       }
   letrec_formed Circuit scope {g = g} b more scoped held (h_letrec {k = k} typed kind bound) form =
-      let types : with_more (declared g) (types_in scope) ≡ types_in (reverse b ++ scope) = ap (λ ts. with_more ts (types_in scope)) (sym (bound_types more)) ∙ sym (types_onto b scope) in
-      let inner : AreTermTypes (setting d) [] (with_more (declared g) (types_in scope)) = typed_more (setting d) [] (declared g) (types_in scope) (bound_typed bound) scoped in
+      let types : with_more (declared g) (types_in scope) ≡ types_in (reverse b ++ scope) = ap (λ ts. with_more ts (types_in scope)) (sym (facts.built.bound_types more)) ∙ sym (types_onto b scope) in
+      let inner : AreTermTypes (setting d) [] (with_more (declared g) (types_in scope)) = facts.scopes.typed_more (setting d) [] (declared g) (types_in scope) (facts.scopes.bound_typed bound) scoped in
       record {
         scoped = subst (AreTermTypes (setting d) []) types inner;
         held = ports_held scope b more held;

@@ -1,5 +1,6 @@
 -- The induction over the length of the history and the ranks of wires.
 use Rattle.std.proofs.Common.{List, [], ap, arith, length, refl, subst, suc, sym, zero, ℕ, ◌+◌, ◌<◌, ◌∷◌, ◌≡◌, ◌≤◌}
+use Rattle.net_grounds.specs.Facts.{Facts}
 use Rattle.net_means.specs.CircuitBits.Instances.{Block, BlockAt, Design, HaveBits, Inside, Parameters}
 use Rattle.chw_terms.specs.declared.scene.Sort.TheVariants.{Circuit, Value}
 use Rattle.chw_clock.specs.Histories.{FitsPorts}
@@ -57,7 +58,7 @@ situation w h past fits = record {
 abbrev pub AllAt : Whole → History → Type 0
 AllAt w h = (path : List ℕ) (b : Block) (g : Group) (scope : List Variable) (γ : Thunks) → BlockAt w.d w.inputs path h b → Inside w.d path b g scope γ → HaveBits w.d b.sort path h scope γ
 
-module _ (w : Whole) (h : History) (past : IsPast w.last h) (fits : FitsPorts w.d.net.ports h) (earlier : (k : History) → length k < length h → IsPast w.last k → FitsPorts w.d.net.ports k → AllAt w k) where
+module _ (facts : Facts) (w : Whole) (h : History) (past : IsPast w.last h) (fits : FitsPorts w.d.net.ports h) (earlier : (k : History) → length k < length h → IsPast w.last k → FitsPorts w.d.net.ports k → AllAt w k) where
   abbrev S : Situation
   S = situation w h past fits
 
@@ -66,13 +67,13 @@ module _ (w : Whole) (h : History) (past : IsPast w.last h) (fits : FitsPorts w.
   start = record {
     earlier = λ path k b g scope γ less is of at inside. earlier k less is of path b g scope γ at inside;
     values = λ path b g scope γ x it at inside value place ranks.
-        empty_value w.laws.measure w.laws.prims w.d w.inputs w.top x it at inside value place (no_wires w.order path it.wires ranks);
+        empty_value facts w.laws.measure w.laws.prims w.d w.inputs w.top x it at inside value place (no_wires w.order path it.wires ranks);
     leaves = λ path b g scope γ x k it widths at inside circuit place parts l ranks.
-        empty_leaf w.laws.measure w.laws.prims w.d w.inputs w.top w.laws.empty x k it widths at inside circuit place parts l (no_wires w.order path (part_wires k widths it.wires) ranks);
+        empty_leaf facts w.laws.measure w.laws.prims w.d w.inputs w.top w.laws.empty x k it widths at inside circuit place parts l (no_wires w.order path (part_wires k widths it.wires) ranks);
   }
 
   next : (r : ℕ) → Known S r → Known S (suc r)
-  next r known = record { earlier = known.earlier; values = values_next S r known; leaves = leaves_next S r known }
+  next r known = record { earlier = known.earlier; values = values_next facts S r known; leaves = leaves_next facts S r known }
 
   below : (r : ℕ) → Known S r
   below zero = start
@@ -101,12 +102,12 @@ module _ (w : Whole) (h : History) (past : IsPast w.last h) (fits : FitsPorts w.
           (λ x k it widths place parts l. let r = bound_of path (part_wires k widths it.wires) in (below r.0).leaves path b g scope γ x k it widths at inside circuit place parts l r.1)
 
 -- and at each history
-all_up_to : (w : Whole) (limit : ℕ) (h : History) → length h ≤ limit → IsPast w.last h → FitsPorts w.d.net.ports h → AllAt w h
-all_up_to w zero h le past fits = all_here w h past fits (λ k less is of. absurd (omega (arith, less, le)))
-all_up_to w (suc limit) h le past fits = all_here w h past fits (λ k less is of. all_up_to w limit k (omega (arith, less, le)) is of)
+all_up_to : Facts → (w : Whole) (limit : ℕ) (h : History) → length h ≤ limit → IsPast w.last h → FitsPorts w.d.net.ports h → AllAt w h
+all_up_to facts w zero h le past fits = all_here facts w h past fits (λ k less is of. absurd (omega (arith, less, le)))
+all_up_to facts w (suc limit) h le past fits = all_here facts w h past fits (λ k less is of. all_up_to facts w limit k (omega (arith, less, le)) is of)
 
-pub all_have : (w : Whole) (h : History) → IsPast w.last h → FitsPorts w.d.net.ports h → AllAt w h
-all_have w h past fits = all_up_to w (length h) h (omega arith) past fits
+pub all_have : Facts → (w : Whole) (h : History) → IsPast w.last h → FitsPorts w.d.net.ports h → AllAt w h
+all_have facts w h past fits = all_up_to facts w (length h) h (omega arith) past fits
 
 -- the inputs of the top have thunks
 pub inputs_there : (d : Design) (inputs : List Thunk) (last h : History) → IsPast last h → FitsPorts d.net.ports h → InputsHaveBits d inputs last → TopThere d inputs

@@ -1,6 +1,8 @@
 -- Which variables stand inside a block: those of its bindings, and those from outside.
 use Rattle.std.proofs.Common.{List, Some, [], ap, arith, length, refl, reverse, subst, suc, zero, ℕ, ◌++◌, ◌+◌, ◌∙◌, ◌∷◌, ◌≡◌}
 use Rattle.std.specs.Prelude.{slice_get}
+use Rattle.net_grounds.specs.Facts.{Facts}
+use Rattle.net_means.proofs.Lists.{turned_onto}
 use Rattle.net_means.specs.CircuitBits.Instances.{Block, Design, Inside, inside_letrec, inside_variable}
 use Rattle.netlist.specs.declared.net.Cell.{Cell}
 use Rattle.net_built.specs.Circuits.{Ground}
@@ -16,9 +18,7 @@ use Rattle.chw_meaning.specs.Values.{Thunks, body_at, in_group, member, thunk_at
 use Rattle.net_built.specs.Terms.{Variable, variable}
 use Rattle.chw_typing.specs.Scopes.{declared}
 use Rattle.net_built.specs.Built.{ground_of}
-use Rattle.carrying.proofs.Environments.{group_variables, outside_group}
 use Rattle.chw_types.specs.TypeTree.{no_types}
-use Rattle.chw_typing.proofs.Lists.{turned_onto}
 use Rattle.rewriting.specs.Origins.{with_origins, with_origins_group}
 
 -- of cells and of widths that stand one after the other
@@ -123,9 +123,9 @@ pub data Within (d : Design) (path : List ℕ) (b : Block) (g : Group) (scope : 
       → thunk_at γ x ≡ Some (member (with_origins_group d.wholes g) i b.outside no_types) → Within d path b g scope γ x it
   from_outside : (z : ℕ) → x ≡ size_of g + z → slice_get b.scope z ≡ Some it → thunk_at γ x ≡ thunk_at b.outside z → Within d path b g scope γ x it
 
-pub within : (d : Design) (path : List ℕ) {b : Block} {g : Group} {scope : List Variable} {γ : Thunks} → Inside d path b g scope γ → (x : ℕ) (it : Variable) → slice_get scope x ≡ Some it → Within d path b g scope γ x it
-within d path inside_variable x it e = let same : x ≡ 0 + x = omega arith in from_outside x same e refl
-within d path (inside_letrec {sort = sort} {scope = scope} {bound = bound} {γ = γ} {g = g} {x = y} {results = results} built has wide) x it e = by (place_of bound scope x it e)
+pub within : Facts → (d : Design) (path : List ℕ) {b : Block} {g : Group} {scope : List Variable} {γ : Thunks} → Inside d path b g scope γ → (x : ℕ) (it : Variable) → slice_get scope x ≡ Some it → Within d path b g scope γ x it
+within facts d path inside_variable x it e = let same : x ≡ 0 + x = omega arith in from_outside x same e refl
+within facts d path (inside_letrec {sort = sort} {scope = scope} {bound = bound} {γ = γ} {g = g} {x = y} {results = results} built has wide) x it e = by (place_of bound scope x it e)
   where
     b : Block
     b = record { sort = sort; scope = scope; outside = γ; term = letrec g (var y); results = results }
@@ -142,8 +142,8 @@ within d path (inside_letrec {sort = sort} {scope = scope} {bound = bound} {γ =
     by : Place bound scope x it → Within d path b g (reverse bound ++ scope) (in_group whole γ no_types) x it
     by (own_place i place at) =
         of_binding i (omega (arith, place, count)) (binding_at d path built has wide i it at) refl
-        (group_variables whole γ no_types x i (omega (arith, place, count, size)))
+        (facts.environments.group_variables whole γ no_types x i (omega (arith, place, count, size)))
     by (outer_place z place at) =
         let there : x ≡ size_of whole + z = omega (arith, place, count, size) in
         from_outside z (omega (arith, place, count)) at
-        (ap (thunk_at (in_group whole γ no_types)) there ∙ outside_group whole γ no_types z)
+        (ap (thunk_at (in_group whole γ no_types)) there ∙ facts.environments.outside_group whole γ no_types z)

@@ -5,6 +5,8 @@ use Rattle.std.proofs.Common.{List, Some, [], ap, append_assoc, arith, inl, inr,
 use Rattle.std.proofs.lemmas.Bool.{cases_lt}
 use Rattle.std.specs.Prelude.{slice_get}
 use Rattle.chw_types.specs.Kinds.{kind_signal}
+use Rattle.net_grounds.specs.Facts.{Facts}
+use Rattle.net_means.proofs.Lists.{found_before_map, found_in_map}
 use Rattle.net_means.proofs.NetFits.Calls.{any_kept}
 use Rattle.net_means.proofs.NetFits.Ports.{signal_part}
 use Rattle.chw_typing.specs.Given.{AreGiven}
@@ -31,15 +33,11 @@ use Rattle.net_means.specs.CircuitBits.Uses.{UsedAt}
 use Rattle.chw_types.specs.declared.kind.Kind.TheVariants.{Val}
 use Rattle.net_built.specs.Terms.{Variable, variable, wires_at, wires_of_all}
 use Rattle.chw_base.specs.declared.index.WireId.{WireId}
-use Rattle.type_laws.proofs.SameForms.{as_signal}
 use Rattle.carrying.specs.TermLaws.{each_closed}
 use Rattle.net_means.proofs.NetBits.Standing.{formed}
-use Rattle.chw_typing.proofs.Lists.{found_before_map, found_in_map}
 use Rattle.net_means.proofs.NetBits.Params.{given_at}
 use Rattle.net_means.proofs.SideBits.Heads.{names}
 use Rattle.net_built.specs.Wires.{new_wires, wire_count}
-use Rattle.net_built.proofs.Parts.{parts_once, width_once}
-use Rattle.chw_types.proofs.SameLaws.{same_through, same_turned}
 use Rattle.net_means.specs.SideBits.Sides.{types_in}
 use Rattle.net_means.proofs.NetFits.Scopes.{var_at}
 
@@ -126,31 +124,31 @@ pub record TypedName (d : Design) (scope : List Variable) (x : ℕ) (t : TypeTre
   pub typed : IsTermType (setting d) [] it.ty
   pub same : SameTypes it.ty t
 
-pub typed_name : (d : Design) {sort : Sort} {g : Group} {scope : List Variable} → GroupFormed d sort g scope → (x : ℕ) (t : TypeTree) → HasTypeUpTo (setting d) [] (types_in scope) (var x) t → TypedName d scope x t
-typed_name d {scope = scope} formed x t given =
+pub typed_name : Facts → (d : Design) {sort : Sort} {g : Group} {scope : List Variable} → GroupFormed d sort g scope → (x : ℕ) (t : TypeTree) → HasTypeUpTo (setting d) [] (types_in scope) (var x) t → TypedName d scope x t
+typed_name facts d {scope = scope} formed x t given =
     let there = found_before_map (λ (v : Variable). v.ty) scope x given.type (var_at given.has) in
     record {
       it = there.0;
       known = there.1;
-      typed = variable_typed d formed x there.0 there.1;
-      same = subst (λ u. SameTypes u t) (sym there.2) (same_turned given.same);
+      typed = variable_typed facts d formed x there.0 there.1;
+      same = subst (λ u. SameTypes u t) (sym there.2) (facts.same.same_turned given.same);
     }
 
 pub wires_found : (scope : List Variable) (x : ℕ) (v : Variable) → slice_get scope x ≡ Some v → wires_at scope x ≡ v.wires
 wires_found scope x v e = ap (λ o. unwrap_or (option_map (λ (v : Variable). v.wires) o) []) e
 
 -- the parts of the parameter are those of the operand
-pub call_parts : (laws : Laws) (d : Design) {sort : Sort} {g : Group} {scope : List Variable} → GroupFormed d sort g scope → (x : ℕ) (t : TypeTree) (ws : List ℕ) (n : TypedName d scope x t) → HasParts d.program.datas sort t ws → HasParts d.program.datas sort n.it.ty ws × (length n.it.wires ≡ wire_count ws)
-call_parts laws d {sort} formed x t ws n parts =
+pub call_parts : Facts → (laws : Laws) (d : Design) {sort : Sort} {g : Group} {scope : List Variable} → GroupFormed d sort g scope → (x : ℕ) (t : TypeTree) (ws : List ℕ) (n : TypedName d scope x t) → HasParts d.program.datas sort t ws → HasParts d.program.datas sort n.it.ty ws × (length n.it.wires ≡ wire_count ws)
+call_parts facts laws d {sort} formed x t ws n parts =
     let held = formed.held x n.it n.known in
-    let kept = any_kept laws.keep laws.measure (setting d) d.sound n.it.ty t held.0 (record { kind = n.typed.kind; has = n.typed.has; same = n.same }) held.1 in
-    let same = parts_once kept parts in
+    let kept = any_kept facts laws.keep laws.measure (setting d) d.sound n.it.ty t held.0 (record { kind = n.typed.kind; has = n.typed.has; same = n.same }) held.1 in
+    let same = facts.built.parts_once kept parts in
     (subst (λ ws. HasParts d.program.datas sort n.it.ty ws) same held.1, held.2 ∙ ap (λ ws. wire_count ws) same)
 
-pub call_counts : (laws : Laws) (d : Design) {sort : Sort} {g : Group} {scope : List Variable} → GroupFormed d sort g scope → (xs : List ℕ) (params ps : List TypeTree) → AreSame params ps → AreGiven (setting d) [] (types_in scope) ps (names xs) → Counts d.program.datas sort params scope xs
-call_counts laws d {scope = scope} formed xs params ps are given j x t ws at is parts =
-    let n = typed_name d formed x t (given_at (setting d) (types_in scope) params ps xs j x t are given at is) in
-    ap (λ (ws : List WireId). length ws) (wires_found scope x n.it n.known) ∙ (call_parts laws d formed x t ws n parts).1
+pub call_counts : Facts → (laws : Laws) (d : Design) {sort : Sort} {g : Group} {scope : List Variable} → GroupFormed d sort g scope → (xs : List ℕ) (params ps : List TypeTree) → AreSame params ps → AreGiven (setting d) [] (types_in scope) ps (names xs) → Counts d.program.datas sort params scope xs
+call_counts facts laws d {scope = scope} formed xs params ps are given j x t ws at is parts =
+    let n = typed_name facts d formed x t (given_at facts (setting d) (types_in scope) params ps xs j x t are given at is) in
+    ap (λ (ws : List WireId). length ws) (wires_found scope x n.it n.known) ∙ (call_parts facts laws d formed x t ws n parts).1
 
 -- of a lift the parameter is as wide as the payload of the operand
 pub record LiftedName (d : Design) (scope : List Variable) (x : ℕ) (t : TypeTree) (w : ℕ) : Type 0 where
@@ -159,16 +157,16 @@ pub record LiftedName (d : Design) (scope : List Variable) (x : ℕ) (t : TypeTr
   pub parts : HasParts d.program.datas Circuit it.ty (w ∷ [])
   pub count : length it.wires ≡ wire_count (w ∷ [])
 
-pub lifted_name : (laws : Laws) (d : Design) {g : Group} {scope : List Variable} → GroupFormed d Circuit g scope → (x : ℕ) (t : TypeTree) (w : ℕ) → LiftedAt d scope x t → HasWidth d.program.datas t w → LiftedName d scope x t w
-lifted_name laws d {scope = scope} formed x t w l wide =
-    let n = typed_name d formed x (signal l.dom l.payload) l.typed in
+pub lifted_name : Facts → (laws : Laws) (d : Design) {g : Group} {scope : List Variable} → GroupFormed d Circuit g scope → (x : ℕ) (t : TypeTree) (w : ℕ) → LiftedAt d scope x t → HasWidth d.program.datas t w → LiftedName d scope x t w
+lifted_name facts laws d {scope = scope} formed x t w l wide =
+    let n = typed_name facts d formed x (signal l.dom l.payload) l.typed in
     let held = formed.held x n.it n.known in
-    let form = as_signal (same_turned n.same) in
+    let form = facts.same.as_signal (facts.same.same_turned n.same) in
     let own = signal_part (subst (λ u. HasParts d.program.datas Circuit u held.0) form.2 held.1) in
     let kinded = payload_kinded (subst (λ u. HasKind (setting d) [] u n.typed.kind) form.2 n.typed.has) in
-    let same : SameTypes form.1 t = same_through (same_turned form.4) l.same in
+    let same : SameTypes form.1 t = facts.same.same_through (facts.same.same_turned form.4) l.same in
     let carried = laws.measure (fits own.0) (setting d) form.1 t d.sound (record { kind = Val; has = kinded; same = same }) own.1 in
-    let width : own.0 ≡ w = width_once carried wide in
+    let width : own.0 ≡ w = facts.widths.width_once carried wide in
     let all : held.0 ≡ w ∷ [] = own.2 ∙ ap (λ w. w ∷ []) width in
     record {
       it = n.it;
@@ -180,10 +178,10 @@ lifted_name laws d {scope = scope} formed x t w l wide =
     payload_kinded : {u v : TypeTree} {k : Kind} → HasKind (setting d) [] (signal u v) k → HasKind (setting d) [] v Val
     payload_kinded (kind_signal e f) = f
 
-pub lift_counts : (laws : Laws) (d : Design) {g : Group} {scope : List Variable} → GroupFormed d Circuit g scope → (xs : List ℕ) (params ts : List TypeTree) → AreSame params ts → AreLifted (setting d) (types_in scope) ts (names xs) → Counts d.program.datas Value params scope xs
-lift_counts laws d {scope = scope} formed xs params ts are given j x t ws at is parts =
+pub lift_counts : Facts → (laws : Laws) (d : Design) {g : Group} {scope : List Variable} → GroupFormed d Circuit g scope → (xs : List ℕ) (params ts : List TypeTree) → AreSame params ts → AreLifted (setting d) (types_in scope) ts (names xs) → Counts d.program.datas Value params scope xs
+lift_counts facts laws d {scope = scope} formed xs params ts are given j x t ws at is parts =
     let part = value_parts parts in
-    let n = lifted_name laws d formed x t part.0 (lifted_at d scope params ts xs j x t are given at is) part.1 in
+    let n = lifted_name facts laws d formed x t part.0 (lifted_at facts d scope params ts xs j x t are given at is) part.1 in
     ap (λ (ws : List WireId). length ws) (wires_found scope x n.it n.known) ∙ n.count ∙ ap (λ ws. wire_count ws) (sym part.2)
 
 -- the thunk of one operand

@@ -3,6 +3,8 @@
 use Rattle.std.proofs.Common.{List, Some, [], ap, arith, length, refl, subst, suc, sym, zero, ℕ, ◌++◌, ◌+◌, ◌<◌, ◌∙◌, ◌∷◌, ◌≡◌}
 use Rattle.std.proofs.lemmas.List.{length-map}
 use Rattle.std.specs.Prelude.{slice_get}
+use Rattle.net_grounds.specs.Facts.{Facts}
+use Rattle.net_means.proofs.Lists.{found_in_map, same_some}
 use Rattle.net_means.proofs.CircuitBits.Ports.{leaf_width}
 use Rattle.net_means.specs.WireOrder.Awaits.{AllSettle}
 use Rattle.chw_typing.specs.Alike.{AreLike}
@@ -32,20 +34,13 @@ use Rattle.net_means.proofs.NetFits.Pieces.{count_from}
 use Rattle.net_means.proofs.NetBits.Standing.{declared_there, formed}
 use Rattle.carrying.specs.TermLaws.{each_closed, onto, under_lambdas}
 use Rattle.net_means.proofs.NetBits.There.{found_at, found_within, params_count}
-use Rattle.chw_typing.proofs.Lists.{found_in_map}
 use Rattle.net_means.proofs.NetBits.Lifts.{lift_given, lifted_at}
 use Rattle.net_means.proofs.SideBits.Heads.{names}
 use Rattle.net_built.specs.Wires.{new_wires, wire_count}
 use Rattle.normal_forms.specs.Values.{on_names}
-use Rattle.carrying.proofs.Environments.{parameter_variables}
 use Rattle.net_means.proofs.CircuitBits.Uses.{part_enters}
-use Rattle.net_built.proofs.Parts.{parts_once, width_once}
-use Rattle.chw_meaning.proofs.Once.{same_some}
 use Rattle.chw_typing.specs.Programs.{setting_of}
-use Rattle.carrying.proofs.Widths.{shown_length}
-use Rattle.carrying.proofs.Same.{shown_same}
 use Rattle.net_means.proofs.CircuitBits.Names.{variable_has_all}
-use Rattle.carrying.proofs.Terms.{variable_shows}
 
 none_before : (n : ℕ) → 0 + n ≡ n
 none_before n = omega arith
@@ -57,7 +52,7 @@ record CallIn (s : Situation) (path : List ℕ) (m : ℕ) (it : Made) (params : 
   plain : NoLambda e
   parameters : Parameters s.d.program.datas it.sort zero params [] scope
 
-module _ (s : Situation) (r : ℕ) (known : Known s r) where
+module _ (facts : Facts) (s : Situation) (r : ℕ) (known : Known s r) where
   -- an operand whose wires are those of the parameter has lesser ranks
   operand_ranks : (path : List ℕ) (inner : Module) (front wires back drives own : List WireId) (widths : List ℕ) (k : ℕ) (at : UsedAt s.d.net path (front ++ (wires ++ back)) drives inner) → own ≡ new_wires (0 + length front) widths → length (part_wires k widths wires) ≡ length (part_wires k widths own)
       → Ranks s.order (at.place ∷ path) (part_wires k widths own) (suc r) → Ranks s.order path (part_wires k widths wires) r
@@ -82,20 +77,20 @@ module _ (s : Situation) (r : ℕ) (known : Known s r) where
   called_value path m it params e scope c b g outer γ drives inner i xs block inside body at value z v there ranks =
       let d = s.d in
       let law = s.laws.measure in
-      let f = function_of law d m it params e c.known c.is c.plain in
-      let group = inside_formed law d inside (formed law d block) in
+      let f = function_of facts law d m it params e c.known c.is c.plain in
+      let group = inside_formed facts law d inside (formed facts law d block) in
       let sort = called_sort d b.sort g outer i m xs it group body c.known in
       let outer_value : b.sort ≡ Value = sym sort ∙ value in
       let values = subst (λ sort. GroupFormed d sort g outer) outer_value group in
       let t = declared_there g i (on_names (made m) [] xs) body in
-      let call = call_given d b.sort g outer i m xs it params t.0 f group body t.1 c.known in
+      let call = call_given facts d b.sort g outer i m xs it params t.0 f group body t.1 c.known in
       let parameters = subst (λ sort. Parameters d.program.datas sort zero params [] scope) value c.parameters in
-      let counts = call_counts s.laws d values xs params f.ps f.same call.given in
+      let counts = call_counts facts s.laws d values xs params f.ps f.same call.given in
       let size = params_count parameters in
       let o = operand_of outer parameters xs call.count counts z v there (let l = found_within scope z v there in omega (arith, size, l)) in
-      let name = typed_name d values o.x v.ty (given_at (setting d) (types_in outer) params f.ps xs o.j o.x v.ty f.same call.given o.at o.type) in
+      let name = typed_name facts d values o.x v.ty (given_at facts (setting d) (types_in outer) params f.ps xs o.j o.x v.ty f.same call.given o.at o.type) in
       let part = value_parts o.parts in
-      let of = call_parts s.laws d values o.x v.ty o.widths name o.parts in
+      let of = call_parts facts s.laws d values o.x v.ty o.widths name o.parts in
       let wires_same : wires_at outer o.x ≡ name.it.wires = wires_found outer o.x name.it name.known in
       let apart : wires_of_all outer (names xs) ≡ o.front ++ (name.it.wires ++ o.back) = o.split ∙ ap (λ ws. o.front ++ (ws ++ o.back)) wires_same in
       let used = split_use at (o.front ++ (name.it.wires ++ o.back)) apart in
@@ -109,8 +104,8 @@ module _ (s : Situation) (r : ℕ) (known : Known s r) where
       (ap (λ (ws : List WireId). length ws) name_part ∙ name_count ∙ sym own_count ∙ sym (ap (λ (ws : List WireId). length ws) own_part)) (subst (λ ws. Ranks s.order (at.place ∷ path) ws (suc r)) (sym own_part) ranks) in
       let has = known.values path b g outer γ o.x name.it block inside outer_value name.known (subst (λ ws. Ranks s.order path ws r) name_part lower) in
       let like : AreLike (setting_of d.program) name.it.ty v.ty = record { kind = name.typed.kind; has = name.typed.has; same = name.same } in
-      let carries : (k : History) → Shows d.program v.ty (closed (var o.x) γ no_types) k has.0 = λ k. shown_same d.program (alone d) s.laws.values s.laws.keep (variable_shows has.1.there (has.1.carries k)) like in
-      let long : length has.0 ≡ part.0 = shown_length (carries []) part.1 in
+      let carries : (k : History) → Shows d.program v.ty (closed (var o.x) γ no_types) k has.0 = λ k. facts.shows.shown_same d.program (alone d) s.laws.values s.laws.keep (facts.shows.variable_shows has.1.there (has.1.carries k)) like in
+      let long : length has.0 ≡ part.0 = facts.shows.shown_length (carries []) part.1 in
       let number : 0 + length o.front ≡ length o.front = none_before (length o.front) in
       let enters = part_enters d.net path s.h inner o.front name.it.wires o.back drives (part.0 ∷ []) 0 has.0 used (ap (λ k. Some k) (sym long)) (subst (λ ws. Bears d.net path s.h ws has.0) (sym name_part) has.1.bears) in
       let place = o.place in
@@ -119,7 +114,7 @@ module _ (s : Situation) (r : ℕ) (known : Known s r) where
         has.0,
         record {
           thunk = closed (var o.x) γ no_types;
-          there = parameter_variables (each_closed (names xs) γ no_types) γ z o.j (closed (var o.x) γ no_types) (operand_thunk xs γ o.j o.x o.at) (place ∙ many ∙ sym ths_count);
+          there = facts.environments.parameter_variables (each_closed (names xs) γ no_types) γ z o.j (closed (var o.x) γ no_types) (operand_thunk xs γ o.j o.x o.at) (place ∙ many ∙ sym ths_count);
           carries = carries;
           bears = subst (λ ws. Bears d.net (at.place ∷ path) s.h ws has.0) (ap (λ n. part_wires 0 (part.0 ∷ []) (new_wires n (part.0 ∷ []))) (sym number) ∙ ap (λ ws. part_wires 0 (part.0 ∷ []) ws) (sym own_single) ∙ own_part) enters;
         },
@@ -131,20 +126,20 @@ module _ (s : Situation) (r : ℕ) (known : Known s r) where
   lifted_value path m it params e scope c b g outer γ lifted_term drives inner i xs block inside body lifted at z v there ranks =
       let d = s.d in
       let law = s.laws.measure in
-      let f = function_of law d m it params e c.known c.is c.plain in
-      let group = inside_formed law d inside (formed law d block) in
+      let f = function_of facts law d m it params e c.known c.is c.plain in
+      let group = inside_formed facts law d inside (formed facts law d block) in
       let sorts = lifted_sort d b.sort g outer i m lifted_term (names xs) it group body lifted c.known in
       let circuits = subst (λ sort. GroupFormed d sort g outer) sorts.0 group in
       let t = declared_there g i lifted_term body in
-      let call = lift_given s.laws.prims d g outer i m lifted_term xs it params t.0 f circuits body t.1 lifted c.known in
+      let call = lift_given facts s.laws.prims d g outer i m lifted_term xs it params t.0 f circuits body t.1 lifted c.known in
       let parameters = subst (λ sort. Parameters d.program.datas sort zero params [] scope) sorts.1 c.parameters in
-      let counts = lift_counts s.laws d circuits xs params call.ts call.same call.given in
+      let counts = lift_counts facts s.laws d circuits xs params call.ts call.same call.given in
       let size = params_count parameters in
       let o = operand_of outer parameters xs call.count counts z v there (let l = found_within scope z v there in omega (arith, size, l)) in
       let part = value_parts o.parts in
       let w : ℕ = part.0 in
-      let typed = lifted_at d outer params call.ts xs o.j o.x v.ty call.same call.given o.at o.type in
-      let name = lifted_name s.laws d circuits o.x v.ty w typed part.1 in
+      let typed = lifted_at facts d outer params call.ts xs o.j o.x v.ty call.same call.given o.at o.type in
+      let name = lifted_name facts s.laws d circuits o.x v.ty w typed part.1 in
       let wires_same : wires_at outer o.x ≡ name.it.wires = wires_found outer o.x name.it name.known in
       let apart : wires_of_all outer (names xs) ≡ o.front ++ (name.it.wires ++ o.back) = o.split ∙ ap (λ ws. o.front ++ (ws ++ o.back)) wires_same in
       let used = split_use at (o.front ++ (name.it.wires ++ o.back)) apart in
@@ -156,8 +151,8 @@ module _ (s : Situation) (r : ℕ) (known : Known s r) where
       (ap (λ (ws : List WireId). length ws) name_part ∙ name.count ∙ sym own_count ∙ sym (ap (λ (ws : List WireId). length ws) own_part)) (subst (λ ws. Ranks s.order (at.place ∷ path) ws (suc r)) (sym own_part) ranks) in
       let leaf = known.leaves path b g outer γ o.x 0 name.it (w ∷ []) block inside sorts.0 name.known name.parts (omega arith) lower in
       let sampled = s.laws.samples (origins d) outer γ no_types d.net path s.h o.x typed.dom typed.payload v.ty d.sound circuits.scoped typed.typed typed.same leaf in
-      let width : sampled.width ≡ w = width_once sampled.wide part.1 in
-      let long : length sampled.bits ≡ w = shown_length (sampled.carries []) part.1 in
+      let width : sampled.width ≡ w = facts.widths.width_once sampled.wide part.1 in
+      let long : length sampled.bits ≡ w = facts.shows.shown_length (sampled.carries []) part.1 in
       let number : 0 + length o.front ≡ length o.front = none_before (length o.front) in
       let outside : Bears d.net path s.h (part_wires 0 (w ∷ []) name.it.wires) sampled.bits =
       subst (λ ws. Bears d.net path s.h (part_wires 0 (w ∷ []) ws) sampled.bits) wires_same (subst (λ w. Bears d.net path s.h (part_wires 0 (w ∷ []) (wires_at outer o.x)) sampled.bits) width sampled.bears) in
@@ -169,7 +164,7 @@ module _ (s : Situation) (r : ℕ) (known : Known s r) where
         sampled.bits,
         record {
           thunk = sample (closed (var o.x) γ no_types) s.h;
-          there = parameter_variables (samples ths s.h) γ z o.j (sample (closed (var o.x) γ no_types) s.h) (found_in_map (λ th. sample th s.h) ths o.j (closed (var o.x) γ no_types) (operand_thunk xs γ o.j o.x o.at)) (place ∙ many ∙ sym ths_count);
+          there = facts.environments.parameter_variables (samples ths s.h) γ z o.j (sample (closed (var o.x) γ no_types) s.h) (found_in_map (λ th. sample th s.h) ths o.j (closed (var o.x) γ no_types) (operand_thunk xs γ o.j o.x o.at)) (place ∙ many ∙ sym ths_count);
           carries = sampled.carries;
           bears = subst (λ ws. Bears d.net (at.place ∷ path) s.h ws sampled.bits) (ap (λ n. part_wires 0 (w ∷ []) (new_wires n (w ∷ []))) (sym number) ∙ ap (λ ws. part_wires 0 (w ∷ []) ws) (sym own_single) ∙ own_part) enters;
         },
@@ -182,20 +177,20 @@ module _ (s : Situation) (r : ℕ) (known : Known s r) where
   called_leaf path m it params e scope c b g outer γ drives inner i xs block inside body at circuit z k v widths there parts l ranks =
       let d = s.d in
       let law = s.laws.measure in
-      let f = function_of law d m it params e c.known c.is c.plain in
-      let group = inside_formed law d inside (formed law d block) in
+      let f = function_of facts law d m it params e c.known c.is c.plain in
+      let group = inside_formed facts law d inside (formed facts law d block) in
       let sort = called_sort d b.sort g outer i m xs it group body c.known in
       let outer_circuit : b.sort ≡ Circuit = sym sort ∙ circuit in
       let circuits = subst (λ sort. GroupFormed d sort g outer) outer_circuit group in
       let t = declared_there g i (on_names (made m) [] xs) body in
-      let call = call_given d b.sort g outer i m xs it params t.0 f group body t.1 c.known in
+      let call = call_given facts d b.sort g outer i m xs it params t.0 f group body t.1 c.known in
       let parameters = subst (λ sort. Parameters d.program.datas sort zero params [] scope) circuit c.parameters in
-      let counts = call_counts s.laws d circuits xs params f.ps f.same call.given in
+      let counts = call_counts facts s.laws d circuits xs params f.ps f.same call.given in
       let size = params_count parameters in
       let o = operand_of outer parameters xs call.count counts z v there (let l = found_within scope z v there in omega (arith, size, l)) in
-      let name = typed_name d circuits o.x v.ty (given_at (setting d) (types_in outer) params f.ps xs o.j o.x v.ty f.same call.given o.at o.type) in
-      let own_widths : o.widths ≡ widths = parts_once o.parts parts in
-      let of = call_parts s.laws d circuits o.x v.ty widths name parts in
+      let name = typed_name facts d circuits o.x v.ty (given_at facts (setting d) (types_in outer) params f.ps xs o.j o.x v.ty f.same call.given o.at o.type) in
+      let own_widths : o.widths ≡ widths = facts.built.parts_once o.parts parts in
+      let of = call_parts facts s.laws d circuits o.x v.ty widths name parts in
       let wires_same : wires_at outer o.x ≡ name.it.wires = wires_found outer o.x name.it name.known in
       let apart : wires_of_all outer (names xs) ≡ o.front ++ (name.it.wires ++ o.back) = o.split ∙ ap (λ ws. o.front ++ (ws ++ o.back)) wires_same in
       let used = split_use at (o.front ++ (name.it.wires ++ o.back)) apart in
@@ -210,9 +205,9 @@ module _ (s : Situation) (r : ℕ) (known : Known s r) where
       let th : Thunk = closed (var o.x) γ no_types in
       let like : AreLike (setting_of d.program) name.it.ty v.ty = record { kind = name.typed.kind; has = name.typed.has; same = name.same } in
       let outside : LeafHas d.program d.net path s.h v.ty th name.it.wires k = s.laws.followers d.program d.net path s.h name.it.ty v.ty leaf.thunk th name.it.wires k (alone d) like (variable_has_all leaf.there) has in
-      let same_widths : outside.widths ≡ widths = parts_once outside.parts parts in
-      let at_leaf = leaf_width outside.parts outside.is in
-      let long : length outside.bits ≡ at_leaf.0 = shown_length outside.shows at_leaf.2 in
+      let same_widths : outside.widths ≡ widths = facts.built.parts_once outside.parts parts in
+      let at_leaf = leaf_width facts outside.parts outside.is in
+      let long : length outside.bits ≡ at_leaf.0 = facts.shows.shown_length outside.shows at_leaf.2 in
       let width_there : slice_get widths k ≡ Some (length outside.bits) = ap (λ (ws : List ℕ). slice_get ws k) (sym same_widths) ∙ at_leaf.1 ∙ ap (λ w. Some w) (sym long) in
       let number : 0 + length o.front ≡ length o.front = none_before (length o.front) in
       let enters = part_enters d.net path s.h inner o.front name.it.wires o.back drives widths k outside.bits used width_there (subst (λ ws. Bears d.net path s.h (part_wires k ws name.it.wires) outside.bits) same_widths outside.bears) in
@@ -223,7 +218,7 @@ module _ (s : Situation) (r : ℕ) (known : Known s r) where
         it = v;
         known = there;
         thunk = th;
-        there = parameter_variables (each_closed (names xs) γ no_types) γ z o.j th (operand_thunk xs γ o.j o.x o.at) (place ∙ many ∙ sym ths_count);
+        there = facts.environments.parameter_variables (each_closed (names xs) γ no_types) γ z o.j th (operand_thunk xs γ o.j o.x o.at) (place ∙ many ∙ sym ths_count);
         has = record {
           widths = widths;
           parts = parts;
@@ -253,6 +248,6 @@ module _ (s : Situation) (r : ℕ) (known : Known s r) where
   circuit_parameters _ m _ it params e scope (a_call {path = path} {b = b} {g = g} {scope = outer} {γ = γ} {drives = drives} {inner = inner} i xs block inside body module_there at) known_it is plain parameters circuit z k v widths there parts l ranks =
       called_leaf path m it params e scope (record { known = known_it; is = is; plain = plain; parameters = parameters }) b g outer γ drives inner i xs block inside body at circuit z k v widths there parts l ranks
   circuit_parameters _ m _ it params e scope (a_lift {path = path} {b = b} {g = g} {scope = outer} {e = lifted_term} i xs block inside body lifted module_there at) known_it is plain parameters circuit z k v widths there parts l ranks =
-      let sorts = lifted_sort s.d b.sort g outer i m lifted_term (names xs) it (inside_formed s.laws.measure s.d inside (formed s.laws.measure s.d block)) body lifted known_it in
+      let sorts = lifted_sort s.d b.sort g outer i m lifted_term (names xs) it (inside_formed facts s.laws.measure s.d inside (formed facts s.laws.measure s.d block)) body lifted known_it in
       let wrong : Value ≡ Circuit = sym sorts.1 ∙ circuit in
       absurd cc

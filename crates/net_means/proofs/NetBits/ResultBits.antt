@@ -5,8 +5,9 @@ use Rattle.std.proofs.lemmas.Bool.{cases_lt}
 use Rattle.std.specs.Prelude.{slice_get}
 use Rattle.net_built.specs.Words.{only}
 use Rattle.net_rules.specs.declared.well_formed.NetCode.TheVariants.{Width}
+use Rattle.net_grounds.specs.Facts.{Facts}
+use Rattle.net_means.proofs.Lists.{reverse_cons, same_some}
 use Rattle.net_means.proofs.NetBits.FlatWires.{one_module}
-use Rattle.net_built.proofs.ValueSizes.{test_count}
 use Rattle.chw_typing.specs.Typing.{AllGive, give_and, none_give}
 use Rattle.chw_terms.specs.TermTree.{Alts, TermTree, alt, no_alts}
 use Rattle.net_built.specs.Bodies.{AltsBuilt, alts_and, alts_none}
@@ -42,9 +43,6 @@ use Rattle.net_means.proofs.NetBits.Standing.{formed}
 use Rattle.net_means.proofs.NetBits.There.{found_at, found_within}
 use Rattle.net_means.proofs.NetBits.Insides.{found_first, found_rest, piece_rest, widths_rest}
 use Rattle.net_means.specs.NetFits.Laws.{ground_over}
-use Rattle.chw_typing.proofs.Lists.{reverse_cons}
-use Rattle.chw_meaning.proofs.Once.{same_some}
-use Rattle.chw_types.proofs.SameLaws.{same_through}
 
 -- what stands in a list stands in it from behind
 in_reverse : {A : Type 0} (xs : List A) (i : ℕ) (x : A) → slice_get xs i ≡ Some x → (j : ℕ) × (slice_get (reverse xs) j ≡ Some x)
@@ -77,7 +75,7 @@ pub words_count : (tag first : ℕ) (q : Pattern) (e : TermTree) (more : Alts) �
 words_count tag first q e no_alts = refl
 words_count tag first q e (alt r f more) = ap suc (words_count tag first r f more)
 
-module _ (net : Net) (path : List ℕ) (good : WellFormed net) where
+module _ (facts : Facts) (net : Net) (path : List ℕ) (good : WellFormed net) where
   -- of a multiplexer both inputs are as wide as its wire
   mux_wide : (at w : ℕ) (c a b : WireId) → HasCellAt net path (Mux (wire at) c a b) → HasWidthAt net path (wire at) w → HasWidthAt net path a w × HasWidthAt net path b w
   mux_wide at w c a b cell wide =
@@ -143,7 +141,7 @@ module _ (net : Net) (path : List ℕ) (good : WellFormed net) where
       let wide1 = widths_rest net path n on.cells (p ▸ tested ▸ c) wide in
       let wide2 = widths_rest net path (after n on.cells) p (tested ▸ c) wide1 in
       let wide3 = widths_rest net path m tested c wide2 in
-      let one = test_count on.bits words on.wires m in
+      let one = facts.built.test_count on.bits words on.wires m in
       let two = words_count on.bits on.first q e more in
       chosen_wide w (after m tested) k wires results r has3 wide3 (omega (arith, one, two, many)) (omega (arith, one, two, some)) there
 
@@ -169,14 +167,14 @@ all_bear net path h w (r ∷ results) have each =
     by (suc w) (a ∷ b ∷ r) of = let many = of.0 in absurd (omega (arith, many))
 
 -- each result has as many wires as the width of the case asks for
-pub alts_counted : (law : SameKeepsMeasure) (s : Setting) (order : List ℕ) → IsSound s → {scope : List Variable} {vars : List TypeTree} {it : Variable} {below n : ℕ} {alts : Alts} {p : Piece} {results : List (List WireId)} {u v : TypeTree} {j : Kind} → AltsBuilt (ground_over s order) scope it below n alts p results → AllGive s [] vars u v alts → HasKind s [] u j → SameTypes u it.ty → Fits vars scope
+pub alts_counted : Facts → (law : SameKeepsMeasure) (s : Setting) (order : List ℕ) → IsSound s → {scope : List Variable} {vars : List TypeTree} {it : Variable} {below n : ℕ} {alts : Alts} {p : Piece} {results : List (List WireId)} {u v : TypeTree} {j : Kind} → AltsBuilt (ground_over s order) scope it below n alts p results → AllGive s [] vars u v alts → HasKind s [] u j → SameTypes u it.ty → Fits vars scope
     → ((y : ℕ) → SizedAt s scope y) → HasNoLoopsIn alts → (t : TypeTree) (k : Kind) (w : ℕ) → HasKind s [] t k → SameTypes t v → HasWidth s.datas t w → (i : ℕ) (r : List WireId) → slice_get results i ≡ Some r → length r ≡ wire_count (w ∷ [])
-alts_counted law s order sound alts_none none_give of_kind of fit sized free t k w kind same has i r e = absurd cc
-alts_counted law s order sound {scope} {vars} {it} {n = n} {u = u} {j = j} (alts_and {q = q} {fields = fs} {wires = wires} ws formed have is block more) (give_and {bound = bnd} b typed along others) of_kind of fit sized free t k w kind same has zero r e =
+alts_counted facts law s order sound alts_none none_give of_kind of fit sized free t k w kind same has i r e = absurd cc
+alts_counted facts law s order sound {scope} {vars} {it} {n = n} {u = u} {j = j} (alts_and {q = q} {fields = fs} {wires = wires} ws formed have is block more) (give_and {bound = bnd} b typed along others) of_kind of fit sized free t k w kind same has zero r e =
     let front : List Variable = variables_from n fs ws in
-    let a = alternative s vars bnd fs scope q u it.ty j n ws sound fit of_kind of b formed have in
+    let a = alternative facts s vars bnd fs scope q u it.ty j n ws sound fit of_kind of b formed have in
     let within : (y : ℕ) → SizedAt s (reverse front ++ scope) y = λ y. onto_sized s front scope y (λ k h. a.sized k) (λ z h. sized z) in
     let is_first : wires ≡ r = cc in
-    subst (λ (ws : List WireId). length ws ≡ wire_count (w ∷ [])) is_first (block_sized law s order sound block typed a.fit (λ y o. within y) free.0 t k w kind (same_through same along) has)
-alts_counted law s order sound (alts_and ws formed have is block more) (give_and b typed along others) of_kind of fit sized free t k w kind same has (suc i) r e =
-    alts_counted law s order sound more others of_kind of fit sized free.1 t k w kind same has i r e
+    subst (λ (ws : List WireId). length ws ≡ wire_count (w ∷ [])) is_first (block_sized facts law s order sound block typed a.fit (λ y o. within y) free.0 t k w kind (facts.same.same_through same along) has)
+alts_counted facts law s order sound (alts_and ws formed have is block more) (give_and b typed along others) of_kind of fit sized free t k w kind same has (suc i) r e =
+    alts_counted facts law s order sound more others of_kind of fit sized free.1 t k w kind same has i r e

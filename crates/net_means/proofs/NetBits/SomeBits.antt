@@ -2,6 +2,8 @@
 use Rattle.std.proofs.Common.{Bool, List, length, subst, sym, take, ℕ, ◌+◌, ◌<◌, ◌↔◌, ◌≡◌}
 use Rattle.use_laws.specs.ValueIn.IsModuleAt.{top as first_module, used as used_module}
 use Rattle.use_laws.specs.ValueIn.BeginsAt.{top as first_begins, used as used_begins}
+use Rattle.net_grounds.specs.Facts.{Facts}
+use Rattle.net_means.proofs.Lists.{same_some}
 use Rattle.net_means.proofs.NetBits.FlatWires.{flat_width}
 use Rattle.net_means.proofs.NetBits.FlatWires.{instance_of}
 use Rattle.use_laws.specs.ValueIn.{BeginsAt, HasWidthAt, IsModuleAt, ValueIn}
@@ -18,7 +20,6 @@ use Rattle.netlist.specs.Sound.{Sound}
 use Rattle.net_rules.specs.WellFormed.{WellFormed}
 use Rattle.chw_base.specs.declared.index.WireId.{WireId}
 use Rattle.net_means.proofs.NetBits.There.{found_within}
-use Rattle.chw_meaning.proofs.Once.{same_some}
 
 abbrev pub ThroughUses : Type 0
 ThroughUses =
@@ -48,7 +49,7 @@ begins net (used_module path place m inner k reads drives at stands there) =
     let b = begins net at in
     (b.0 + wires_before net m (take place m.cells), used_begins path b.0 place m k reads drives b.1 at stands)
 
-module _ (through : ThroughUses) (loops : OrderExcludesLoops) (values : EachHasValue) (once : OneValue) (net : Net) (flat : Flat) (places : List ℕ) (good : WellFormed net) (of : IsFlatOf net flat) (sound : Sound flat) (ordered : IsOrder flat places) (h : History) (fits : FitsPorts net.ports h) where
+module _ (facts : Facts) (through : ThroughUses) (loops : OrderExcludesLoops) (values : EachHasValue) (once : OneValue) (net : Net) (flat : Flat) (places : List ℕ) (good : WellFormed net) (of : IsFlatOf net flat) (sound : Sound flat) (ordered : IsOrder flat places) (h : History) (fits : FitsPorts net.ports h) where
   free : HasNoLoop flat
   free cycle loop = loops flat places cycle sound ordered loop
 
@@ -58,8 +59,8 @@ module _ (through : ThroughUses) (loops : OrderExcludesLoops) (values : EachHasV
   pub wires_have : WiresHave net h
   wires_have path w n at =
       let b = begins net at.at in
-      let inst = instance_of net path b.0 at.m b.1 at.at in
-      let there = flat_width net flat b.0 at.m w.number n good of inst at.wide in
+      let inst = instance_of facts net path b.0 at.m b.1 at.at in
+      let there = flat_width facts net flat b.0 at.m w.number n good of inst at.wide in
       let value = values flat h (b.0 + w.number) sound free fits_flat (found_within flat.widths (b.0 + w.number) n there) in
       let l = found_within at.m.widths w.number n at.wide in
       (value.bits, (through net flat path at.m b.0 h w.number value.bits good of at.at b.1 l).1 value.value, same_some value.width there)

@@ -5,6 +5,8 @@ use Rattle.std.specs.Prelude.{slice_get}
 use Rattle.chw_prims.specs.declared.prim.Primitive.{Primitive as Prim}
 use Rattle.net_built.specs.Circuits.{IsLifted, lifted_on_one, lifted_on_more}
 use Rattle.normal_forms.specs.Circuits.{IsLiftedCall, lifted_on_one as one_lifted, lifted_on_more as more_lifted}
+use Rattle.net_grounds.specs.Facts.{Facts}
+use Rattle.net_means.proofs.Lists.{found_in_map, same_some}
 use Rattle.net_means.proofs.NetFits.CallShapes.{IsNoCall, CallShape, a_lifted, a_call as shape_call, no_call, call_shape, call_of}
 use Rattle.chw_prims.specs.declared.prim.Primitive.TheVariants.{Ap, Fmap}
 use Rattle.net_means.specs.CircuitBits.Instances.{Block, BlockAt, Design, InstanceAt, a_call, a_lift, an_alternative, the_body, the_top, unseen_alternative}
@@ -21,11 +23,9 @@ use Rattle.chw_terms.specs.declared.scene.Sort.{Sort}
 use Rattle.chw_types.specs.TypeTree.{TypeTree}
 use Rattle.net_built.specs.Terms.{Variable, head_of}
 use Rattle.net_means.proofs.NetBits.Standing.{formed}
-use Rattle.chw_typing.proofs.Lists.{found_in_map}
 use Rattle.net_means.proofs.NetFits.Shapes.{head_then}
 use Rattle.net_means.proofs.NetFits.Calls.{is_lifted}
 use Rattle.net_means.proofs.SideBits.Heads.{names}
-use Rattle.chw_meaning.proofs.Once.{same_some}
 
 -- the head of a side of values
 side_prim : {o : Origins} {vars : List TypeTree} {e : TermTree} → IsSide o vars e → (p : Prim) → head_of e ≡ prim p → IsOnWords p ⊎ TakesElement p
@@ -103,15 +103,15 @@ module _ (d : Design) where
       by (no_call nope) (inl h) = absurd ((subst IsNoCall h nope).0 refl)
       by (no_call nope) (inr h) = absurd ((subst IsNoCall h nope).1 refl)
 
-module _ (law : SameKeepsMeasure) (d : Design) (inputs : List Thunk) where
+module _ (facts : Facts) (law : SameKeepsMeasure) (d : Design) (inputs : List Thunk) where
   mutual
     instance_stays : {path : List ℕ} {h : History} {m : ℕ} {γ : Thunks} (it : Made) → InstanceAt d inputs path h m γ → slice_get d.state m ≡ Some it → it.sort ≡ Circuit → (other : History) → InstanceAt d inputs path other m γ
     instance_stays it the_top known circuit other = the_top
     instance_stays {m = m} it (a_call {b = b} {g = g} {scope = scope} i xs at inside is module_there used) known circuit other =
-        let sort = called_sort d b.sort g scope i m xs it (inside_formed law d inside (formed law d at)) is known in
+        let sort = called_sort d b.sort g scope i m xs it (inside_formed facts law d inside (formed facts law d at)) is known in
         a_call i xs (block_stays at (sym sort ∙ circuit) other) inside is module_there used
     instance_stays {m = m} it (a_lift {b = b} {g = g} {scope = scope} {e = e} i xs at inside is lifted module_there used) known circuit other =
-        let sorts = lifted_sort d b.sort g scope i m e (names xs) it (inside_formed law d inside (formed law d at)) is lifted known in
+        let sorts = lifted_sort d b.sort g scope i m e (names xs) it (inside_formed facts law d inside (formed facts law d at)) is lifted known in
         let wrong : Value ≡ Circuit = sym sorts.1 ∙ circuit in
         absurd cc
 

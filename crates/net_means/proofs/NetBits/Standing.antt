@@ -6,6 +6,8 @@ use Rattle.chw_terms.specs.TermTree.{Alts, Group, TermTree, alt, bind, case_of, 
 use Rattle.chw_typing.specs.Programs.{AltsAreComplete, IsComplete, IsSound}
 use Rattle.normal_forms.specs.Values.{AreBlocks, block_and}
 use Rattle.chw_typing.specs.Scopes.{AreTermTypes, HasKind, IsTermType, Setting, declared, with_more}
+use Rattle.net_grounds.specs.Facts.{Facts}
+use Rattle.net_means.proofs.Lists.{found_in_map, same_some}
 use Rattle.net_means.specs.CircuitBits.Instances.{Block, BlockAt, Design, HasBlock, NoLambda, Parameters, an_alternative, no_parameter, parameter_and, the_body, unseen_alternative}
 use Rattle.net_built.specs.Bodies.{BlockBuilt, block_letrec, block_variable}
 use Rattle.chw_types.specs.declared.kind.Kind.TheVariants.{Cir, Dom, Nat, Val}
@@ -38,19 +40,9 @@ use Rattle.chw_types.specs.TypeTree.{TypeTree, TypeTrees, data_of, fun}
 use Rattle.rewriting.specs.Named.{UnderLambdas, under_none, under_one}
 use Rattle.net_built.specs.Terms.{Variable}
 use Rattle.chw_base.specs.declared.index.WireId.{WireId}
-use Rattle.rule_types.proofs.Fields.{allowed_typed, fields_allow}
 use Rattle.net_means.proofs.NetFits.ValueDrivers.{alternative, case_typed}
-use Rattle.chw_typing.proofs.SameScopes.{are_same_self}
 use Rattle.chw_types.specs.Arguments.{arguments}
 use Rattle.net_means.proofs.NetFits.CallShapes.{case_side}
-use Rattle.chw_typing.proofs.Patterns.{constructor_arguments}
-use Rattle.chw_typing.proofs.Lists.{found_in_map}
-use Rattle.chw_typing.proofs.Kinded.{function_takes, typed_at, typed_more}
-use Rattle.chw_typing.proofs.Heads.{is_constructor, of_terms_kind}
-use Rattle.net_built.proofs.NoLoops.{normal_free}
-use Rattle.chw_types.proofs.SameLaws.{same_self}
-use Rattle.chw_meaning.proofs.Once.{same_some}
-use Rattle.chw_typing.proofs.Plugged.{same_variables}
 use Rattle.net_means.specs.SideBits.Sides.{types_in}
 use Rattle.carrying.specs.TermLaws.{under_lambdas}
 
@@ -99,21 +91,21 @@ alt_formed d scope {names = names} alt_here (give_and {bound = bnd} {v = v} b ty
 alt_formed d scope (alt_later rest) (give_and b typed same more) (block_and pattern block others) free complete = alt_formed d scope rest more others free.1 complete.1
 
 -- the fields of a type with a kind
-pub pattern_typed : (s : Setting) → IsSound s → {t : TypeTree} {q : Pattern} {fields : List TypeTree} → PatternOf s.datas t q fields → IsTermType s [] t → AreTermTypes s [] fields
-pattern_typed s sound (of_con {d = d} {c = c} {ts = ts} it known of count) typed =
-    let kinds = constructor_arguments s [] c.number d it ts typed.kind known of typed.has in
-    let place = is_constructor s.datas c.number it known in
+pub pattern_typed : Facts → (s : Setting) → IsSound s → {t : TypeTree} {q : Pattern} {fields : List TypeTree} → PatternOf s.datas t q fields → IsTermType s [] t → AreTermTypes s [] fields
+pattern_typed facts s sound (of_con {d = d} {c = c} {ts = ts} it known of count) typed =
+    let kinds = facts.kinds.constructor_arguments s [] c.number d it ts typed.kind known of typed.has in
+    let place = facts.constructors.is_constructor s.datas c.number it known in
     let here : slice_get s.datas d ≡ Some it.it = subst (λ d. slice_get s.datas d ≡ Some it.it) of place.data_type in
-    let own = of_terms_kind s.datas s.domains it.it (sound.kinds d it.it here) in
-    allowed_typed s [] Cir (fields_at it ts) (fields_allow s c.number it ts Cir sound known kinds (allows it.it.kind own))
+    let own = facts.kinds.of_terms_kind s.datas s.domains it.it (sound.kinds d it.it here) in
+    facts.scopes.allowed_typed s [] Cir (fields_at it ts) (facts.kinds.fields_allow s c.number it ts Cir sound known kinds (allows it.it.kind own))
   where
     allows : (k : Kind) → IsOfTerms k → HasFunctions k Cir
     allows Val h = tt
     allows Cir h = tt
     allows Nat h = absurd h
     allows Dom h = absurd h
-pattern_typed s sound (of_lit l e) typed = tt
-pattern_typed s sound of_any typed = tt
+pattern_typed facts s sound (of_lit l e) typed = tt
+pattern_typed facts s sound of_any typed = tt
 
 pub declared_there : (g : Group) (i : ℕ) (e : TermTree) → body_at g i ≡ Some e → (t : TypeTree) × (slice_get (declared g) i ≡ Some t)
 declared_there no_bindings i e at = absurd cc
@@ -124,7 +116,7 @@ pub parameters_in : {datas : List Data} {sort : Sort} {n : ℕ} {params : List T
 parameters_in no_parameter held = held
 parameters_in {datas} {sort} {n} (parameter_and {t = t} {widths = widths} {scope = scope} parts more) held = parameters_in more (one_held datas sort t n widths scope parts held)
 
-module _ (law : SameKeepsMeasure) (d : Design) where
+module _ (facts : Facts) (law : SameKeepsMeasure) (d : Design) where
   -- the scope of an alternative's block
   opened : {scope : List Variable} {u : TypeTree} {q : Pattern} {f : TermTree} {j : Kind} (x m : ℕ) (it : Variable) (fields : List TypeTree) (widths : List ℕ) (γ : Thunks) (results : List WireId)
       → AreTermTypes (setting d) [] (types_in scope) → ScopeHeld d.program.datas Value scope → slice_get scope x ≡ Some it → HasType (setting d) [] (types_in scope) (var x) u → HasKind (setting d) [] u j
@@ -134,13 +126,13 @@ module _ (law : SameKeepsMeasure) (d : Design) where
       let front = variables_from m fields widths in
       let is : slice_get (types_in scope) x ≡ Some it.ty = found_in_map (λ (v : Variable). v.ty) scope x it known in
       let own : u ≡ it.ty = same_some (var_at typed) is in
-      let fit : Fits (types_in scope) scope = record { same = are_same_self (types_in scope) } in
-      let there = alternative (setting d) (types_in scope) a.bnd fields scope q u it.ty j m widths d.sound fit kind (subst (SameTypes u) own (same_self u)) a.binding pattern have in
+      let fit : Fits (types_in scope) scope = record { same = facts.scopes.are_same_self (types_in scope) } in
+      let there = alternative facts (setting d) (types_in scope) a.bnd fields scope q u it.ty j m widths d.sound fit kind (subst (SameTypes u) own (facts.same.same_self u)) a.binding pattern have in
       let inner : AreTermTypes (setting d) [] (types_in (reverse front ++ scope)) =
       subst (AreTermTypes (setting d) []) (ap (λ ts. with_more ts (types_in scope)) (sym (fields_types (setting d) m fields widths have)) ∙ sym (types_onto front scope))
-      (typed_more (setting d) [] fields (types_in scope) (pattern_typed (setting d) d.sound pattern (typed_at (setting d) [] (types_in scope) x it.ty scoped is)) scoped) in
-      let retyped = same_variables (setting d) [] (with_more a.bnd (types_in scope)) (types_in (reverse front ++ scope)) f a.type d.sound
-      (typed_more (setting d) [] a.bnd (types_in scope) a.binding.typed scoped) inner there.fit.same a.typed in
+      (facts.scopes.typed_more (setting d) [] fields (types_in scope) (pattern_typed facts (setting d) d.sound pattern (facts.scopes.typed_at (setting d) [] (types_in scope) x it.ty scoped is)) scoped) in
+      let retyped = facts.terms.same_variables (setting d) [] (with_more a.bnd (types_in scope)) (types_in (reverse front ++ scope)) f a.type d.sound
+      (facts.scopes.typed_more (setting d) [] a.bnd (types_in scope) a.binding.typed scoped) inner there.fit.same a.typed in
       record {
         scoped = inner;
         held = held_onto d.program.datas Value front scope (fields_held d.program.datas m fields widths have) held;
@@ -156,7 +148,7 @@ module _ (law : SameKeepsMeasure) (d : Design) where
   of_alternative Value m {g} {scope} {x} {alts} {it = it} i fields widths γ results formed at has known wide pattern have =
       let t = declared_there g i (case_of (var x) alts) at in
       let side = side_formed d formed i t.0 (case_of (var x) alts) t.1 at in
-      let c = case_typed side.typed.has in
+      let c = case_typed facts side.typed.has in
       let blocks = case_side side.form.side x alts refl in
       opened x m it fields widths γ results formed.scoped formed.held known c.typed c.has pattern have
       (alt_formed d scope has c.give blocks.blocks side.form.free side.form.complete.2)
@@ -172,7 +164,7 @@ module _ (law : SameKeepsMeasure) (d : Design) where
   pub typed_below : {sort : Sort} {n : ℕ} {params : List TypeTree} {scope all : List Variable} (e : TermTree) (t : TypeTree) → Parameters d.program.datas sort n params scope all → HasType (setting d) [] (types_in scope) (under_lambdas params e) t → AreTermTypes (setting d) [] (types_in scope) → UnderParams e params t all
   typed_below e t no_parameter typed scoped = record { type = t; typed = typed; scoped = scoped; is = refl }
   typed_below e t (parameter_and {t = a} parts more) (h_lam {b = b} {k = k} typed kind) scoped =
-      let rest = typed_below e b more typed (function_takes (setting d) [] a b k kind, scoped) in
+      let rest = typed_below e b more typed (facts.kinds.function_takes (setting d) [] a b k kind, scoped) in
       record { type = rest.type; typed = rest.typed; scoped = rest.scoped; is = ap (fun a) rest.is }
 
   pub no_form : (sort : Sort) (t : TypeTree) (e : TermTree) (vars : List TypeTree) → HasForm (origins d) sort vars (lam t e) → ⊥
@@ -213,13 +205,13 @@ module _ (law : SameKeepsMeasure) (d : Design) where
         held = parameters_in parameters (none_held d.program.datas it.sort);
         type = below.type;
         typed = below.typed;
-        form = form_of it.sort e normal.vars form (λ v. free_below params e (subst HasNoLoops is (normal_free d.program d.state d.normal m it known v))) (complete_below params e (subst (IsComplete d.program.datas) is normal.complete));
+        form = form_of it.sort e normal.vars form (λ v. free_below params e (subst HasNoLoops is (facts.built.normal_free d.program d.state d.normal m it known v))) (complete_below params e (subst (IsComplete d.program.datas) is normal.complete));
       }
 
   -- so is each block that stands
   pub formed : {inputs : List Thunk} {path : List ℕ} {h : History} {b : Block} → BlockAt d inputs path h b → Formed d b
   formed (the_body {m = m} at known is parameters block) = body_formed m known is parameters block
   formed (an_alternative {b = b} {m = m} {results = results} i at inside is f known first block) =
-      of_alternative b.sort m i _ _ _ results (inside_formed law d inside (formed at)) is (alt_of_first first) known f.wide f.pattern f.sizes
+      of_alternative b.sort m i _ _ _ results (inside_formed facts law d inside (formed at)) is (alt_of_first first) known f.wide f.pattern f.sizes
   formed (unseen_alternative {b = b} {results = results} i n m widths at inside is unseen known wide pattern have cells block) =
-      of_alternative b.sort m i _ _ _ results (inside_formed law d inside (formed at)) is alt_here known wide pattern have
+      of_alternative b.sort m i _ _ _ results (inside_formed facts law d inside (formed at)) is alt_here known wide pattern have

@@ -18,12 +18,12 @@ use Rattle.chw_terms.specs.declared.term.Pattern.{Pattern}
 use Rattle.chw_terms.specs.declared.program.Program.{Program}
 use Rattle.carrying.specs.Carrying.{Shows, tag_of}
 use Rattle.chw_types.specs.TypeTree.{TypeTree, TypeTrees, data_of}
+use Rattle.net_grounds.specs.Facts.{Facts}
+use Rattle.net_means.proofs.Lists.{same_some}
 use Rattle.net_means.specs.SideBits.Cases.{alts_count}
 use Rattle.net_means.proofs.NetBits.There.{found_at, found_within}
-use Rattle.carrying.proofs.Cases.{same_itself}
-use Rattle.chw_meaning.proofs.Once.{same_some}
 
-module _ (datas : List Data) (b : List Bool) where
+module _ (facts : Facts) (datas : List Data) (b : List Bool) where
   abbrev IsTakenOf : Alts → Type 0
   IsTakenOf alts = (a : Taken) × (taken datas b alts ≡ Some a)
 
@@ -51,7 +51,7 @@ module _ (datas : List Data) (b : List Bool) where
   con_taken c it (alt (OfCon d n) e more) known begins (inl same) =
       let there : con_at datas d.number ≡ Some it = subst (λ k. con_at datas k ≡ Some it) same known in
       let tag : tag_in it b ≡ tag_of datas d.number it = subst (λ k. tag_in it b ≡ tag_of datas k it) same begins in
-      here_taken (OfCon d n) e more (ap (λ o. has_tag datas d.number o b) there ∙ ap (λ y. same_bits y (tag_of datas d.number it)) tag ∙ same_itself (tag_of datas d.number it))
+      here_taken (OfCon d n) e more (ap (λ o. has_tag datas d.number o b) there ∙ ap (λ y. same_bits y (tag_of datas d.number it)) tag ∙ facts.cases.same_itself (tag_of datas d.number it))
 
 -- the type of a constructor's pattern
 con_type_of : {datas : List Data} {u : TypeTree} {c : ConId} {n : ℕ} {fields : List TypeTree} (it : Constructor) → PatternOf datas u (OfCon c n) fields → con_at datas c.number ≡ Some it → (ts : TypeTrees) × (u ≡ data_of it.of ts)
@@ -66,12 +66,12 @@ case_type datas c it (alt (OfLit s a) e more) known are h = case_type datas c it
 case_type datas c it (alt (OfCon d n) e more) known are (inl same) = con_type_of it are.0.1 (subst (λ k. con_at datas k ≡ Some it) same known)
 case_type datas c it (alt (OfCon d n) e more) known are (inr h) = case_type datas c it more known are.1 h
 
-pub taken_there : ShownHasTag → (p : Program) (u : TypeTree) (th : Thunk) (h : History) (b : List Bool) (alts : Alts) → IsCovered p.datas alts → AreFor p.datas u alts → IsWide p.datas u → Shows p u th h b → (a : Taken) × (taken p.datas b alts ≡ Some a)
-taken_there tags p u th h b alts (inl default) are wide shows = default_taken p.datas b alts default
-taken_there tags p u th h b alts (inr all) are wide shows =
+pub taken_there : Facts → ShownHasTag → (p : Program) (u : TypeTree) (th : Thunk) (h : History) (b : List Bool) (alts : Alts) → IsCovered p.datas alts → AreFor p.datas u alts → IsWide p.datas u → Shows p u th h b → (a : Taken) × (taken p.datas b alts ≡ Some a)
+taken_there facts tags p u th h b alts (inl default) are wide shows = default_taken facts p.datas b alts default
+taken_there facts tags p u th h b alts (inr all) are wide shows =
     let type = case_type p.datas all.con all.it alts all.is are all.has in
     let begins = tags p all.it.of type.0 th h b (subst (IsWide p.datas) type.1 wide) (subst (λ u. Shows p u th h b) type.1 shows) in
-    con_taken p.datas b begins.number begins.it alts begins.held begins.begins (all.each begins.number begins.it begins.held begins.of_type)
+    con_taken facts p.datas b begins.number begins.it alts begins.held begins.begins (all.each begins.number begins.it begins.held begins.of_type)
 
 -- a case that looks has at least two alternatives
 not_one : (n : ℕ) → 0 < n → ((n == 1) ≡ true → ⊥) → 1 < n

@@ -9,7 +9,7 @@ use Rattle.chw_terms.specs.declared.scene.Sort.TheVariants.{Circuit}
 use Rattle.chw_terms.specs.TermTree.{TermTree}
 use Rattle.rewriting.specs.Runs.{After, known, no_call, one_more, IsOpening, opened, Run, RunsTo, no_more, none_left, step_and, Step, StepsTo}
 use Rattle.rewriting.specs.Spots.{Spot}
-use Rattle.net_built.proofs.Parts.{same_some}
+use Rattle.net_means.proofs.Lists.{same_some}
 use Rattle.net_means.specs.NetFits.Laws.{BeginsWithTop}
 
 -- a circuit of the type of the program's top

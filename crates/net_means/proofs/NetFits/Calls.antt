@@ -11,17 +11,14 @@ use Rattle.chw_types.specs.Polynomials.{is_natural}
 use Rattle.chw_types.specs.SameTypes.{SameTypes, same_naturals, same_sum, same_product, same_domain, same_scalar, same_vector, same_data, same_fun, same_signal, same_for_all}
 use Rattle.chw_types.specs.TypeMoves.{sub}
 use Rattle.chw_types.specs.TypeTree.{TypeTree, ty_var, fun, for_all, signal}
-use Rattle.chw_types.proofs.SameLaws.{same_self, same_through, same_turned}
 use Rattle.chw_prims.specs.declared.prim.Primitive.TheVariants.{Fmap, Ap}
 use Rattle.type_laws.specs.SameKept.{FieldsKeepSame}
-use Rattle.type_laws.proofs.SameForms.{as_function, as_signal}
 use Rattle.chw_terms.specs.declared.scene.Sort.{Sort}
 use Rattle.chw_terms.specs.declared.scene.Sort.TheVariants.{Value, Circuit}
 use Rattle.chw_terms.specs.TermTree.{TermTree, var, made, app, ty_app}
 use Rattle.chw_typing.specs.Programs.{IsSound}
 use Rattle.chw_typing.specs.Scopes.{Setting, HasKind, AreTermTypes}
 use Rattle.chw_typing.specs.Typing.{HasType, HasTypeUpTo, h_made, h_app, h_lam}
-use Rattle.chw_typing.proofs.Kinded.{function_parts}
 use Rattle.chw_layout.specs.Measured.{fits, Measure, Measured, measured_scalar, measured_vector, measured_data, HasWidth}
 use Rattle.layout_laws.specs.SameLayout.{SameKeepsMeasure}
 use Rattle.rewriting.specs.Named.{UnderLambdas, under_none, under_one}
@@ -35,7 +32,8 @@ use Rattle.net_built.specs.Circuits.{IsLifted, lifted_on_one as of_one, lifted_o
 use Rattle.net_built.specs.Data.{HasParts, value_part, port_parts}
 use Rattle.net_built.specs.Terms.{head_of, types_of, operands_of, result_of, Variable, wires_at, wires_of, wires_of_all}
 use Rattle.net_built.specs.Wires.{wire_count, present, Piece}
-use Rattle.net_built.proofs.Parts.{same_some, width_once}
+use Rattle.net_grounds.specs.Facts.{Facts}
+use Rattle.net_means.proofs.Lists.{same_some}
 use Rattle.net_means.specs.NetFits.Laws.{ground_over}
 use Rattle.net_means.proofs.NetFits.CallShapes.{all_first, all_rest}
 use Rattle.net_means.proofs.NetFits.CircuitDrivers.{PortsHeld}
@@ -48,18 +46,18 @@ pub data ParamParts (datas : List Data) (sort : Sort) : TypeTree → List ℕ �
   no_params : {t : TypeTree} → AsksForNone t → ParamParts datas sort t [] t
   param_and : {a b r : TypeTree} {ws ins : List ℕ} → HasParts datas sort a ws → ParamParts datas sort b ins r → ParamParts datas sort (fun a b) (present ws ++ ins) r
 
-pub any_kept : FieldsKeepSame → SameKeepsMeasure → {sort : Sort} (s : Setting) → IsSound s → (a b : TypeTree) (ws : List ℕ) → AreLike s a b → HasParts s.datas sort a ws → HasParts s.datas sort b ws
-any_kept keep law s sound a b ws like (value_part {w = w} h) = value_part (law (fits w) s a b sound like h)
-any_kept keep law s sound a b ws like (port_parts l h) = parts_kept keep law s sound a b ws like (port_parts l h)
+pub any_kept : Facts → FieldsKeepSame → SameKeepsMeasure → {sort : Sort} (s : Setting) → IsSound s → (a b : TypeTree) (ws : List ℕ) → AreLike s a b → HasParts s.datas sort a ws → HasParts s.datas sort b ws
+any_kept facts keep law s sound a b ws like (value_part {w = w} h) = value_part (law (fits w) s a b sound like h)
+any_kept facts keep law s sound a b ws like (port_parts l h) = parts_kept facts keep law s sound a b ws like (port_parts l h)
 
 pub measured_asks : {datas : List Data} {t : TypeTree} {m : Measure} → Measured datas t m → AsksForNone t
 measured_asks measured_scalar = tt
 measured_asks (measured_vector h) = tt
 measured_asks (measured_data known many h) = tt
 
-pub parts_ask : {datas : List Data} {sort : Sort} {t : TypeTree} {ws : List ℕ} → HasParts datas sort t ws → AsksForNone t
-parts_ask (value_part h) = measured_asks h
-parts_ask {t = t} (port_parts l h) = port_asks (port_parts l h) t (same_self t)
+pub parts_ask : Facts → {datas : List Data} {sort : Sort} {t : TypeTree} {ws : List ℕ} → HasParts datas sort t ws → AsksForNone t
+parts_ask facts (value_part h) = measured_asks h
+parts_ask facts {t = t} (port_parts l h) = port_asks facts (port_parts l h) t (facts.same.same_self t)
 
 -- the first parameter's parts, and the others'
 pub record ParamOf (datas : List Data) (sort : Sort) (a b : TypeTree) (ins : List ℕ) (r : TypeTree) : Type 0 where
@@ -77,13 +75,13 @@ param_none : {datas : List Data} {sort : Sort} {t r : TypeTree} {ins : List ℕ}
 param_none asks (no_params h) = (refl, refl)
 param_none asks (param_and parts more) = absurd asks
 
-module _ (keep : FieldsKeepSame) (law : SameKeepsMeasure) (s : Setting) (sound : IsSound s) where
+module _ (facts : Facts) (keep : FieldsKeepSame) (law : SameKeepsMeasure) (s : Setting) (sound : IsSound s) where
   -- the inputs of a body are the parts of its type's parameters
   pub body_params : {order : List ℕ} {sort : Sort} {scope : List Variable} {vars names : List TypeTree} {n : ℕ} {e inner : TermTree} {t u : TypeTree} {path inputs : List ℕ} {p : Piece} {outputs : List WireId} → BodyBuilt (ground_over s order) sort scope n e inputs p outputs → UnderLambdas vars e t path names inner → HasType s [] vars e u → SameTypes t u → ParamParts s.datas sort t inputs (result_of t)
   body_params (body_lambda {t = a} {widths = ws} parts more) (under_one {b = b} same under) (h_lam typed kind) along =
-      let at = function_parts kind in
-      param_and (any_kept keep law s sound a b ws (record { kind = at.0; has = at.1; same = same }) parts) (body_params more under typed (results_same along))
-  body_params (body_lambda parts more) (under_none asks) (h_lam typed kind) along = absurd (no_function along asks)
+      let at = facts.kinds.function_parts kind in
+      param_and (any_kept facts keep law s sound a b ws (record { kind = at.0; has = at.1; same = same }) parts) (body_params more under typed (results_same facts along))
+  body_params (body_lambda parts more) (under_none asks) (h_lam typed kind) along = absurd (no_function facts along asks)
   body_params (body_block block) (under_one same under) typed along = elim block [ ]
   body_params {sort = sort} {t = t} (body_block block) (under_none asks) typed along =
       subst (λ r. ParamParts s.datas sort t [] r) (sym (result_alone t asks)) (no_params asks)
@@ -119,7 +117,7 @@ of_variable : (s : Setting) (sort : Sort) (vars : List TypeTree) (scope : List V
 of_variable s sort vars scope (var x) t u k ws counts is typed kind same has = counts x t u k ws typed kind same has
 of_variable s sort vars scope _ t u k ws counts is typed kind same has = absurd is
 
-module _ (s : Setting) (sort : Sort) (vars : List TypeTree) (scope : List Variable) (m : ℕ) (whole : TypeTree) (k : Kind) (ins : List ℕ) (r : TypeTree) (counts : VarCount s sort vars scope)
+module _ (facts : Facts) (s : Setting) (sort : Sort) (vars : List TypeTree) (scope : List Variable) (m : ℕ) (whole : TypeTree) (k : Kind) (ins : List ℕ) (r : TypeTree) (counts : VarCount s sort vars scope)
     (known : slice_get s.made m ≡ Some whole) (of_kind : HasKind s [] whole k) (params : ParamParts s.datas sort whole ins r) where
   -- a spine on a made definition
   pub spine_called : (e : TermTree) (u : TypeTree) → head_of e ≡ made m → types_of e ≡ [] → AllByRecursion IsVariable (operands_of e) → HasType s [] vars e u → Called s sort u (wires_of_all scope (operands_of e)) ins r
@@ -132,16 +130,16 @@ module _ (s : Setting) (sort : Sort) (vars : List TypeTree) (scope : List Variab
         kind = k;
         has = of_kind;
         params = params;
-        same = subst (SameTypes whole) type (same_self whole);
+        same = subst (SameTypes whole) type (facts.same.same_self whole);
         count = omega arith;
       }
   spine_called (app f a) u h ts names (h_app {a = c} {c = d} typed given same) =
       let before = spine_called f (fun c u) h ts (all_first IsVariable (operands_of f) (a ∷ []) names) typed in
       let last = (all_rest IsVariable (operands_of f) (a ∷ []) names).0 in
-      let form = as_function (same_turned before.same) in
+      let form = facts.same.as_function (facts.same.same_turned before.same) in
       let parts = param_of (subst (λ t. ParamParts s.datas sort t before.left r) form.2 before.params) in
-      let kinds = function_parts (subst (λ t. HasKind s [] t before.kind) form.2 before.has) in
-      let one = of_variable s sort vars scope a form.0 d kinds.0 parts.widths counts last given kinds.1 (same_through (same_turned form.3) same) parts.parts in
+      let kinds = facts.kinds.function_parts (subst (λ t. HasKind s [] t before.kind) form.2 before.has) in
+      let one = of_variable s sort vars scope a form.0 d kinds.0 parts.widths counts last given kinds.1 (facts.same.same_through (facts.same.same_turned form.3) same) parts.parts in
       let more = wires_with scope (operands_of f) a in
       let was = before.count in
       let are : length before.left ≡ wire_count parts.widths + length parts.left = ap (λ (l : List ℕ). length l) parts.are ∙ length-append (present parts.widths) parts.left in
@@ -151,17 +149,17 @@ module _ (s : Setting) (sort : Sort) (vars : List TypeTree) (scope : List Variab
         kind = _;
         has = kinds.2;
         params = parts.more;
-        same = same_turned form.4;
+        same = facts.same.same_turned form.4;
         count = omega (arith, one, more, was, are);
       }
   spine_called (ty_app f t) u h ts names typed = absurd (no_end (types_of f) t ts)
   spine_called _ u h ts names typed = absurd cc
 
 -- all operands are given where what is left has the parts of a wire or of a port
-pub called_whole : FieldsKeepSame → SameKeepsMeasure → {sort : Sort} (s : Setting) → IsSound s → (t u : TypeTree) (k : Kind) (ws : List ℕ) (reads : List WireId) (ins : List ℕ) (r : TypeTree) → Called s sort u reads ins r → HasKind s [] t k → SameTypes t u → HasParts s.datas sort t ws → length reads ≡ length ins
-called_whole keep law s sound t u k ws reads ins r called kind same has =
-    let like = any_kept keep law s sound t called.rest ws (record { kind = k; has = kind; same = same_through same (same_turned called.same) }) has in
-    let none = param_none (parts_ask like) called.params in
+pub called_whole : Facts → FieldsKeepSame → SameKeepsMeasure → {sort : Sort} (s : Setting) → IsSound s → (t u : TypeTree) (k : Kind) (ws : List ℕ) (reads : List WireId) (ins : List ℕ) (r : TypeTree) → Called s sort u reads ins r → HasKind s [] t k → SameTypes t u → HasParts s.datas sort t ws → length reads ≡ length ins
+called_whole facts keep law s sound t u k ws reads ins r called kind same has =
+    let like = any_kept facts keep law s sound t called.rest ws (record { kind = k; has = kind; same = facts.same.same_through same (facts.same.same_turned called.same) }) has in
+    let none = param_none (parts_ask facts like) called.params in
     let left : length called.left ≡ 0 = ap (λ (l : List ℕ). length l) none.0 in
     let count = called.count in
     omega (arith, left, count)
@@ -176,10 +174,10 @@ result_called s vars m whole known (ty_app f t) u h ts typed = absurd (no_end (t
 result_called s vars m whole known _ u h ts typed = absurd cc
 
 -- so the result has the parts of the whole call
-pub result_parts : FieldsKeepSame → SameKeepsMeasure → {sort : Sort} (s : Setting) → IsSound s → (vars : List TypeTree) (m : ℕ) (whole : TypeTree) → slice_get s.made m ≡ Some whole → (e : TermTree) (t u : TypeTree) (k : Kind) (ws : List ℕ) → head_of e ≡ made m → types_of e ≡ [] → HasType s [] vars e u → HasKind s [] t k → SameTypes t u → HasParts s.datas sort t ws → HasParts s.datas sort (result_of whole) ws
-result_parts keep law {sort} s sound vars m whole known e t u k ws h ts typed kind same has =
-    let there = any_kept keep law s sound t u ws (record { kind = k; has = kind; same = same }) has in
-    subst (λ r. HasParts s.datas sort r ws) (sym (result_called s vars m whole known e u h ts typed ∙ result_alone u (parts_ask there))) there
+pub result_parts : Facts → FieldsKeepSame → SameKeepsMeasure → {sort : Sort} (s : Setting) → IsSound s → (vars : List TypeTree) (m : ℕ) (whole : TypeTree) → slice_get s.made m ≡ Some whole → (e : TermTree) (t u : TypeTree) (k : Kind) (ws : List ℕ) → head_of e ≡ made m → types_of e ≡ [] → HasType s [] vars e u → HasKind s [] t k → SameTypes t u → HasParts s.datas sort t ws → HasParts s.datas sort (result_of whole) ws
+result_parts facts keep law {sort} s sound vars m whole known e t u k ws h ts typed kind same has =
+    let there = any_kept facts keep law s sound t u ws (record { kind = k; has = kind; same = same }) has in
+    subst (λ r. HasParts s.datas sort r ws) (sym (result_called s vars m whole known e u h ts typed ∙ result_alone u (parts_ask facts there))) there
 
 -- the operands of a lifted call
 abbrev pub lifted_on : {m n : ℕ} {e : TermTree} → IsLiftedCall m e n → List TermTree
@@ -240,24 +238,24 @@ results_kept (same_for_all p) = same_for_all p
 made_type : {s : Setting} {vars : List TypeTree} {m : ℕ} {whole t : TypeTree} → slice_get s.made m ≡ Some whole → HasType s [] vars (made m) t → t ≡ whole
 made_type known (h_made is) = same_some is known
 
-module _ (keep : FieldsKeepSame) (law : SameKeepsMeasure) (prims : PrimAtArguments) (s : Setting) (sound : IsSound s) (vars : List TypeTree) (scope : List Variable) (fit : Fits vars scope) (held : PortsHeld s scope) (scoped : AreTermTypes s [] vars) where
+module _ (facts : Facts) (keep : FieldsKeepSame) (law : SameKeepsMeasure) (prims : PrimAtArguments) (s : Setting) (sound : IsSound s) (vars : List TypeTree) (scope : List Variable) (fit : Fits vars scope) (held : PortsHeld s scope) (scoped : AreTermTypes s [] vars) where
   signal_count : (x : ℕ) (d a c : TypeTree) (k : Kind) (ws : List ℕ) → HasTypeUpTo s [] vars (var x) (signal d a) → HasKind s [] c k → SameTypes c a → HasParts s.datas Value c ws → length (wires_at scope x) ≡ wire_count ws
   signal_count x d a c k ws given kind same parts =
-      let at = found vars scope x given.type fit (var_at given.has) in
-      let form = as_signal (same_through given.same at.same) in
+      let at = found facts vars scope x given.type fit (var_at given.has) in
+      let form = facts.same.as_signal (facts.same.same_through given.same at.same) in
       let it = held x at.it at.is in
       let narrow = signal_part (subst (λ t. HasParts s.datas Circuit t it.parts) form.2 it.have) in
       let value = value_width parts in
-      let carried = law (fits value.0) s c form.1 sound (record { kind = k; has = kind; same = same_through same form.4 }) value.1 in
-      let width : narrow.0 ≡ value.0 = width_once narrow.1 carried in
+      let carried = law (fits value.0) s c form.1 sound (record { kind = k; has = kind; same = facts.same.same_through same form.4 }) value.1 in
+      let width : narrow.0 ≡ value.0 = facts.widths.width_once narrow.1 carried in
       ap (λ (wires : List WireId). length wires) (wires_there scope x at.it at.is) ∙ it.count ∙ ap (λ ws. wire_count ws) (narrow.2 ∙ ap (λ w. w ∷ []) width ∙ sym value.2)
 
   one_more : (x : ℕ) (d a b rest : TypeTree) (k : Kind) (left : List ℕ) (r : TypeTree) → HasKind s [] rest k → ParamParts s.datas Value rest left r → SameTypes rest (fun a b) → HasTypeUpTo s [] vars (var x) (signal d a) → OneMore s b (length (wires_at scope x)) left r
   one_more x d a b rest k left r kind params same given =
-      let form = as_function (same_turned same) in
+      let form = facts.same.as_function (facts.same.same_turned same) in
       let parts = param_of (subst (λ t. ParamParts s.datas Value t left r) form.2 params) in
-      let kinds = function_parts (subst (λ t. HasKind s [] t k) form.2 kind) in
-      let one = signal_count x d a form.0 kinds.0 parts.widths given kinds.1 (same_turned form.3) parts.parts in
+      let kinds = facts.kinds.function_parts (subst (λ t. HasKind s [] t k) form.2 kind) in
+      let one = signal_count x d a form.0 kinds.0 parts.widths given kinds.1 (facts.same.same_turned form.3) parts.parts in
       let are : length left ≡ wire_count parts.widths + length parts.left = ap (λ (l : List ℕ). length l) parts.are ∙ length-append (present parts.widths) parts.left in
       record {
         rest = form.1;
@@ -265,7 +263,7 @@ module _ (keep : FieldsKeepSame) (law : SameKeepsMeasure) (prims : PrimAtArgumen
         kind = k;
         has = kinds.2;
         params = parts.more;
-        same = same_turned form.4;
+        same = facts.same.same_turned form.4;
         count = omega (arith, one, are);
       }
 
@@ -279,7 +277,7 @@ module _ (keep : FieldsKeepSame) (law : SameKeepsMeasure) (prims : PrimAtArgumen
         let function : HasTypeUpTo s [] vars (made m) (fun a b) = all.args_given.0 in
         let given : HasTypeUpTo s [] vars (var x) (signal d a) = all.args_given.1.0 in
         let same : SameTypes (fun a b) whole = subst (SameTypes (fun a b)) (made_type known function.has) function.same in
-        let more = one_more x d a b whole k ins r of_kind params (same_turned same) given in
+        let more = one_more x d a b whole k ins r of_kind params (facts.same.same_turned same) given in
         let all_wires = wires_with scope [] (var x) in
         let was = more.count in
         record {
@@ -289,7 +287,7 @@ module _ (keep : FieldsKeepSame) (law : SameKeepsMeasure) (prims : PrimAtArgumen
           kind = more.kind;
           has = more.has;
           params = more.params;
-          same = same_through (same_signal (same_self d) more.same) gives;
+          same = facts.same.same_through (same_signal (facts.same.same_self d) more.same) gives;
           count = omega (arith, all_wires, was);
         }
     lifted_called (lifted_on_more {d = d} {a = a} {b = b} {u = f} {x = x} before) u typed =
@@ -298,7 +296,7 @@ module _ (keep : FieldsKeepSame) (law : SameKeepsMeasure) (prims : PrimAtArgumen
         let function : HasTypeUpTo s [] vars f (signal d (fun a b)) = all.args_given.0 in
         let given : HasTypeUpTo s [] vars (var x) (signal d a) = all.args_given.1.0 in
         let so_far = lifted_called before function.type function.has in
-        let form = as_signal (same_through so_far.same (same_turned function.same)) in
+        let form = facts.same.as_signal (facts.same.same_through so_far.same (facts.same.same_turned function.same)) in
         let is : form.1 ≡ fun a b = signal_of (sym form.2) in
         let same : SameTypes so_far.rest (fun a b) = subst (SameTypes so_far.rest) is form.4 in
         let more = one_more x d a b so_far.rest so_far.kind so_far.left r so_far.has so_far.params same given in
@@ -312,14 +310,14 @@ module _ (keep : FieldsKeepSame) (law : SameKeepsMeasure) (prims : PrimAtArgumen
           kind = more.kind;
           has = more.has;
           params = more.params;
-          same = same_through (same_signal (same_self d) more.same) gives;
+          same = facts.same.same_through (same_signal (facts.same.same_self d) more.same) gives;
           count = omega (arith, all_wires, was, earlier);
         }
 
   -- all operands of a lifted call are given where it is a port
   pub lifted_whole : (t u : TypeTree) (k : Kind) (ws : List ℕ) (reads : List WireId) (ins : List ℕ) (r : TypeTree) → LiftedSoFar s u reads ins r → HasKind s [] t k → SameTypes t u → HasParts s.datas Circuit t ws → length reads ≡ length ins
   lifted_whole t u k ws reads ins r called kind same has =
-      let like = parts_kept keep law s sound t (signal called.dom called.rest) ws (record { kind = k; has = kind; same = same_through same (same_turned called.same) }) has in
+      let like = parts_kept facts keep law s sound t (signal called.dom called.rest) ws (record { kind = k; has = kind; same = facts.same.same_through same (facts.same.same_turned called.same) }) has in
       let none = param_none (measured_asks (signal_part like).1) called.params in
       let left : length called.left ≡ 0 = ap (λ (l : List ℕ). length l) none.0 in
       let count = called.count in
@@ -338,21 +336,21 @@ module _ (keep : FieldsKeepSame) (law : SameKeepsMeasure) (prims : PrimAtArgumen
       let gives : SameTypes (signal d b) u = all.gives in
       let function : HasTypeUpTo s [] vars f (signal d (fun a b)) = all.args_given.0 in
       let so_far = result_lifted whole known before function.type function.has in
-      let form = as_signal (same_through function.same (same_turned so_far.2)) in
+      let form = facts.same.as_signal (facts.same.same_through function.same (facts.same.same_turned so_far.2)) in
       let is : form.1 ≡ so_far.1 = signal_of (sym form.2) in
       let same : SameTypes (fun a b) so_far.1 = subst (SameTypes (fun a b)) is form.4 in
-      (d, b, gives, same_through (results_kept same) so_far.3)
+      (d, b, gives, facts.same.same_through (results_kept same) so_far.3)
 
   -- so the result has the parts of the whole lifted call
   pub lifted_parts : {m : ℕ} (whole : TypeTree) → slice_get s.made m ≡ Some whole → {e : TermTree} {n : ℕ} → IsLiftedCall m e n → (t u : TypeTree) (k : Kind) (ws : List ℕ) → HasType s [] vars e u → HasKind s [] t k → SameTypes t u → HasParts s.datas Circuit t ws → HasParts s.datas Value (result_of whole) ws
   lifted_parts whole known lifted t u k ws typed kind same has =
       let at = result_lifted whole known lifted u typed in
-      let form = as_signal (same_through at.2 (same_turned same)) in
+      let form = facts.same.as_signal (facts.same.same_through at.2 (facts.same.same_turned same)) in
       let kinded = payload_kind s form.0 form.1 k (subst (λ t. HasKind s [] t k) form.2 kind) in
       let part = signal_part (subst (λ t. HasParts s.datas Circuit t ws) form.2 has) in
-      let back : HasWidth s.datas at.1 part.0 = law (fits part.0) s form.1 at.1 sound (record { kind = Val; has = kinded; same = same_turned form.4 }) part.1 in
+      let back : HasWidth s.datas at.1 part.0 = law (fits part.0) s form.1 at.1 sound (record { kind = Val; has = kinded; same = facts.same.same_turned form.4 }) part.1 in
       let alone : result_of at.1 ≡ at.1 = result_alone at.1 (measured_asks back) in
-      let same_result : SameTypes form.1 (result_of whole) = same_through (same_turned form.4) (subst (λ v. SameTypes v (result_of whole)) alone at.3) in
+      let same_result : SameTypes form.1 (result_of whole) = facts.same.same_through (facts.same.same_turned form.4) (subst (λ v. SameTypes v (result_of whole)) alone at.3) in
       let wide : HasParts s.datas Value (result_of whole) (part.0 ∷ []) =
       value_part (law (fits part.0) s form.1 (result_of whole) sound (record { kind = Val; has = kinded; same = same_result }) part.1) in
       subst (λ ws. HasParts s.datas Value (result_of whole) ws) (sym part.2) wide

@@ -3,7 +3,6 @@ use Rattle.std.specs.Prelude.{zip}
 use Rattle.std.proofs.Common.{◌≡◌, ℕ, zero, suc, ◌+◌, ◌-◌, ◌*◌, ◌^◌, ◌<◌, ◌≤◌, min, arith, Bool, true, List, [], ◌∷◌, length, map, reverse, Some, refl, ap, ◌∙◌, subst}
 use Rattle.std.specs.List.{AllByRecursion}
 use Rattle.chw_base.specs.declared.index.WireId.{WireId}
-use Rattle.chw_bits.proofs.Numbers.{length-bits_of}
 use Rattle.netlist.specs.Sound.{HasWidth}
 use Rattle.netlist.specs.declared.net.Cell.TheVariants.{Const, Cut, Bin, Mux}
 use Rattle.netlist.specs.declared.net.Module.{Module}
@@ -12,6 +11,7 @@ use Rattle.net_built.specs.Data.{test, tests, test_wires, choices, chosen, last_
 use Rattle.net_built.specs.Vectors.{element, elements, element_wires, words_from, element_at}
 use Rattle.net_built.specs.Wires.{wire, new_wires, wire_count, present, Piece, ◌▸◌, one, after}
 use Rattle.net_built.specs.Words.{only}
+use Rattle.net_means.proofs.Lists.{length-bits_of}
 use Rattle.net_means.specs.NetFits.Widths.{AreWide, StandFrom}
 use Rattle.net_means.proofs.NetFits.Reading.{all_reverse}
 use Rattle.net_means.proofs.NetFits.ValueWidths.{EachWide}

@@ -6,7 +6,6 @@ use Rattle.chw_base.specs.declared.index.ConId.{ConId}
 use Rattle.chw_types.specs.declared.kind.Kind.{Kind}
 use Rattle.chw_types.specs.SameTypes.{SameTypes}
 use Rattle.chw_types.specs.TypeTree.{TypeTree}
-use Rattle.chw_types.proofs.SameLaws.{same_self}
 use Rattle.chw_prims.specs.declared.prim.Primitive.TheVariants.{UnsafeSynchronizer}
 use Rattle.type_laws.specs.SameKept.{FieldsKeepSame}
 use Rattle.chw_terms.specs.declared.scene.Sort.TheVariants.{Circuit}
@@ -16,10 +15,6 @@ use Rattle.chw_typing.specs.HeadTypes.{PatternOf}
 use Rattle.chw_typing.specs.Programs.{IsSound}
 use Rattle.chw_typing.specs.Scopes.{Setting, HasKind, AreTermTypes, AreSame, with_more, declared}
 use Rattle.chw_typing.specs.Typing.{HasType, h_lam, h_letrec, AreBound, none_bound, bound_and}
-use Rattle.chw_typing.proofs.Heads.{functions_of_terms}
-use Rattle.chw_typing.proofs.Kinded.{term_type, function_parts, typed_more, bound_typed}
-use Rattle.chw_typing.proofs.Lists.{turned_onto}
-use Rattle.chw_typing.proofs.SameScopes.{are_same_self}
 use Rattle.chw_layout.specs.Measured.{closed_value}
 use Rattle.layout_laws.specs.SameLayout.{SameKeepsMeasure}
 use Rattle.rewriting.specs.Named.{UnderLambdas, under_none, under_one}
@@ -32,7 +27,8 @@ use Rattle.net_built.specs.Data.{HasParts}
 use Rattle.net_built.specs.InOrder.{DrivesInOrder}
 use Rattle.net_built.specs.Terms.{head_of, types_of, operands_of, Variable, wires_at, wires_of, wires_of_all}
 use Rattle.net_built.specs.Wires.{wire_count, present, Piece}
-use Rattle.net_built.proofs.ValueSizes.{bound_types}
+use Rattle.net_grounds.specs.Facts.{Facts}
+use Rattle.net_means.proofs.Lists.{turned_onto}
 use Rattle.net_means.specs.NetFits.Laws.{ground_over}
 use Rattle.net_means.proofs.NetFits.CircuitCells.{used_ordered, memory_ordered}
 use Rattle.net_means.proofs.NetFits.CircuitDrivers.{PortHeld, PortsHeld, port_count, operands_then, product_count, projection_count, crossing_count}
@@ -88,28 +84,28 @@ record Laws : Type 0 where
   pub prim_args : PrimAtArguments
 
 -- a right side of a typed circuit copies as many wires as it has
-module _ (laws : Laws) (o : Origins) (sound : IsSound (setting_at o)) where
+module _ (facts : Facts) (laws : Laws) (o : Origins) (sound : IsSound (setting_at o)) where
   side_copies : (vars : List TypeTree) (scope : List Variable) (widths : List ℕ) (t u : TypeTree) (e : TermTree) (k : Kind) → IsCircuitSide o e → Fits vars scope → PortsHeld (setting_at o) scope → AreTermTypes (setting_at o) [] vars → HasType (setting_at o) [] vars e u → HasKind (setting_at o) [] t k → SameTypes t u → HasParts o.program.datas Circuit t widths
       → Copies (setting_at o) scope widths (head_of e) (types_of e) (operands_of e)
   side_copies vars scope widths t u e k side fit held scoped typed kind same has =
       let s : Setting = setting_at o in
       record {
         of_name = λ x h ts es.
-            port_count laws.keep laws.measure s sound vars scope x t u k widths fit held (subst (λ e. HasType s [] vars e u) (alone e ts es ∙ h) typed) kind same has;
+            port_count facts laws.keep laws.measure s sound vars scope x t u k widths fit held (subst (λ e. HasType s [] vars e u) (alone e ts es ∙ h) typed) kind same has;
         crossing = λ y h es.
             let c = crossing_of side h in
             let is : var c.x ∷ [] ≡ y ∷ [] = sym (ap (λ e. operands_of e) c.is) ∙ es in
             let operand : var c.x ≡ y = cc in
             ap (λ y. length (wires_of scope y)) (sym operand)
-            ∙ crossing_count laws.keep laws.measure laws.prim_args s sound vars scope c.d c.b c.a c.x t u k widths fit held scoped (subst (λ e. HasType s [] vars e u) c.is typed) kind same has;
+            ∙ crossing_count facts laws.keep laws.measure laws.prim_args s sound vars scope c.d c.b c.a c.x t u k widths fit held scoped (subst (λ e. HasType s [] vars e u) c.is typed) kind same has;
         product = λ c h.
             let p = product_of side c h in
             let operands : operands_of e ≡ names p.xs = ap (λ e. operands_of e) p.is ∙ operands_then (con p.c) p.types (names p.xs) in
             ap (λ es. length (wires_of_all scope es)) operands
-            ∙ product_count laws.keep laws.measure laws.con_args laws.saturated s sound vars scope p.c p.it p.types p.xs t u k widths fit held scoped p.known (subst (λ e. HasType s [] vars e u) p.is typed) kind same has;
+            ∙ product_count facts laws.keep laws.measure laws.con_args laws.saturated s sound vars scope p.c p.it p.types p.xs t u k widths fit held scoped p.known (subst (λ e. HasType s [] vars e u) p.is typed) kind same has;
         projection = λ x count z c it fields parts h ts es i pattern have.
             let is = alone e ts es ∙ h in
-            projection_count laws.keep laws.measure s sound vars scope x count z c it fields parts t u k widths fit held (projection_of side x count z c is) i pattern have (subst (λ e. HasType s [] vars e u) is typed) kind same has;
+            projection_count facts laws.keep laws.measure s sound vars scope x count z c it fields parts t u k widths fit held (projection_of side x count z c is) i pattern have (subst (λ e. HasType s [] vars e u) is typed) kind same has;
       }
 
   side_ordered : {order : List ℕ} {scope : List Variable} {vars : List TypeTree} {n : ℕ} {t u : TypeTree} {e : TermTree} {p : Piece} {r : List WireId} {j : Kind} → SideBuilt (ground_over (setting_at o) order) Circuit scope n t e p r → IsCircuitSide o e → HasKind (setting_at o) [] t j → HasType (setting_at o) [] vars e u → SameTypes t u → Fits vars scope → PortsHeld (setting_at o) scope → AreTermTypes (setting_at o) [] vars → Ordered n p
@@ -124,8 +120,8 @@ module _ (laws : Laws) (o : Origins) (sound : IsSound (setting_at o)) where
   block_ordered : {order : List ℕ} {scope : List Variable} {vars : List TypeTree} {n : ℕ} {e : TermTree} {p : Piece} {r : List WireId} {u : TypeTree} → BlockBuilt (ground_over (setting_at o) order) Circuit scope n e p r → IsCircuitBody o e → HasType (setting_at o) [] vars e u → Fits vars scope → PortsHeld (setting_at o) scope → AreTermTypes (setting_at o) [] vars → Ordered n p
   block_ordered block_variable form typed fit held scoped = none_ordered
   block_ordered {scope = scope} {vars = vars} (block_letrec {g = g} b more) (circuit_letrec forms) (h_letrec typed of_kind bound) fit held scoped =
-      let inside : Fits (with_more (declared g) vars) (reverse b ++ scope) = fits_more (declared g) vars b scope (subst (AreSame (declared g)) (sym (bound_types more)) (are_same_self (declared g))) fit in
-      group_ordered more forms bound inside (held_onto (setting_at o) b scope (bound_held more) held) (typed_more (setting_at o) [] (declared g) vars (bound_typed bound) scoped)
+      let inside : Fits (with_more (declared g) vars) (reverse b ++ scope) = fits_more facts (declared g) vars b scope (subst (AreSame (declared g)) (sym (facts.built.bound_types more)) (facts.scopes.are_same_self (declared g))) fit in
+      group_ordered more forms bound inside (held_onto (setting_at o) b scope (bound_held more) held) (facts.scopes.typed_more (setting_at o) [] (declared g) vars (facts.scopes.bound_typed bound) scoped)
 
   body_ordered : {order : List ℕ} {scope : List Variable} {vars names : List TypeTree} {n : ℕ} {e inner : TermTree} {ty u : TypeTree} {path inputs : List ℕ} {p : Piece} {outputs : List WireId} → BodyBuilt (ground_over (setting_at o) order) Circuit scope n e inputs p outputs → UnderLambdas vars e ty path names inner → IsCircuitBody o inner → HasType (setting_at o) [] vars e u → Fits vars scope → PortsHeld (setting_at o) scope → AreTermTypes (setting_at o) [] vars
       → Ordered (n + length inputs) p
@@ -133,19 +129,19 @@ module _ (laws : Laws) (o : Origins) (sound : IsSound (setting_at o)) where
       let s : Setting = setting_at o in
       let count : length (present widths ++ ins) ≡ wire_count widths + length ins = length-append (present widths) ins in
       let place : n + wire_count widths + length ins ≡ n + length (present widths ++ ins) = omega (arith, count) in
-      let at = function_parts kind in
-      let input = term_type s [] t at.0 at.1 (functions_of_terms at.0 k at.3).0 in
+      let at = facts.kinds.function_parts kind in
+      let input = facts.kinds.term_type s [] t at.0 at.1 (facts.kinds.functions_of_terms at.0 k at.3).0 in
       subst (λ k. Ordered k p) place
-      (body_ordered more under form typed (record { same = (same_self t, fit.same) }) (held_and s _ scope (record { parts = widths; have = parts; count = count_from n (wire_count widths) }) held) (input, scoped))
+      (body_ordered more under form typed (record { same = (facts.same.same_self t, fit.same) }) (held_and s _ scope (record { parts = widths; have = parts; count = count_from n (wire_count widths) }) held) (input, scoped))
   body_ordered (body_lambda parts more) (under_none asks) form typed fit held scoped = elim form [ ]
   body_ordered (body_block block) (under_one same under) form typed fit held scoped = elim block [ ]
   body_ordered {n = n} {p = p} (body_block block) (under_none asks) form typed fit held scoped =
       let place : n ≡ n + 0 = omega arith in subst (λ k. Ordered k p) place (block_ordered block form typed fit held scoped)
 
-pub circuit_body_ordered : FieldsKeepSame → SameKeepsMeasure → ConAtArguments → ConIsSaturated → PrimAtArguments → (o : Origins) (order : List ℕ) (e inner : TermTree) (ty t : TypeTree) (path : List ℕ) (names : List TypeTree) (inputs : List ℕ) (p : Piece) (outputs : List WireId) → IsSound (setting_at o)
+pub circuit_body_ordered : Facts → FieldsKeepSame → SameKeepsMeasure → ConAtArguments → ConIsSaturated → PrimAtArguments → (o : Origins) (order : List ℕ) (e inner : TermTree) (ty t : TypeTree) (path : List ℕ) (names : List TypeTree) (inputs : List ℕ) (p : Piece) (outputs : List WireId) → IsSound (setting_at o)
     → HasType (setting_at o) [] [] e t → UnderLambdas [] e ty path names inner → IsCircuitBody o inner → BodyBuilt (ground_over (setting_at o) order) Circuit [] 0 e inputs p outputs → DrivesInOrder (length inputs) p
-circuit_body_ordered keep measure con_args saturated prim_args o order e inner ty t path names inputs p outputs sound typed under form built =
+circuit_body_ordered facts keep measure con_args saturated prim_args o order e inner ty t path names inputs p outputs sound typed under form built =
     let laws : Laws = record { keep = keep; measure = measure; con_args = con_args; saturated = saturated; prim_args = prim_args } in
-    let all = body_ordered laws o sound built under form typed (record { same = tt }) (none_held (setting_at o)) tt in
+    let all = body_ordered facts laws o sound built under form typed (record { same = tt }) (none_held (setting_at o)) tt in
     let place : 0 + length inputs ≡ length inputs = omega arith in
     (subst (λ k. Ordered k p) place all).drives

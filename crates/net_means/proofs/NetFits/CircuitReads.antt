@@ -8,16 +8,12 @@ use Rattle.chw_types.specs.declared.kind.Kind.{Kind}
 use Rattle.chw_types.specs.Kinds.{kind_domain}
 use Rattle.chw_types.specs.SameTypes.{SameTypes}
 use Rattle.chw_types.specs.TypeTree.{TypeTree, domain}
-use Rattle.chw_types.proofs.SameLaws.{same_self}
 use Rattle.chw_prims.specs.declared.prim.Primitive.TheVariants.{Fmap, Ap}
 use Rattle.chw_terms.specs.declared.scene.Sort.TheVariants.{Value, Circuit}
 use Rattle.chw_terms.specs.TermTree.{TermTree, var, made, prim, Group}
 use Rattle.chw_typing.specs.Programs.{IsSound}
 use Rattle.chw_typing.specs.Scopes.{Setting, HasKind, AreTermTypes, AreSame, with_more, declared}
 use Rattle.chw_typing.specs.Typing.{HasType, h_var, h_global, h_made, h_lam, h_app, h_ty_lam, h_ty_app, h_letrec, h_con, h_prim, h_lit, h_vec, h_case, AreBound, none_bound, bound_and}
-use Rattle.chw_typing.proofs.Heads.{functions_of_terms}
-use Rattle.chw_typing.proofs.Kinded.{term_type, function_parts, typed_more, bound_typed}
-use Rattle.chw_typing.proofs.SameScopes.{are_same_self}
 use Rattle.chw_layout.specs.Measured.{closed_value}
 use Rattle.netlist.specs.declared.net.Cell.{Cell}
 use Rattle.netlist.specs.declared.net.Cell.TheVariants.{Reg, Ram, Use}
@@ -34,8 +30,7 @@ use Rattle.net_built.specs.Modules.{made_in, made_in_group}
 use Rattle.net_built.specs.Terms.{head_of, types_of, operands_of, Variable, wires_at, wires_of, wires_of_all}
 use Rattle.net_built.specs.Wires.{wire, wire_count, new_wires, present, Piece, after}
 use Rattle.net_built.specs.Words.{only}
-use Rattle.net_built.proofs.Parts.{lifted_once}
-use Rattle.net_built.proofs.ValueSizes.{bound_types}
+use Rattle.net_grounds.specs.Facts.{Facts}
 use Rattle.net_means.specs.NetFits.Laws.{ground_over}
 use Rattle.net_means.proofs.NetFits.Calls.{lifted_on, is_lifted}
 use Rattle.net_means.proofs.NetFits.CallShapes.{IsNoCall, CallShape, a_lifted, a_call, no_call, call_shape, head_made, operands_made, all_first, all_rest}
@@ -162,7 +157,7 @@ lifted_made : (P : ℕ → Type 0) {m n : ℕ} {e : TermTree} → IsLiftedCall m
 lifted_made P {e = e} lifted_on_one all = (operands_made P e all).0.0
 lifted_made P {e = e} (lifted_on_more before) all = lifted_made P before (operands_made P e all).0
 
-module _ (o : Origins) (order : List ℕ) (sound : IsSound (setting_at o)) (A : Cell → Type 0) (plain : (cell : Cell) → IsPlain cell → A cell) (P : ℕ → Type 0) (cells_of : DomainCells (length o.program.domains) A) (lifted_calls : LiftedCalls o order A P) (circuit_calls : CircuitCalls o order A P) where
+module _ (facts : Facts) (o : Origins) (order : List ℕ) (sound : IsSound (setting_at o)) (A : Cell → Type 0) (plain : (cell : Cell) → IsPlain cell → A cell) (P : ℕ → Type 0) (cells_of : DomainCells (length o.program.domains) A) (lifted_calls : LiftedCalls o order A P) (circuit_calls : CircuitCalls o order A P) where
   module _ (vars : List TypeTree) (scope : List Variable) (n : ℕ) (ws : List ℕ) (t u : TypeTree) (k : Kind) (kind : HasKind (setting_at o) [] t k) (same : SameTypes t u) (has : HasParts o.program.datas Circuit t ws) (fit : Fits vars scope) (held : PortsHeld (setting_at o) scope) (scoped : AreTermTypes (setting_at o) [] vars) where
     mapped_of : {e : TermTree} → CallShape o e → AllByRecursion P (made_in e) → HasType (setting_at o) [] vars e u → (m : ℕ) (x : TermTree) → head_of e ≡ prim Fmap → operands_of e ≡ made m ∷ x ∷ [] → 1 ≤ wire_count ws → A (Use (module_of (ground_over (setting_at o) order) m) (wires_of scope x) (new_wires n ws))
     mapped_of {e} (a_lifted j it known value (lifted_on_one {d = d} {a = a} {b = b} {x = y})) inside typed m x h es l =
@@ -181,7 +176,7 @@ module _ (o : Origins) (order : List ℕ) (sound : IsSound (setting_at o)) (A : 
     lifted_of (a_lifted j it known value (lifted_on_more {d = d} {a = a} {b = b} {u = g} {x = y} {n = count} before)) inside typed m f x xs h es is_call l =
         let function : g ≡ f = cc in
         let operand : var y ≡ x = cc in
-        let once = lifted_once (is_lifted before) is_call function in
+        let once = facts.built.lifted_once (is_lifted before) is_call function in
         let operands : lifted_on before ++ var y ∷ [] ≡ xs ++ x ∷ [] = λ i. once.1 i ++ operand i ∷ [] in
         let found_use = lifted_calls vars scope (ap_of d a b g (var y)) (suc count) j (lifted_on_more before) n ws t u k it known value typed kind same has fit held scoped (lifted_made P {e = ap_of d a b g (var y)} (lifted_on_more before) inside) l in
         subst (λ m. A (Use (module_of (ground_over (setting_at o) order) m) (wires_of_all scope (xs ++ x ∷ [])) (new_wires n ws))) once.0
@@ -227,9 +222,9 @@ module _ (o : Origins) (order : List ℕ) (sound : IsSound (setting_at o)) (A : 
         let r : n + length (present widths ++ ins) + length p.widths ≤ total = room in
         let fits : n + wire_count widths ≤ total = omega (arith, r, count) in
         let next : n + wire_count widths + length ins + length p.widths ≤ total = omega (arith, r, count) in
-        let at = function_parts kind in
-        let input = term_type (setting_at o) [] t at.0 at.1 (functions_of_terms at.0 k at.3).0 in
-        circuit_body_reads more under form inside typed (record { same = (same_self t, fit.same) }) (held_and (setting_at o) _ scope (record { parts = widths; have = parts; count = count_from n (wire_count widths) }) held) (input, scoped) next (under_from total n (wire_count widths) fits, h)
+        let at = facts.kinds.function_parts kind in
+        let input = facts.kinds.term_type (setting_at o) [] t at.0 at.1 (facts.kinds.functions_of_terms at.0 k at.3).0 in
+        circuit_body_reads more under form inside typed (record { same = (facts.same.same_self t, fit.same) }) (held_and (setting_at o) _ scope (record { parts = widths; have = parts; count = count_from n (wire_count widths) }) held) (input, scoped) next (under_from total n (wire_count widths) fits, h)
     circuit_body_reads (body_lambda parts more) (under_none asks) form inside typed fit held scoped room h = elim form [ ]
     circuit_body_reads (body_block block) (under_one along under) form inside typed fit held scoped room h = elim block [ ]
     circuit_body_reads {scope} (body_block (block_variable {x = x})) (under_none asks) form inside typed fit held scoped room h = (none_reads A plain total, at_under total scope h x)
@@ -237,7 +232,7 @@ module _ (o : Origins) (order : List ℕ) (sound : IsSound (setting_at o)) (A : 
         let r : n + 0 + length p.widths ≤ total = room in
         let fits : n + length p.widths ≤ total = omega (arith, r) in
         let within : ScopeUnder total (reverse b ++ scope) = all_append (λ (v : Variable). Under total v.wires) (reverse b) scope (all_reverse (λ (v : Variable). Under total v.wires) b (bound_under total more fits)) h in
-        let fitting : Fits (with_more (declared g) vars) (reverse b ++ scope) = fits_more (declared g) vars b scope (subst (AreSame (declared g)) (sym (bound_types more)) (are_same_self (declared g))) fit in (
-          group_reads more forms (all_first P (made_in_group g) [] inside) bound fitting (held_onto (setting_at o) b scope (bound_held more) held) (typed_more (setting_at o) [] (declared g) vars (bound_typed bound) scoped) (at_under total (reverse b ++ scope) within) fits,
+        let fitting : Fits (with_more (declared g) vars) (reverse b ++ scope) = fits_more facts (declared g) vars b scope (subst (AreSame (declared g)) (sym (facts.built.bound_types more)) (facts.scopes.are_same_self (declared g))) fit in (
+          group_reads more forms (all_first P (made_in_group g) [] inside) bound fitting (held_onto (setting_at o) b scope (bound_held more) held) (facts.scopes.typed_more (setting_at o) [] (declared g) vars (facts.scopes.bound_typed bound) scoped) (at_under total (reverse b ++ scope) within) fits,
           at_under total (reverse b ++ scope) within x,
         )

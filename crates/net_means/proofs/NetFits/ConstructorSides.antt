@@ -4,14 +4,12 @@ use Rattle.std.proofs.lemmas.List.{length-replicate}
 use Rattle.chw_base.specs.declared.index.WireId.{WireId}
 use Rattle.chw_base.specs.declared.limits.TheConstants.{DATA_BITS}
 use Rattle.chw_bits.specs.Bits.{bits_of}
-use Rattle.chw_bits.proofs.Numbers.{length-bits_of}
 use Rattle.chw_types.specs.declared.kind.Kind.{Kind}
 use Rattle.chw_types.specs.Arguments.{arguments}
 use Rattle.chw_types.specs.SameTypes.{SameTypes}
 use Rattle.chw_types.specs.TypeMoves.{Substitution, sub}
 use Rattle.chw_types.specs.TypeTree.{TypeTree, data_of}
 use Rattle.chw_types.specs.TypeView.{trees_of}
-use Rattle.chw_types.proofs.SameLaws.{same_turned, same_through}
 use Rattle.chw_terms.specs.TermTree.{con}
 use Rattle.chw_typing.specs.Programs.{IsSound}
 use Rattle.chw_typing.specs.Scopes.{Setting, HasKind, AreTermTypes}
@@ -21,10 +19,7 @@ use Rattle.chw_typing.specs.SpineLaws.{ConAtArguments, ConIsSaturated}
 use Rattle.normal_forms.specs.Values.{on_names}
 use Rattle.chw_layout.specs.Encodes.{first_constructor}
 use Rattle.chw_layout.specs.Measured.{fits, tag_width, HasWidth, Measure, Measured, MeasuredFields, no_fields_measured, field_measured}
-use Rattle.chw_layout.proofs.Fitting.{con_width, cons_width, then_fits}
-use Rattle.chw_layout.proofs.Measures.{fields_once}
 use Rattle.layout_laws.specs.SameLayout.{SameKeepsMeasure}
-use Rattle.layout_laws.proofs.Numbering.{has_place}
 use Rattle.netlist.specs.declared.net.Cell.TheVariants.{Const, Join}
 use Rattle.netlist.specs.declared.net.Module.{Module}
 use Rattle.net_built.specs.Bodies.{ValueCells, value_constructor}
@@ -32,6 +27,8 @@ use Rattle.net_built.specs.Data.{constructed}
 use Rattle.net_built.specs.Terms.{Variable, wires_at, wires_of_all}
 use Rattle.net_built.specs.Wires.{wire, new_wires, present, Piece, ◌▸◌, one, after}
 use Rattle.net_built.specs.Words.{zeros}
+use Rattle.net_grounds.specs.Facts.{Facts}
+use Rattle.net_means.proofs.Lists.{length-bits_of}
 use Rattle.net_means.specs.NetFits.Laws.{ground_over}
 use Rattle.net_means.specs.NetFits.Widths.{AreWide, StandFrom, WideAt}
 use Rattle.net_means.proofs.NetFits.CircuitDrivers.{type_count, term_count, types_counted, terms_counted, AllKinded, fields_kinded}
@@ -82,13 +79,13 @@ record FieldWires (all : List ℕ) (wires : List WireId) (total : ℕ) : Type 0 
 fits_is : {a b : ℕ} → fits a ≡ fits b → a ≡ b
 fits_is e = cc
 
-module _ (law : SameKeepsMeasure) (con_args : ConAtArguments) (saturated : ConIsSaturated) (s : Setting) (all : List ℕ) (sound : IsSound s) (vars : List TypeTree) (scope : List Variable) (fit : Fits vars scope) (wide : (y : ℕ) → WideAt s.datas all scope y) where
+module _ (facts : Facts) (law : SameKeepsMeasure) (con_args : ConAtArguments) (saturated : ConIsSaturated) (s : Setting) (all : List ℕ) (sound : IsSound s) (vars : List TypeTree) (scope : List Variable) (fit : Fits vars scope) (wide : (y : ℕ) → WideAt s.datas all scope y) where
   field_wires : (fs : List TypeTree) (σ : Substitution) (xs : List ℕ) (m : Measure) (total : ℕ) → MeasuredFields s.datas fs σ m → m ≡ fits total → total ≤ DATA_BITS → AllKinded s σ fs → AreGiven s [] vars (map (λ f. sub f σ) fs) (names xs) → FieldWires all (wires_of_all scope (names xs)) total
   field_wires [] σ [] m total no_fields_measured e l kinded given = record { widths = []; wide = tt; are = fits_is e }
   field_wires [] σ (x ∷ xs) m total measured e l kinded given = absurd given
   field_wires (f ∷ fs) σ [] m total measured e l kinded given = absurd given
   field_wires (f ∷ fs) σ (x ∷ xs) m total (field_measured {m = one_of} {n = others} a more) e l kinded given =
-      let sum = then_fits one_of others total (sym e) in
+      let sum = facts.measures.then_fits one_of others total (sym e) in
       let is : total ≡ sum.a + sum.b = let whole = sum.is in omega (arith, whole, l) in
       let here : HasWidth s.datas (sub f σ) sum.a = subst (λ m. Measured s.datas (sub f σ) m) sum.one a in
       let rest = field_wires fs σ xs others sum.b more sum.others (omega (arith, is, l)) kinded.1 given.1 in
@@ -98,28 +95,28 @@ module _ (law : SameKeepsMeasure) (con_args : ConAtArguments) (saturated : ConIs
       record {
         widths = present (sum.a ∷ []) ++ rest.widths;
         wide = wide_append all (wires_at scope x) (wires_of_all scope (names xs)) (present (sum.a ∷ [])) rest.widths
-            (variable_wide law s all sound vars scope x (sub f σ) given.0.type kinded.0.0 sum.a fit (wide x) given.0.has kinded.0.1 given.0.same here) rest.wide;
+            (variable_wide facts law s all sound vars scope x (sub f σ) given.0.type kinded.0.0 sum.a fit (wide x) given.0.has kinded.0.1 given.0.same here) rest.wide;
         are = omega (arith, joined, single, others_are, is);
       }
 
   pub constructor_agrees : (earlier : List Module) (scoped : AreTermTypes s [] vars) {order : List ℕ} {n w : ℕ} (t u : TypeTree) (k : Kind) (c : ℕ) (types : List TypeTree) (xs : List ℕ) {p : Piece} → HasKind s [] t k → SameTypes t u → HasWidth s.datas t w → StandFrom all n p.widths
       → HasType s [] vars (on_names (con c) types xs) u → ValueCells (ground_over s order) scope n w (con c) types (names xs) p → Agree earlier all p
   constructor_agrees earlier scoped {n = n} {w = w} t u k c types xs kind same has stand typed (value_constructor {fields = fields} {it = it} known measured) =
-      let args = saturated s [] vars c it (types_then types (names xs)) u sound scoped known typed (wide_asks has same) in
+      let args = saturated s [] vars c it (types_then types (names xs)) u sound scoped known typed (wide_asks facts has same) in
       let are : types_then types (names xs) ≡ types_then args.0.types args.0.es =
       args.0.are ∙ ap (λ more. types_then args.0.types args.0.es ++ more) args.1 ∙ append-nil (types_then args.0.types args.0.es) in
       let on_types : length types ≡ length it.it.params = sym (types_counted types (names xs)) ∙ ap (λ args. type_count args) are ∙ types_counted args.0.types args.0.es ∙ args.0.on_types in
       let on_terms : length (names xs) ≡ length it.decl.fields = sym (terms_counted types (names xs)) ∙ ap (λ args. term_count args) are ∙ terms_counted args.0.types args.0.es ∙ args.0.on_terms in
       let at = con_args s [] vars c it types (names xs) u sound scoped known on_types on_terms typed in
-      let whole : HasWidth s.datas (data_of it.of (trees_of types)) w = law (fits w) s t (data_of it.of (trees_of types)) sound (record { kind = k; has = kind; same = same_through same (same_turned at.2) }) has in
-      let place = has_place s.datas c it known in
-      let x = cons_width it.it place.in_datas whole in
-      let y = con_width it.it.cons place.place it.decl place.in_cons x.cons in
-      let is : fields ≡ y.s = fits_is (fields_once measured y.fields) in
+      let whole : HasWidth s.datas (data_of it.of (trees_of types)) w = law (fits w) s t (data_of it.of (trees_of types)) sound (record { kind = k; has = kind; same = facts.same.same_through same (facts.same.same_turned at.2) }) has in
+      let place = facts.constructors.has_place s.datas c it known in
+      let x = facts.widths.cons_width it.it place.in_datas whole in
+      let y = facts.widths.con_width it.it.cons place.place it.decl place.in_cons x.cons in
+      let is : fields ≡ y.s = fits_is (facts.measures.fields_once measured y.fields) in
       let all_is = x.is in
       let limit = x.within in
       let less = y.within in
       let small : fields ≤ DATA_BITS = omega (arith, is, all_is, limit, less) in
       let room : tag_width (length it.it.cons) + fields ≤ w = omega (arith, is, all_is, less) in
-      let wires = field_wires it.decl.fields (arguments (trees_of types)) xs (fits fields) fields measured refl small (fields_kinded s sound c it (trees_of types) known at.0) at.1 in
+      let wires = field_wires it.decl.fields (arguments (trees_of types)) xs (fits fields) fields measured refl small (fields_kinded facts s sound c it (trees_of types) known at.0) at.1 in
       constructed_agrees earlier all (tag_width (length it.it.cons)) (c - first_constructor s.datas it.of) fields w n (wires_of_all scope (names xs)) wires.widths wires.wide wires.are room stand

@@ -17,8 +17,8 @@ use Rattle.net_built.specs.Built.{Built, ground_of}
 use Rattle.net_built.specs.Circuits.{Ground}
 use Rattle.net_built.specs.Modules.{IsModuleOf, AreModules, HasOutputs, Visited, already, without_outputs, behind_its_uses, AllVisited, none_visited, visited_and}
 use Rattle.net_built.specs.Wires.{wire_count}
-use Rattle.net_built.proofs.NoLoops.{normal_free}
-use Rattle.net_built.proofs.Parts.{same_some}
+use Rattle.net_grounds.specs.Facts.{Facts}
+use Rattle.net_means.proofs.Lists.{same_some}
 use Rattle.net_means.proofs.NetFits.EachOnce.{DrivesEachOnce}
 use Rattle.net_means.proofs.NetFits.Outputs.{outputs_counted}
 
@@ -82,13 +82,13 @@ none_output : (datas : List Data) (state : List Made) → EachOutputs datas stat
 none_output datas state = record { each = λ i m e. absurd cc }
 
 -- the module of a made definition with an output has one
-pub has_output : FieldsKeepSame → SameKeepsMeasure → StatesHaveTypedOrigins → (p : Program) (state : List Made) (order : List ℕ) (m : ℕ) (it : Made) (built : Module) (count : ℕ) → IsTypedState p state → IsNormal p state → slice_get state m ≡ Some it → IsModuleOf (ground_of p order) it built → HasOutputs p.datas it (suc count) → 1 ≤ length built.outputs
-has_output keep law typed_origins p state order m it built count typed normal is made_of some =
+pub has_output : Facts → FieldsKeepSame → SameKeepsMeasure → StatesHaveTypedOrigins → (p : Program) (state : List Made) (order : List ℕ) (m : ℕ) (it : Made) (built : Module) (count : ℕ) → IsTypedState p state → IsNormal p state → slice_get state m ≡ Some it → IsModuleOf (ground_of p order) it built → HasOutputs p.datas it (suc count) → 1 ≤ length built.outputs
+has_output facts keep law typed_origins p state order m it built count typed normal is made_of some =
     let body = normal.bodies m it is in
     let sound = (typed_origins p state typed).sound in
     let closed = (typed.each m it is).closed in
     let counted : length built.outputs ≡ wire_count some.widths =
-    outputs_counted keep law (setting_at (origins_in p state)) order it.sort it.body body.inner it.ty body.typed.type closed.kind body.path body.vars made_of.inputs made_of.cells built.outputs some.widths sound made_of.body body.under body.typed.has closed.has body.typed.same (λ v. normal_free p state normal m it is v) some.parts in
+    outputs_counted facts keep law (setting_at (origins_in p state)) order it.sort it.body body.inner it.ty body.typed.type closed.kind body.path body.vars made_of.inputs made_of.cells built.outputs some.widths sound made_of.body body.under body.typed.has closed.has body.typed.same (λ v. facts.built.normal_free p state normal m it is v) some.parts in
     let are = some.are in
     omega (arith, counted, are)
 
@@ -104,15 +104,15 @@ some_outputs p state net of i m less here =
     let before = before_last below 0 i m within (subst (λ l. slice_get l i ≡ Some m) whole here) in
     (all_output of.is_order.visited (none_output p.datas state)).each i m before
 
-pub drivers_hold : FieldsKeepSame → SameKeepsMeasure → StatesHaveTypedOrigins → (p : Program) (state : List Made) (net : Net) (i : ℕ) (built : Module) → IsTypedState p state → IsNormal p state → (of : Built p state net) → slice_get net.modules i ≡ Some built → DrivesEachOnce built → DriversHold net i built
-drivers_hold keep law typed_origins p state net i built typed normal of here drives =
+pub drivers_hold : Facts → FieldsKeepSame → SameKeepsMeasure → StatesHaveTypedOrigins → (p : Program) (state : List Made) (net : Net) (i : ℕ) (built : Module) → IsTypedState p state → IsNormal p state → (of : Built p state net) → slice_get net.modules i ≡ Some built → DrivesEachOnce built → DriversHold net i built
+drivers_hold facts keep law typed_origins p state net i built typed normal of here drives =
     record {
       inputs = drives.inputs;
       drivers = drives.once;
       outputs = λ less.
           let at = module_at (ground_of p of.order) state of.order net.modules i built of.modules here in
           let out = some_outputs p state net of i at.number less at.here in
-          has_output keep law typed_origins p state of.order at.number at.it built out.1 typed normal at.is at.made_of (subst (λ it. HasOutputs p.datas it (suc out.1)) (sym (same_some at.is out.2)) out.3);
+          has_output facts keep law typed_origins p state of.order at.number at.it built out.1 typed normal at.is at.made_of (subst (λ it. HasOutputs p.datas it (suc out.1)) (sym (same_some at.is out.2)) out.3);
     }
 
 -- the top has a module

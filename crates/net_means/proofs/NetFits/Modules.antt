@@ -17,21 +17,21 @@ use Rattle.rule_types.specs.States.{IsTypedState, StatesHaveTypedOrigins}
 use Rattle.net_built.specs.Bodies.{BodyBuilt}
 use Rattle.net_built.specs.Built.{Built, ground_of}
 use Rattle.net_built.specs.Modules.{IsModuleOf, AreModules}
-use Rattle.net_built.proofs.NoLoops.{normal_free}
+use Rattle.net_grounds.specs.Facts.{Facts}
 use Rattle.net_means.proofs.NetFits.CircuitBodies.{circuit_body_ordered}
 use Rattle.net_means.proofs.NetFits.EachOnce.{DrivesEachOnce, module_drives}
 use Rattle.net_means.proofs.NetFits.ValueDrivers.{value_body_ordered}
 
-module _ (keep : FieldsKeepSame) (law : SameKeepsMeasure) (con_args : ConAtArguments) (saturated : ConIsSaturated) (prim_args : PrimAtArguments) (typed_origins : StatesHaveTypedOrigins) where
+module _ (facts : Facts) (keep : FieldsKeepSame) (law : SameKeepsMeasure) (con_args : ConAtArguments) (saturated : ConIsSaturated) (prim_args : PrimAtArguments) (typed_origins : StatesHaveTypedOrigins) where
   by_sort : (p : Program) (state : List Made) (order : List ℕ) (m : ℕ) (it : Made) (built : Module) (sort : Sort) → IsTypedState p state → IsNormal p state → slice_get state m ≡ Some it → IsModuleOf (ground_of p order) it built → it.sort ≡ sort → DrivesEachOnce built
   by_sort p state order m it built Value typed normal is made_of value =
       let body = normal.bodies m it is in
       let sound = (typed_origins p state typed).sound in
-      let free = normal_free p state normal m it is value in
+      let free = facts.built.normal_free p state normal m it is value in
       let of_value : BodyBuilt (ground_of p order) Value [] 0 it.body made_of.inputs made_of.cells built.outputs =
       subst (λ sort. BodyBuilt (ground_of p order) sort [] 0 it.body made_of.inputs made_of.cells built.outputs) value made_of.body in
       module_drives (ground_of p order) it built made_of
-      (value_body_ordered law (setting_at (origins_in p state)) order it.body body.typed.type made_of.inputs made_of.cells built.outputs sound body.typed.has free of_value)
+      (value_body_ordered facts law (setting_at (origins_in p state)) order it.body body.typed.type made_of.inputs made_of.cells built.outputs sound body.typed.has free of_value)
   by_sort p state order m it built Circuit typed normal is made_of circuit =
       let body = normal.bodies m it is in
       let sound = (typed_origins p state typed).sound in
@@ -39,7 +39,7 @@ module _ (keep : FieldsKeepSame) (law : SameKeepsMeasure) (con_args : ConAtArgum
       let of_circuit : BodyBuilt (ground_of p order) Circuit [] 0 it.body made_of.inputs made_of.cells built.outputs =
       subst (λ sort. BodyBuilt (ground_of p order) sort [] 0 it.body made_of.inputs made_of.cells built.outputs) circuit made_of.body in
       module_drives (ground_of p order) it built made_of
-      (circuit_body_ordered keep law con_args saturated prim_args (origins_in p state) order it.body body.inner it.ty body.typed.type body.path body.vars made_of.inputs made_of.cells built.outputs sound body.typed.has body.under form of_circuit)
+      (circuit_body_ordered facts keep law con_args saturated prim_args (origins_in p state) order it.body body.inner it.ty body.typed.type body.path body.vars made_of.inputs made_of.cells built.outputs sound body.typed.has body.under form of_circuit)
 
   pub made_module_drives : (p : Program) (state : List Made) (order : List ℕ) (m : ℕ) (it : Made) (built : Module) → IsTypedState p state → IsNormal p state → slice_get state m ≡ Some it → IsModuleOf (ground_of p order) it built → DrivesEachOnce built
   made_module_drives p state order m it built typed normal is made_of = by_sort p state order m it built it.sort typed normal is made_of refl

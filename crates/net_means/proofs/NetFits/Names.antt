@@ -8,7 +8,6 @@ use Rattle.chw_types.specs.declared.kind.Kind.{Kind}
 use Rattle.chw_types.specs.TypeTree.{TypeTree}
 use Rattle.type_laws.specs.SameKept.{FieldsKeepSame}
 use Rattle.chw_typing.specs.Scopes.{Setting, HasKind}
-use Rattle.chw_typing.proofs.Lists.{found_in_map}
 use Rattle.chw_terms.specs.declared.program.Program.{Program}
 use Rattle.chw_terms.specs.declared.scene.Made.{Made}
 use Rattle.chw_terms.specs.declared.scene.Sort.{Sort}
@@ -34,8 +33,8 @@ use Rattle.net_built.specs.Data.{HasParts, value_part}
 use Rattle.net_built.specs.Modules.{IsModuleOf, made_in}
 use Rattle.net_built.specs.Terms.{operands_of, result_of, wires_at, wires_of_all}
 use Rattle.net_built.specs.Wires.{wire_count, new_wires, Piece}
-use Rattle.net_built.proofs.Parts.{same_some, parts_once}
-use Rattle.net_built.proofs.NoLoops.{normal_free}
+use Rattle.net_grounds.specs.Facts.{Facts}
+use Rattle.net_means.proofs.Lists.{found_in_map, same_some}
 use Rattle.net_means.specs.NetFits.Laws.{NamesThere}
 use Rattle.net_means.proofs.NetFits.CircuitBodies.{circuit_body_ordered}
 use Rattle.net_means.proofs.NetFits.Calls.{ParamParts, VarCount, body_params, spine_called, called_whole, result_parts, lifted_on, lifted_called, lifted_whole, lifted_parts}
@@ -92,7 +91,7 @@ nowhere : (total x : ℕ) → Under total (wires_at [] x)
 nowhere total zero = tt
 nowhere total (suc x) = tt
 
-module _ (keep : FieldsKeepSame) (law : SameKeepsMeasure) (con_args : ConAtArguments) (saturated : ConIsSaturated) (prim_args : PrimAtArguments) (typed_origins : StatesHaveTypedOrigins) (p : Program) (state : List Made) (net : Net) (of : Built p state net) (typed : IsTypedState p state) (normal : IsNormal p state) where
+module _ (facts : Facts) (keep : FieldsKeepSame) (law : SameKeepsMeasure) (con_args : ConAtArguments) (saturated : ConIsSaturated) (prim_args : PrimAtArguments) (typed_origins : StatesHaveTypedOrigins) (p : Program) (state : List Made) (net : Net) (of : Built p state net) (typed : IsTypedState p state) (normal : IsNormal p state) where
   -- the type of a made definition
   type_known : (m : ℕ) (it : Made) → slice_get state m ≡ Some it → slice_get (setting_at (origins_in p state)).made m ≡ Some it.ty
   type_known m it is = found_in_map (λ (x : MadeOf). x.ty) (map made_of state) m (made_of it) (found_in_map made_of state m it is)
@@ -109,7 +108,7 @@ module _ (keep : FieldsKeepSame) (law : SameKeepsMeasure) (con_args : ConAtArgum
       → UseExists (take i net.modules) (place_in of.order m) reads (new_wires n ws)
   use_exists i l sort m it known value (inl (jt, is, none)) reads n ws some result inputs =
       let parts = subst (λ sort. HasParts p.datas sort (result_of jt.ty) ws) (sym (sort_of m it jt sort known value is)) (result jt.ty (type_known m jt is)) in
-      let same : none.widths ≡ ws = parts_once none.parts parts in
+      let same : none.widths ≡ ws = facts.built.parts_once none.parts parts in
       let count : wire_count none.widths ≡ wire_count ws = ap (λ ws. wire_count ws) same in
       let are = none.are in
       absurd (omega (arith, some, count, are))
@@ -120,10 +119,10 @@ module _ (keep : FieldsKeepSame) (law : SameKeepsMeasure) (con_args : ConAtArgum
       let sound = (typed_origins p state typed).sound in
       let closed = (typed.each m u.it u.is).closed in
       let sorts = sort_of m it u.it sort known value u.is in
-      let params = body_params keep law s sound u.made_of.body body.under body.typed.has body.typed.same in
+      let params = body_params facts keep law s sound u.made_of.body body.under body.typed.has body.typed.same in
       let parts = subst (λ sort. HasParts p.datas sort (result_of u.it.ty) ws) (sym sorts) (result u.it.ty (type_known m u.it u.is)) in
       let counted : length u.used.outputs ≡ wire_count ws =
-      outputs_counted keep law s of.order u.it.sort u.it.body body.inner u.it.ty body.typed.type closed.kind body.path body.vars u.made_of.inputs u.made_of.cells u.used.outputs ws sound u.made_of.body body.under body.typed.has closed.has body.typed.same (λ v. normal_free p state normal m u.it u.is v) parts in
+      outputs_counted facts keep law s of.order u.it.sort u.it.body body.inner u.it.ty body.typed.type closed.kind body.path body.vars u.made_of.inputs u.made_of.cells u.used.outputs ws sound u.made_of.body body.under body.typed.has closed.has body.typed.same (λ v. facts.built.normal_free p state normal m u.it u.is v) parts in
       record {
         used = u.used;
         found = u.found;
@@ -139,30 +138,30 @@ module _ (keep : FieldsKeepSame) (law : SameKeepsMeasure) (con_args : ConAtArgum
       let counts : VarCount s Value vars scope =
       λ x t u k ws has kind same parts.
       let v = value_width parts in
-      variable_sized law s sound vars scope x t u k v.0 fit (sized x) has kind same v.1 ∙ ap (λ ws. wire_count ws) (sym v.2) in
+      variable_sized facts law s sound vars scope x t u k v.0 fit (sized x) has kind same v.1 ∙ ap (λ ws. wire_count ws) (sym v.2) in
       use_exists i l Value m it known value before (wires_of_all scope (operands_of e)) n (w ∷ []) some
-      (λ whole found. result_parts keep law s sound vars m whole found e t u k (w ∷ []) head types has kind same (value_part wide))
+      (λ whole found. result_parts facts keep law s sound vars m whole found e t u k (w ∷ []) head types has kind same (value_part wide))
       (λ whole j ins r found of_kind params.
-      called_whole keep law s sound t u k (w ∷ []) (wires_of_all scope (operands_of e)) ins r (spine_called s Value vars scope m whole j ins r counts found of_kind params e u head types variables has) kind same (value_part wide))
+      called_whole facts keep law s sound t u k (w ∷ []) (wires_of_all scope (operands_of e)) ins r (spine_called facts s Value vars scope m whole j ins r counts found of_kind params e u head types variables has) kind same (value_part wide))
 
   circuit_calls : (i : ℕ) → i ≤ length of.order → CircuitCalls (origins_in p state) of.order (λ cell. PartExists (length net.ports.domains) (take i net.modules) cell) (λ m. BeforePlace p.datas state of.order i m)
   circuit_calls i l = λ vars scope e m n ws t u k it known circuit head types variables has kind same parts fit held before some.
       let s : Setting = setting_at (origins_in p state) in
       let sound = (typed_origins p state typed).sound in
-      let counts : VarCount s Circuit vars scope = λ x t u k ws has kind same parts. port_count keep law s sound vars scope x t u k ws fit held has kind same parts in
+      let counts : VarCount s Circuit vars scope = λ x t u k ws has kind same parts. port_count facts keep law s sound vars scope x t u k ws fit held has kind same parts in
       use_exists i l Circuit m it known circuit before (wires_of_all scope (operands_of e)) n ws some
-      (λ whole found. result_parts keep law s sound vars m whole found e t u k ws head types has kind same parts)
+      (λ whole found. result_parts facts keep law s sound vars m whole found e t u k ws head types has kind same parts)
       (λ whole j ins r found of_kind params.
-      called_whole keep law s sound t u k ws (wires_of_all scope (operands_of e)) ins r (spine_called s Circuit vars scope m whole j ins r counts found of_kind params e u head types variables has) kind same parts)
+      called_whole facts keep law s sound t u k ws (wires_of_all scope (operands_of e)) ins r (spine_called facts s Circuit vars scope m whole j ins r counts found of_kind params e u head types variables has) kind same parts)
 
   lifted_calls : (i : ℕ) → i ≤ length of.order → LiftedCalls (origins_in p state) of.order (λ cell. PartExists (length net.ports.domains) (take i net.modules) cell) (λ m. BeforePlace p.datas state of.order i m)
   lifted_calls i l = λ vars scope e count m lifted n ws t u k it known value has kind same parts fit held scoped before some.
       let s : Setting = setting_at (origins_in p state) in
       let sound = (typed_origins p state typed).sound in
       use_exists i l Value m it known value before (wires_of_all scope (lifted_on lifted)) n ws some
-      (λ whole found. lifted_parts keep law prim_args s sound vars scope fit held scoped whole found lifted t u k ws has kind same parts)
+      (λ whole found. lifted_parts facts keep law prim_args s sound vars scope fit held scoped whole found lifted t u k ws has kind same parts)
       (λ whole j ins r found of_kind params.
-      lifted_whole keep law prim_args s sound vars scope fit held scoped t u k ws (wires_of_all scope (lifted_on lifted)) ins r (lifted_called keep law prim_args s sound vars scope fit held scoped m whole j ins r found of_kind params lifted u has) kind same parts)
+      lifted_whole facts keep law prim_args s sound vars scope fit held scoped t u k ws (wires_of_all scope (lifted_on lifted)) ins r (lifted_called facts keep law prim_args s sound vars scope fit held scoped m whole j ins r found of_kind params lifted u has) kind same parts)
 
   domain_cells : (i : ℕ) → DomainCells (length p.domains) (λ cell. PartExists (length net.ports.domains) (take i net.modules) cell)
   domain_cells i =
@@ -175,13 +174,13 @@ module _ (keep : FieldsKeepSame) (law : SameKeepsMeasure) (con_args : ConAtArgum
       let body = normal.bodies m it is in
       let s : Setting = setting_at (origins_in p state) in
       let sound = (typed_origins p state typed).sound in
-      let free = normal_free p state normal m it is value in
+      let free = facts.built.normal_free p state normal m it is value in
       let form = subst (λ sort. HasForm (origins_in p state) sort body.vars body.inner) value body.form in
       let total : ℕ = length inputs + length cells.widths in
       let room : 0 + length inputs + length cells.widths ≤ total = omega arith in
-      let all = body_reads law (origins_in p state) of.order sound (λ cell. PartExists (length net.ports.domains) (take i net.modules) cell) (plain_part (length net.ports.domains) (take i net.modules)) (λ m. BeforePlace p.datas state of.order i m) (value_calls i l) total built body.under form before body.typed.has (record { same = tt }) (none_sized s) room (λ l y. nowhere total y) free in
+      let all = body_reads facts law (origins_in p state) of.order sound (λ cell. PartExists (length net.ports.domains) (take i net.modules) cell) (plain_part (length net.ports.domains) (take i net.modules)) (λ m. BeforePlace p.datas state of.order i m) (value_calls i l) total built body.under form before body.typed.has (record { same = tt }) (none_sized s) room (λ l y. nowhere total y) free in
       record {
-        order = value_body_ordered law s of.order it.body body.typed.type inputs cells outputs sound body.typed.has free built;
+        order = value_body_ordered facts law s of.order it.body body.typed.type inputs cells outputs sound body.typed.has free built;
         reads = all.0;
         outputs_there = λ l. all.1 (l refl);
       }
@@ -192,10 +191,10 @@ module _ (keep : FieldsKeepSame) (law : SameKeepsMeasure) (con_args : ConAtArgum
       let form = subst (λ sort. HasForm (origins_in p state) sort body.vars body.inner) circuit body.form in
       let total : ℕ = length inputs + length cells.widths in
       let room : 0 + length inputs + length cells.widths ≤ total = omega arith in
-      let all = circuit_body_reads (origins_in p state) of.order sound (λ cell. PartExists (length net.ports.domains) (take i net.modules) cell) (plain_part (length net.ports.domains) (take i net.modules)) (λ m. BeforePlace p.datas state of.order i m) (domain_cells i) (lifted_calls i l) (circuit_calls i l) total built body.under form before body.typed.has (record { same = tt }) (none_held s) tt room tt in
+      let all = circuit_body_reads facts (origins_in p state) of.order sound (λ cell. PartExists (length net.ports.domains) (take i net.modules) cell) (plain_part (length net.ports.domains) (take i net.modules)) (λ m. BeforePlace p.datas state of.order i m) (domain_cells i) (lifted_calls i l) (circuit_calls i l) total built body.under form before body.typed.has (record { same = tt }) (none_held s) tt room tt in
       record {
         order =
-            circuit_body_ordered keep law con_args saturated prim_args (origins_in p state) of.order it.body body.inner it.ty body.typed.type body.path body.vars inputs cells outputs sound body.typed.has body.under form built;
+            circuit_body_ordered facts keep law con_args saturated prim_args (origins_in p state) of.order it.body body.inner it.ty body.typed.type body.path body.vars inputs cells outputs sound body.typed.has body.under form built;
         reads = all.0;
         outputs_there = λ l. all.1;
       }

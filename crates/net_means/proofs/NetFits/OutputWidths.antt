@@ -26,8 +26,8 @@ use Rattle.net_built.specs.Data.{HasParts}
 use Rattle.net_built.specs.Modules.{IsModuleOf, HasOutputs}
 use Rattle.net_built.specs.Terms.{result_of}
 use Rattle.net_built.specs.Wires.{present, wire_count}
-use Rattle.net_built.proofs.NoLoops.{normal_free}
-use Rattle.net_built.proofs.Parts.{same_some}
+use Rattle.net_grounds.specs.Facts.{Facts}
+use Rattle.net_means.proofs.Lists.{same_some}
 use Rattle.net_means.specs.NetFits.Widths.{AreWide, StandFrom}
 use Rattle.net_means.proofs.NetFits.Drivers.{module_at, has_output, some_outputs}
 use Rattle.net_means.proofs.NetFits.Names.{circuit_outputs}
@@ -40,7 +40,7 @@ some_wire : (all : List ℕ) (ws : List WireId) → AllByRecursion (IsWire all) 
 some_wire all [] h l = absurd (omega (arith, l))
 some_wire all (w ∷ ws) h l = let here = h.0 in omega (arith, here)
 
-module _ (law : SameKeepsMeasure) (typed_origins : StatesHaveTypedOrigins) (p : Program) (state : List Made) (net : Net) (typed : IsTypedState p state) (normal : IsNormal p state) (of : Built p state net) where
+module _ (facts : Facts) (law : SameKeepsMeasure) (typed_origins : StatesHaveTypedOrigins) (p : Program) (state : List Made) (net : Net) (typed : IsTypedState p state) (normal : IsNormal p state) (of : Built p state net) where
   pub value_outputs : (number w : ℕ) (it : Made) (built : Module) → slice_get state number ≡ Some it → it.sort ≡ Value → IsModuleOf (ground_of p of.order) it built → HasWidth p.datas (result_of it.ty) w → AreWide built.widths built.outputs (present (w ∷ []))
   value_outputs number w it built is value made_of has =
       let o : Origins = origins_in p state in
@@ -51,8 +51,8 @@ module _ (law : SameKeepsMeasure) (typed_origins : StatesHaveTypedOrigins) (p : 
       let built_so : BodyBuilt (ground_of p of.order) Value [] 0 it.body made_of.inputs made_of.cells built.outputs =
       subst (λ (sort : Sort). BodyBuilt (ground_of p of.order) sort [] 0 it.body made_of.inputs made_of.cells built.outputs) value made_of.body in
       let form : IsBlock o body.vars body.inner = subst (λ (sort : Sort). HasForm o sort body.vars body.inner) value body.form in
-      body_wide law o s of.order built.widths sound built_so body.under form body.typed.has closed.has body.typed.same (record { same = tt }) tt
-      (subst (StandFrom built.widths 0) made_of.are_widths (all_stand built.widths)) (none_wide p.datas built.widths) (normal_free p state normal number it is value) w has
+      body_wide facts law o s of.order built.widths sound built_so body.under form body.typed.has closed.has body.typed.same (record { same = tt }) tt
+      (subst (StandFrom built.widths 0) made_of.are_widths (all_stand built.widths)) (none_wide facts p.datas built.widths) (facts.built.normal_free p state normal number it is value) w has
 
   value_wires : (number count : ℕ) (it : Made) (built : Module) → slice_get state number ≡ Some it → it.sort ≡ Value → IsModuleOf (ground_of p of.order) it built → HasOutputs p.datas it (suc count) → 1 ≤ length built.widths
   value_wires number count it built is value made_of out =
@@ -64,13 +64,13 @@ module _ (law : SameKeepsMeasure) (typed_origins : StatesHaveTypedOrigins) (p : 
       let are = out.are in
       wide_some built.widths built.outputs (present (w.0 ∷ [])) wide (omega (arith, size, count_is, are))
 
-module _ (keep : FieldsKeepSame) (law : SameKeepsMeasure) (con_args : ConAtArguments) (saturated : ConIsSaturated) (prim_args : PrimAtArguments) (typed_origins : StatesHaveTypedOrigins) (p : Program) (state : List Made) (net : Net) (of : Built p state net) (typed : IsTypedState p state) (normal : IsNormal p state) where
+module _ (facts : Facts) (keep : FieldsKeepSame) (law : SameKeepsMeasure) (con_args : ConAtArguments) (saturated : ConIsSaturated) (prim_args : PrimAtArguments) (typed_origins : StatesHaveTypedOrigins) (p : Program) (state : List Made) (net : Net) (of : Built p state net) (typed : IsTypedState p state) (normal : IsNormal p state) where
   wires_by : (sort : Sort) (i : ℕ) → i ≤ length of.order → (number count : ℕ) (it : Made) (built : Module) → it.sort ≡ sort → slice_get of.order i ≡ Some number → slice_get state number ≡ Some it → IsModuleOf (ground_of p of.order) it built → HasOutputs p.datas it (suc count) → 1 ≤ length built.widths
-  wires_by Value i l number count it built value here is made_of out = value_wires law typed_origins p state net typed normal of number count it built is value made_of out
+  wires_by Value i l number count it built value here is made_of out = value_wires facts law typed_origins p state net typed normal of number count it built is value made_of out
   wires_by Circuit i l number count it built circuit here is made_of out =
       let before = (order_behind p state net of).each i number it here is in
-      some_wire built.widths built.outputs (circuit_outputs keep law con_args saturated prim_args typed_origins p state net of typed normal i l number it built is before made_of circuit)
-      (has_output keep law typed_origins p state of.order number it built count typed normal is made_of out)
+      some_wire built.widths built.outputs (circuit_outputs facts keep law con_args saturated prim_args typed_origins p state net of typed normal i l number it built is before made_of circuit)
+      (has_output facts keep law typed_origins p state of.order number it built count typed normal is made_of out)
 
   pub some_wires : (i : ℕ) (built : Module) → slice_get net.modules i ≡ Some built → i + 1 < length net.modules → 1 ≤ length built.widths
   some_wires i built here less =

@@ -22,15 +22,14 @@ use Rattle.chw_terms.specs.declared.program.Program.{Program}
 use Rattle.chw_terms.specs.declared.scene.Made.{Made}
 use Rattle.chw_typing.specs.Programs.{IsSound}
 use Rattle.chw_typing.specs.Scopes.{Setting, HasKind}
-use Rattle.chw_typing.proofs.Kinded.{function_parts}
-use Rattle.chw_typing.proofs.Lists.{found_in_map}
 use Rattle.chw_meaning.specs.Means.{HasPorts, LeadsFrom, leads_to, leads_from, PortsOf, no_ports, port_and, no_port_and}
 use Rattle.name_tables.specs.Names.{AreDistinct, is_among, place_of}
 use Rattle.net_rules.specs.PortsHold.{PortsHold, RiseWithin, FitsPort, full_name}
 use Rattle.rewriting.specs.Steps.{origins_in}
 use Rattle.rewriting.specs.Origins.{setting_at}
 use Rattle.rule_types.specs.States.{IsTypedState, StatesHaveTypedOrigins}
-use Rattle.net_built.proofs.Parts.{same_some}
+use Rattle.net_grounds.specs.Facts.{Facts}
+use Rattle.net_means.proofs.Lists.{found_in_map, same_some}
 use Rattle.net_means.proofs.NetFits.CircuitDrivers.{AllKinded, all_kinded}
 use Rattle.net_means.proofs.NetFits.Reading.{all_append}
 
@@ -44,12 +43,12 @@ signal_domain s d t k (kind_signal (kind_domain l) of) = l
 data_kinds : (s : Setting) (d : ℕ) (ts : TypeTrees) (it : Data) (k : Kind) → slice_get s.datas d ≡ Some it → HasKind s [] (data_of d ts) k → KindsOf s.datas s.domains [] ts it.params
 data_kinds s d ts it k known (kind_data there kinds) = subst (λ (it : Data). KindsOf s.datas s.domains [] ts it.params) (same_some there known) kinds
 
-module _ (s : Setting) (sound : IsSound s) where
+module _ (facts : Facts) (s : Setting) (sound : IsSound s) where
   mutual
     leaf_domains : {t : TypeTree} {ls : List Leaf} (k : Kind) → Leaves s.datas t ls → HasKind s [] t k → AllByRecursion (InDomain s.domains) ls
     leaf_domains k (one_leaf {dom = dom} {t = t} r) kind = (signal_domain s dom.number t k kind, tt)
     leaf_domains k (leaves_of_fields {d = d} {it = it} {ts = ts} {c = c} known as_many one fields a) kind =
-        let all = all_kinded s sound d it ts c.fields known (data_kinds s d ts it k known kind) (λ i f e. record { con = 0; of = c; is_con = ap (λ cs. slice_get cs 0) one; at = i; is_field = e }) in
+        let all = all_kinded facts s sound d it ts c.fields known (data_kinds s d ts it k known kind) (λ i f e. record { con = 0; of = c; is_con = ap (λ cs. slice_get cs 0) one; at = i; is_field = e }) in
         fields_domains a (subst (AllKinded s (arguments ts)) fields all)
 
     fields_domains : {fs : List TypeTree} {σ : Substitution} {ls : List Leaf} → LeavesOfAll s.datas fs σ ls → AllKinded s σ fs → AllByRecursion (InDomain s.domains) ls
@@ -59,7 +58,7 @@ module _ (s : Setting) (sound : IsSound s) where
   led_domains : {t : TypeTree} {ins outs : List Leaf} (k : Kind) → LeadsFrom s.datas t ins outs → HasKind s [] t k → AllByRecursion (InDomain s.domains) ins × AllByRecursion (InDomain s.domains) outs
   led_domains k (leads_to l) kind = (tt, leaf_domains k l kind)
   led_domains k (leads_from {ls = ls} {ins = ins} l more) kind =
-      let at = function_parts kind in
+      let at = facts.kinds.function_parts kind in
       let rest = led_domains k more at.2 in
       (all_append (InDomain s.domains) ls ins (leaf_domains at.0 l at.1) rest.0, rest.1)
 
@@ -140,14 +139,14 @@ resets_rise least count (d ∷ ds) h =
     let next : suc d.number ≡ d.number + 1 = omega arith in
     (h.0, h.1, resets_rise (d.number + 1) count ds (subst (λ n. AreOrderedFrom n count ds) next h.2))
 
-pub ports_hold : StatesHaveTypedOrigins → (p : Program) (state : List Made) (ports : Ports) → IsTypedState p state → HasPorts p ports → PortsHold ports
-ports_hold typed_origins p state ports typed has =
+pub ports_hold : Facts → StatesHaveTypedOrigins → (p : Program) (state : List Made) (ports : Ports) → IsTypedState p state → HasPorts p ports → PortsHold ports
+ports_hold facts typed_origins p state ports typed has =
     let s : Setting = setting_at (origins_in p state) in
     let sound = (typed_origins p state typed).sound in
     let tidy = typed.tidy in
     let number = p.top.«def».number in
     let closed = sound.defs number has.it.ty (found_in_map (λ d. d.ty) p.defs number has.it has.top.held) in
-    let led = led_domains s sound closed.kind has.top.leads closed.has in
+    let led = led_domains facts s sound closed.kind has.top.leads closed.has in
     let some = domain_some (length p.domains) has.outs (led_some has.top.leads) led.1 in
     let many : length p.domains ≡ length ports.domains = ap (λ (ds : List (List ℕ)). length ds) (sym has.domains) in
     record {

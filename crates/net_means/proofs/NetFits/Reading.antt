@@ -14,7 +14,6 @@ use Rattle.chw_types.specs.TypeTree.{TypeTree, data_of}
 use Rattle.chw_prims.specs.declared.prim.Primitive.{Primitive as Prim}
 use Rattle.chw_prims.specs.declared.prim.Primitive.TheVariants.{AddU, AddS, SubU, SubS, MulU, MulS, XaddU, XaddS, XmulU, XmulS, AndU, AndS, AndB, OrU, OrS, OrB, XorU, XorS, XorB, NotU, NotS, NotB, ShlU, ShlS, ShlB, ShrU, ShrS, ShrB, EqU, EqS, EqB, LtU as PrimLtU, LtS as PrimLtS, ExtU, ExtS, ExtB, TruncU, TruncS, TruncB, Slice, Join as PrimJoin, RedAnd as PrimRedAnd, RedOr as PrimRedOr, RedXor as PrimRedXor, PackU, PackS, UnpackU, UnpackS}
 use Rattle.chw_terms.specs.TermTree.{Alts}
-use Rattle.chw_typing.proofs.Lists.{reverse_cons}
 use Rattle.netlist.specs.Wires.{driven, read_by}
 use Rattle.netlist.specs.declared.net.Cell.{Cell}
 use Rattle.netlist.specs.declared.net.Cell.TheVariants.{Const, Copy, Join, Cut, Bin, Mux, Reg, Ram, Use}
@@ -29,6 +28,7 @@ use Rattle.net_built.specs.Memories.{past_all, address, address_wire, filled_up,
 use Rattle.net_built.specs.Vectors.{element, elements, element_wires, words_from, element_at}
 use Rattle.net_built.specs.Wires.{wire, wires_from, wire_count, new_wires, present, Piece, nothing, one, ◌▸◌, after, last_wire, copy_cells, copies}
 use Rattle.net_built.specs.Words.{zeros, only, binary, compared, shifted, reduced, extended, widened, word_cells}
+use Rattle.net_means.proofs.Lists.{reverse_cons}
 
 -- these are wires, of so many
 abbrev pub Under : ℕ → List WireId → Type 0

@@ -28,8 +28,7 @@ use Rattle.net_built.specs.Data.{HaveWidths, HasParts, port_parts}
 use Rattle.net_built.specs.Modules.{IsModuleOf}
 use Rattle.net_built.specs.Terms.{result_of}
 use Rattle.net_built.specs.Wires.{wire_count, present}
-use Rattle.net_built.proofs.NoLoops.{normal_free}
-use Rattle.net_built.proofs.Parts.{parts_once}
+use Rattle.net_grounds.specs.Facts.{Facts}
 use Rattle.net_means.specs.NetFits.Laws.{BeginsWithTop, TopKept}
 use Rattle.net_means.proofs.NetFits.Calls.{ParamParts, no_params, param_and, body_params}
 use Rattle.net_means.proofs.NetFits.Drivers.{module_at, as_many}
@@ -52,15 +51,15 @@ port_widths (no_port_and h more) = let rest = port_widths more in record { width
 
 -- the parts of a type's parameters are the leaves of the ports from which it leads, and its result
 -- has the others
-params_led : {datas : List Data} {t r : TypeTree} {inputs : List ℕ} {ins outs : List Leaf} → ParamParts datas Circuit t inputs r → LeadsFrom datas t ins outs → (ws : List ℕ) → HaveWidths datas (payloads ins) ws → (inputs ≡ present ws) × Leaves datas r outs
-params_led (no_params asks) (leads_to l) [] h = (refl, l)
-params_led (no_params asks) (leads_to l) (w ∷ ws) h = absurd h
-params_led (no_params asks) (leads_from l more) ws h = absurd asks
-params_led (param_and parts more) (leads_to l) ws h = elim l [ ]
-params_led {datas} (param_and {ws = vs} {ins = left} parts more) (leads_from {ls = ls} {ins = ins} l rest) ws h =
+params_led : Facts → {datas : List Data} {t r : TypeTree} {inputs : List ℕ} {ins outs : List Leaf} → ParamParts datas Circuit t inputs r → LeadsFrom datas t ins outs → (ws : List ℕ) → HaveWidths datas (payloads ins) ws → (inputs ≡ present ws) × Leaves datas r outs
+params_led facts (no_params asks) (leads_to l) [] h = (refl, l)
+params_led facts (no_params asks) (leads_to l) (w ∷ ws) h = absurd h
+params_led facts (no_params asks) (leads_from l more) ws h = absurd asks
+params_led facts (param_and parts more) (leads_to l) ws h = elim l [ ]
+params_led facts {datas} (param_and {ws = vs} {ins = left} parts more) (leads_from {ls = ls} {ins = ins} l rest) ws h =
     let s = split datas ls ins ws h in
-    let first : vs ≡ s.first = parts_once parts (port_parts l s.have) in
-    let others = params_led more rest s.rest s.others in
+    let first : vs ≡ s.first = facts.built.parts_once parts (port_parts l s.have) in
+    let others = params_led facts more rest s.rest s.others in
     ((λ i. present (first i) ++ others.0 i) ∙ sym (present_append s.first s.rest) ∙ ap (λ ws. present ws) (sym s.are), others.1)
 
 -- the ports are as wide as the first of these widths
@@ -78,7 +77,7 @@ last_there [] m (suc i) n l e = absurd (omega (arith, l))
 last_there (k ∷ below) m zero n l e = absurd (omega (arith, l))
 last_there (k ∷ below) m (suc i) n l e = last_there below m i n (omega (arith, l)) e
 
-module _ (keep : FieldsKeepSame) (law : SameKeepsMeasure) (con_args : ConAtArguments) (saturated : ConIsSaturated) (prim_args : PrimAtArguments) (typed_origins : StatesHaveTypedOrigins) (p : Program) (state : List Made) (net : Net) (of : Built p state net) (typed : IsTypedState p state) (normal : IsNormal p state) (begins : BeginsWithTop p state) (rules : PortsHold net.ports) where
+module _ (facts : Facts) (keep : FieldsKeepSame) (law : SameKeepsMeasure) (con_args : ConAtArguments) (saturated : ConIsSaturated) (prim_args : PrimAtArguments) (typed_origins : StatesHaveTypedOrigins) (p : Program) (state : List Made) (net : Net) (of : Built p state net) (typed : IsTypedState p state) (normal : IsNormal p state) (begins : BeginsWithTop p state) (rules : PortsHold net.ports) where
   -- the module of the first made definition
   top_kept : (i : ℕ) → i ≤ length of.order → (it : Made) (built : Module) → slice_get net.modules i ≡ Some built → slice_get of.order i ≡ Some 0 → slice_get state 0 ≡ Some it → IsModuleOf (ground_of p of.order) it built → TopKept net i built
   top_kept i l it built here place is made_of =
@@ -92,21 +91,21 @@ module _ (keep : FieldsKeepSame) (law : SameKeepsMeasure) (con_args : ConAtArgum
       let ins = port_widths ports.inputs in
       let outs = port_widths ports.outputs in
       let params : ParamParts p.datas Circuit it.ty made_of.inputs (result_of it.ty) =
-      subst (λ sort. ParamParts p.datas sort it.ty made_of.inputs (result_of it.ty)) circuit (body_params keep law s sound made_of.body body.under body.typed.has body.typed.same) in
-      let led = params_led params (subst (λ t. LeadsFrom p.datas t ports.ins ports.outs) (sym type) ports.top.leads) ins.widths ins.have in
+      subst (λ sort. ParamParts p.datas sort it.ty made_of.inputs (result_of it.ty)) circuit (body_params facts keep law s sound made_of.body body.under body.typed.has body.typed.same) in
+      let led = params_led facts params (subst (λ t. LeadsFrom p.datas t ports.ins ports.outs) (sym type) ports.top.leads) ins.widths ins.have in
       let wide : made_of.inputs ≡ map (λ (port : Port). port.width) net.ports.inputs = led.0 ∙ ins.are in
       let parts : HasParts p.datas it.sort (result_of it.ty) outs.widths =
       subst (λ sort. HasParts p.datas sort (result_of it.ty) outs.widths) (sym circuit) (port_parts led.1 outs.have) in
       let counted : length built.outputs ≡ wire_count outs.widths =
-      outputs_counted keep law s of.order it.sort it.body body.inner it.ty body.typed.type closed.kind body.path body.vars made_of.inputs made_of.cells built.outputs outs.widths sound made_of.body body.under body.typed.has closed.has body.typed.same (λ v. normal_free p state normal 0 it is v) parts in
+      outputs_counted facts keep law s of.order it.sort it.body body.inner it.ty body.typed.type closed.kind body.path body.vars made_of.inputs made_of.cells built.outputs outs.widths sound made_of.body body.under body.typed.has closed.has body.typed.same (λ v. facts.built.normal_free p state normal 0 it is v) parts in
       let count_ins : length made_of.inputs ≡ length net.ports.inputs = ap (λ (ws : List ℕ). length ws) wide ∙ length-map net.ports.inputs (λ (port : Port). port.width) in
       let count_outs : wire_count outs.widths ≡ length net.ports.outputs = ap (λ (ws : List ℕ). length ws) outs.are ∙ length-map net.ports.outputs (λ (port : Port). port.width) in
       let before = (order_behind p state net of).each i 0 it place is in
       let widths : built.widths ≡ map (λ (port : Port). port.width) net.ports.inputs ++ made_of.cells.widths = made_of.are_widths ∙ ap (λ (ws : List ℕ). ws ++ made_of.cells.widths) wide in
       record {
         names = record {
-          cells = (names_there keep law con_args saturated prim_args typed_origins p state net of typed normal i built here).cells;
-          outputs = circuit_outputs keep law con_args saturated prim_args typed_origins p state net of typed normal i l 0 it built is before made_of circuit;
+          cells = (names_there facts keep law con_args saturated prim_args typed_origins p state net of typed normal i built here).cells;
+          outputs = circuit_outputs facts keep law con_args saturated prim_args typed_origins p state net of typed normal i l 0 it built is before made_of circuit;
           top = λ last. record { rules = rules; inputs = sym (made_of.are_inputs ∙ count_ins); outputs = sym (counted ∙ count_outs) };
         };
         inputs = λ k port width e f. in_front net.ports.inputs made_of.cells.widths k port width e (subst (λ ws. slice_get ws k ≡ Some width) widths f);

@@ -12,8 +12,8 @@ use Rattle.netlist.specs.declared.net.Module.{Module}
 use Rattle.netlist.specs.declared.net.Net.{Net}
 use Rattle.net_built.specs.Built.{Built, ground_of}
 use Rattle.net_built.specs.Circuits.{Ground, place_in}
-use Rattle.net_built.proofs.Parts.{same_some}
 use Rattle.net_built.specs.Modules.{IsModuleOf, AreModules, HasOutputs, holds, made_in, Visited, already, without_outputs, behind_its_uses, AllVisited, none_visited, visited_and}
+use Rattle.net_means.proofs.Lists.{same_some}
 
 -- a made definition without outputs
 abbrev pub NoOutputs : List Data → List Made → ℕ → Type 0

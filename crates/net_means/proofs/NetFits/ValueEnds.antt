@@ -11,8 +11,6 @@ use Rattle.chw_types.specs.SameTypes.{SameTypes}
 use Rattle.chw_types.specs.TypeMoves.{sub}
 use Rattle.chw_types.specs.TypeTree.{TypeTree}
 use Rattle.chw_types.specs.TypeView.{trees_of}
-use Rattle.chw_types.proofs.SameLaws.{same_turned, same_through}
-use Rattle.type_laws.proofs.SameForms.{as_scalar, as_vector, as_data}
 use Rattle.chw_prims.specs.declared.prim.Primitive.{Primitive as Prim}
 use Rattle.chw_prims.specs.declared.prim.Primitive.TheVariants.{AddU, AddS, SubU, SubS, MulU, MulS, XaddU, XaddS, XmulU, XmulS, AndU, AndS, AndB, OrU, OrS, OrB, XorU, XorS, XorB, NotU, NotS, NotB, ShlU, ShlS, ShlB, ShrU, ShrS, ShrB, EqU, EqS, EqB, LtU as PrimLtU, LtS as PrimLtS, ExtU, ExtS, ExtB, TruncU, TruncS, TruncB, Slice, Join as PrimJoin, RedAnd as PrimRedAnd, RedOr as PrimRedOr, RedXor as PrimRedXor, PackU, PackS, UnpackU, UnpackS}
 use Rattle.chw_prims.specs.declared.row.Row.{Row}
@@ -26,8 +24,6 @@ use Rattle.chw_typing.specs.Programs.{IsSound}
 use Rattle.chw_typing.specs.Scopes.{Setting, HasKind, AreTermTypes}
 use Rattle.chw_typing.specs.Typing.{HasType, h_prim}
 use Rattle.chw_typing.specs.Given.{types_then, IsSaturated, AsksForNone}
-use Rattle.chw_typing.proofs.Asked.{spine_takes}
-use Rattle.chw_typing.proofs.Saturated.{prim_at_arguments}
 use Rattle.rewriting.specs.Origins.{Origins}
 use Rattle.rewriting.specs.Spots.{asked_for, IsOnWords}
 use Rattle.normal_forms.specs.Values.{on_names, IsSide, side_variable, side_literal, side_constructor, side_vector, side_primitive, side_call, side_case}
@@ -43,6 +39,7 @@ use Rattle.net_built.specs.Data.{constructed}
 use Rattle.net_built.specs.Terms.{head_of, types_of, Variable}
 use Rattle.net_built.specs.Wires.{present, Piece, after}
 use Rattle.net_built.specs.Words.{compared, shifted, reduced, extended, widened, word_cells}
+use Rattle.net_grounds.specs.Facts.{Facts}
 use Rattle.net_means.proofs.NetFits.Rows.{given_width, row_gives}
 use Rattle.net_means.proofs.WordRows.{kinds_of, params_of, result_of, row_is}
 use Rattle.net_means.proofs.NetFits.Shapes.{names, head_then}
@@ -182,17 +179,17 @@ types_after f [] (e ∷ es) = types_after (app f e) [] es
 types_after f (t ∷ types) es = types_after (ty_app f t) types es ∙ append_assoc (types_of f) (t ∷ []) types
 
 -- what has a width asks for nothing
-pub wide_asks : {datas : List _} {t u : TypeTree} {m : Measure} → Measured datas t m → SameTypes t u → AsksForNone u
-wide_asks measured_scalar same = let at = as_scalar same in subst AsksForNone (sym at.1) tt
-wide_asks (measured_vector a) same = let at = as_vector same in subst AsksForNone (sym at.2) tt
-wide_asks (measured_data known many a) same = let at = as_data same in subst AsksForNone (sym at.1) tt
+pub wide_asks : Facts → {datas : List _} {t u : TypeTree} {m : Measure} → Measured datas t m → SameTypes t u → AsksForNone u
+wide_asks facts measured_scalar same = let at = facts.same.as_scalar same in subst AsksForNone (sym at.1) tt
+wide_asks facts (measured_vector a) same = let at = facts.same.as_vector same in subst AsksForNone (sym at.2) tt
+wide_asks facts (measured_data known many a) same = let at = facts.same.as_data same in subst AsksForNone (sym at.1) tt
 
 -- a primitive with as many arguments as its type asks for has as many types and as many terms
-pub prim_saturated : (s : Setting) (vars : List TypeTree) (q : Prim) (ks : List Kind) (ps : List TypeTree) (r : TypeTree) (types : List TypeTree) (xs : List ℕ) (t : TypeTree) → IsSound s → AreTermTypes s [] vars → schema_type q ≡ for_each ks (from_each ps r) → length types + length xs ≡ length ks + length ps → HasType s [] vars (on_names (prim q) types xs) t → AsksForNone t
+pub prim_saturated : Facts → (s : Setting) (vars : List TypeTree) (q : Prim) (ks : List Kind) (ps : List TypeTree) (r : TypeTree) (types : List TypeTree) (xs : List ℕ) (t : TypeTree) → IsSound s → AreTermTypes s [] vars → schema_type q ≡ for_each ks (from_each ps r) → length types + length xs ≡ length ks + length ps → HasType s [] vars (on_names (prim q) types xs) t → AsksForNone t
     → (length types ≡ length ks) × IsSaturated s [] vars ks ps r types (names xs) t
-prim_saturated s vars q ks ps r types xs t sound scoped schema count typed asks =
+prim_saturated facts s vars q ks ps r types xs t sound scoped schema count typed asks =
     let args : List Arg = types_then types (names xs) in
-    let all = spine_takes s [] vars (prim q) ks ps r args t sound scoped (subst (HasType s [] vars (prim q)) schema h_prim) typed asks in
+    let all = facts.terms.spine_takes s [] vars (prim q) ks ps r args t sound scoped (subst (HasType s [] vars (prim q)) schema h_prim) typed asks in
     let whole = all_counted types (names xs) in
     let parts = all_counted all.types all.es in
     let seam = length-append (types_then all.types all.es) all.more in
@@ -205,7 +202,7 @@ prim_saturated s vars q ks ps r types xs t sound scoped schema count typed asks 
     all.are ∙ ap (λ more. types_then all.types all.es ++ more) (none_left all.more left) ∙ append-nil (types_then all.types all.es) in
     let type_counts : length types ≡ length all.types = sym (types_counted types (names xs)) ∙ ap (λ args. type_count args) are ∙ types_counted all.types all.es in
     let term_counts : length (names xs) ≡ length all.es = sym (terms_counted types (names xs)) ∙ ap (λ args. term_count args) are ∙ terms_counted all.types all.es in
-    (type_counts ∙ on_types, prim_at_arguments s [] vars q ks ps r types (names xs) t sound scoped schema (type_counts ∙ on_types) (term_counts ∙ on_terms) typed)
+    (type_counts ∙ on_types, facts.terms.prim_at_arguments s [] vars q ks ps r types (names xs) t sound scoped schema (type_counts ∙ on_types) (term_counts ∙ on_terms) typed)
 
 -- a primitive on types and variables
 pub record PrimSide (e : TermTree) (q : Prim) : Type 0 where
@@ -227,12 +224,12 @@ prim_side (side_call j xs known value n) q h = let k : made j ≡ prim q = sym (
 prim_side (side_case i others) q h = absurd cc
 
 -- a typed one gives a word of the width of its type
-pub prim_gives : SameKeepsMeasure → {o : Origins} (s : Setting) → IsSound s → {shown vars : List TypeTree} {e : TermTree} {t u : TypeTree} {k : Kind} {w : ℕ} → IsSide o shown e → AreTermTypes s [] vars → HasType s [] vars e u → HasKind s [] t k → SameTypes t u → HasWidth s.datas t w → (q : Prim) → head_of e ≡ prim q → IsOnWords q → GivesWidth q (types_of e) w
-prim_gives law s sound {vars = vars} {e = e} {t = t} {u = u} {k = k} {w = w} form scoped typed kind same has q h on =
+pub prim_gives : Facts → SameKeepsMeasure → {o : Origins} (s : Setting) → IsSound s → {shown vars : List TypeTree} {e : TermTree} {t u : TypeTree} {k : Kind} {w : ℕ} → IsSide o shown e → AreTermTypes s [] vars → HasType s [] vars e u → HasKind s [] t k → SameTypes t u → HasWidth s.datas t w → (q : Prim) → head_of e ≡ prim q → IsOnWords q → GivesWidth q (types_of e) w
+prim_gives facts law s sound {vars = vars} {e = e} {t = t} {u = u} {k = k} {w = w} form scoped typed kind same has q h on =
     let side = prim_side form q h in
     let row : Row = row_of q in
     let line = row_is row on in
-    let all = prim_saturated s vars q (kinds_of row) (params_of row) (result_of row) side.types side.xs u sound scoped line.0 (side.count ∙ line.1) (subst (λ e. HasType s [] vars e u) side.is typed) (wide_asks has same) in
-    let wide = law (fits w) s t (sub (result_of row) (arguments (trees_of side.types))) sound (record { kind = k; has = kind; same = same_through same (same_turned all.1.gives) }) has in
+    let all = prim_saturated facts s vars q (kinds_of row) (params_of row) (result_of row) side.types side.xs u sound scoped line.0 (side.count ∙ line.1) (subst (λ e. HasType s [] vars e u) side.is typed) (wide_asks facts has same) in
+    let wide = law (fits w) s t (sub (result_of row) (arguments (trees_of side.types))) sound (record { kind = k; has = kind; same = facts.same.same_through same (facts.same.same_turned all.1.gives) }) has in
     let types : types_of e ≡ side.types = ap (λ e. types_of e) side.is ∙ types_after (prim q) side.types (names side.xs) in
-    subst (λ ts. GivesWidth q ts w) (sym types) (row_gives s.datas sound.begins.0 sound.begins.1 row on side.types all.0 w wide)
+    subst (λ ts. GivesWidth q ts w) (sym types) (row_gives facts s.datas sound.begins.0 sound.begins.1 row on side.types all.0 w wide)

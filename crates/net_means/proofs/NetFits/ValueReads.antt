@@ -11,7 +11,6 @@ use Rattle.chw_types.specs.TypeMoves.{sub}
 use Rattle.chw_types.specs.declared.kind.Kind.{Kind}
 use Rattle.chw_types.specs.SameTypes.{SameTypes}
 use Rattle.chw_types.specs.TypeTree.{TypeTree}
-use Rattle.chw_types.proofs.SameLaws.{same_self}
 use Rattle.chw_terms.specs.declared.scene.Sort.TheVariants.{Value}
 use Rattle.chw_terms.specs.declared.term.Pattern.{Pattern}
 use Rattle.chw_terms.specs.Occurs.{occurs, occurs_group, occurs_alts}
@@ -20,7 +19,6 @@ use Rattle.chw_typing.specs.HeadTypes.{PatternOf, of_con, of_lit, of_any}
 use Rattle.chw_typing.specs.Programs.{IsSound}
 use Rattle.chw_typing.specs.Scopes.{HasKind}
 use Rattle.chw_typing.specs.Typing.{HasType, h_lam, h_letrec, AreBound, none_bound, bound_and, AllGive, none_give, give_and}
-use Rattle.chw_typing.proofs.Lists.{turned_onto}
 use Rattle.graph_order.specs.References.{HasNoCycle}
 use Rattle.chw_layout.specs.Measured.{closed_value, HasWidth}
 use Rattle.layout_laws.specs.SameLayout.{SameKeepsMeasure}
@@ -37,7 +35,9 @@ use Rattle.net_built.specs.Modules.{made_in, made_in_group, made_in_alts}
 use Rattle.net_built.specs.Loops.{side_at, refers, HasNoLoops, HaveNoLoops, HasNoLoopsIn}
 use Rattle.net_built.specs.Terms.{head_of, types_of, operands_of, Variable, variable, wires_at, wires_of, wires_of_all, list_of}
 use Rattle.net_built.specs.Wires.{wire_count, new_wires, present, Piece, ◌▸◌, after, last_wires}
-use Rattle.net_built.proofs.ValueWires.{along_references}
+use Rattle.net_grounds.specs.Facts.{Facts}
+use Rattle.net_means.proofs.References.{along_references}
+use Rattle.net_means.proofs.Lists.{turned_onto}
 use Rattle.net_means.proofs.NetFits.Reading.{Under, IsPlain, Reads, EachUnder, under_append, under_from, last_below, last_under, none_reads, then_reads, one_reads, const_reads, words_read, constructed_reads, cuts_read, tested_reads, tested_under, case_reads, element_reads, element_at_reads, copies_read, used_reads}
 use Rattle.net_means.specs.NetFits.Laws.{ground_over}
 use Rattle.net_means.proofs.NetFits.CallShapes.{call_of, case_side, head_made, all_first, all_rest}
@@ -124,7 +124,7 @@ module _ (A : Cell → Type 0) (plain : (cell : Cell) → IsPlain cell → A cel
   value_reads {scope = scope} {n} {w} (value_element_at {m = m} {k = k} {v = v} {i = i}) h room uses = element_at_reads A plain total w (closed_value m) (closed_value k) n _ _ (λ l. of_under total scope (h l) v) (λ l. of_under total scope (h l) i) room
   value_reads {ground} {scope} {n} {w} (value_call {m = m} {es = es}) h room uses = used_reads A plain total ground m n _ (w ∷ []) (λ l. all_under total scope (h l) es) (uses m refl refl)
 
-module _ (total : ℕ) (much : 1 ≤ total) where
+module _ (facts : Facts) (total : ℕ) (much : 1 ≤ total) where
   last_piece : (at : ℕ) (p : Piece) (w : ℕ) → after at p ≤ total → Under total (last_wires at p (w ∷ []))
   last_piece at p zero room = tt
   last_piece at p (suc w) room = (last_below total at p room much, tt)
@@ -139,7 +139,7 @@ module _ (total : ℕ) (much : 1 ≤ total) where
       → ((i : ℕ) → i < size_of g → ((y : ℕ) → occurs (side_at g i) y ≡ true → Under total (wires_at (reverse b ++ scope) y)) → Under total (wires_at b i))
       → (i : ℕ) → i < size_of g → Under total (wires_at b i)
   bindings_under g b scope size none outer side =
-      along_references (refers g) none (size_of g) (λ i. Under total (wires_at b i))
+      along_references facts (refers g) none (size_of g) (λ i. Under total (wires_at b i))
       (λ i l before.
       side i l
       (λ y o. onto_under total b scope y (λ k h. before k (omega (arith, h, size)) (same_place g i k y (sym size ∙ h) o))
@@ -147,12 +147,12 @@ module _ (total : ℕ) (much : 1 ≤ total) where
       let place : y ≡ z + size_of g = h ∙ ap (λ k. z + k) size in
       outer z (ap (λ y. occurs_group g y) (sym place) ∙ side_in_group g i y l o))))
 
-module _ (total : ℕ) (much : 1 ≤ total) {ground : Ground} where
+module _ (facts : Facts) (total : ℕ) (much : 1 ≤ total) {ground : Ground} where
   mutual
     unfolding occurs occurs_group occurs_alts
 
     side_under : {scope : List Variable} {n : ℕ} {t : TypeTree} {e : TermTree} {p : Piece} {r : List WireId} → SideBuilt ground Value scope n t e p r → after n p ≤ total → ((y : ℕ) → occurs e y ≡ true → Under total (wires_at scope y)) → HasNoLoops e → Under total r
-    side_under {n = n} {p = p} (side_of_value {w = w} a cells) room within free = last_piece total much n p w room
+    side_under {n = n} {p = p} (side_of_value {w = w} a cells) room within free = last_piece facts total much n p w room
     side_under {n = n} (side_of_case {x = x} {whole = whole} {w = w} {alts = alts} {it = it} {p = p} {results = rs} on i h a is built) room within free =
         let words = words_of on.bits on.first alts in
         let m : ℕ = after (after n on.cells) p in
@@ -161,7 +161,7 @@ module _ (total : ℕ) (much : 1 ≤ total) {ground : Ground} where
         let first = then_room total n on.cells (p ▸ q ▸ c) room in
         let second = then_room total (after n on.cells) p (q ▸ c) first.1 in
         let third = then_room total m q c second.1 in
-        chosen_under total much w (test_wires on.bits on.wires words m) rs (after m q)
+        chosen_under facts total much w (test_wires on.bits on.wires words m) rs (after m q)
         (alts_under built second.0 (λ y o. within y (or_right (x == y) (occurs_alts alts y) o)) free) third.1
 
     pub alts_under : {scope : List Variable} {it : Variable} {below n : ℕ} {alts : Alts} {p : Piece} {results : List (List WireId)} → AltsBuilt ground scope it below n alts p results → after n p ≤ total → ((y : ℕ) → occurs_alts alts y ≡ true → Under total (wires_at scope y)) → HasNoLoopsIn alts → EachUnder total results
@@ -183,7 +183,7 @@ module _ (total : ℕ) (much : 1 ≤ total) {ground : Ground} where
     block_under {scope} (block_letrec {x = x} {g = g} b more) room within free =
         let size : length b ≡ size_of g = bound_count more in
         let outer : (z : ℕ) → occurs_group g (z + size_of g) ≡ true → Under total (wires_at scope z) = λ z o. within z (or_left (occurs_group g (z + size_of g)) (occurs (var x) (z + size_of g)) o) in
-        let all = bindings_under total much g b scope size free.0 outer (λ i l inside. group_under more room i l inside free.1) in
+        let all = bindings_under facts total much g b scope size free.0 outer (λ i l inside. group_under more room i l inside free.1) in
         onto_under total b scope x (λ k h. all k (omega (arith, h, size)))
         (λ z h.
         let place : x ≡ z + size_of g = h ∙ ap (λ k. z + k) size in
@@ -195,10 +195,10 @@ module _ (total : ℕ) (much : 1 ≤ total) {ground : Ground} where
     group_under {n = n} (group_and {p = p} {q = q} side more) room (suc i) l within free = group_under more (then_room total n p q room).1 i (omega (arith, l)) within free.1
 
 -- the scope of a letrec's bindings has wires, if the one around it does
-letrec_under : (total : ℕ) → 1 ≤ total → {ground : Ground} {n : ℕ} {g : Group} {p : Piece} (b scope : List Variable) → GroupBuilt ground Value (reverse b ++ scope) n g p b → after n p ≤ total → ((y : ℕ) → Under total (wires_at scope y)) → HasNoCycle (λ i j. refers g i j ≡ true) → HaveNoLoops g → (y : ℕ) → Under total (wires_at (reverse b ++ scope) y)
-letrec_under total much {g = g} b scope more room h none free y =
+letrec_under : Facts → (total : ℕ) → 1 ≤ total → {ground : Ground} {n : ℕ} {g : Group} {p : Piece} (b scope : List Variable) → GroupBuilt ground Value (reverse b ++ scope) n g p b → after n p ≤ total → ((y : ℕ) → Under total (wires_at scope y)) → HasNoCycle (λ i j. refers g i j ≡ true) → HaveNoLoops g → (y : ℕ) → Under total (wires_at (reverse b ++ scope) y)
+letrec_under facts total much {g = g} b scope more room h none free y =
     let size : length b ≡ size_of g = bound_count more in
-    let all = bindings_under total much g b scope size none (λ z o. h z) (λ i l inside. group_under total much more room i l inside free) in
+    let all = bindings_under facts total much g b scope size none (λ z o. h z) (λ i l inside. group_under facts total much more room i l inside free) in
     onto_under total b scope y (λ k h. all k (omega (arith, h, size))) (λ z l. h z)
 
 -- an input before the variables in scope
@@ -214,7 +214,7 @@ ValueCalls o order A P =
     → HasType (setting_at o) [] vars e u → HasKind (setting_at o) [] t k → SameTypes t u → HasWidth o.program.datas t w → Fits vars scope → ((y : ℕ) → SizedAt (setting_at o) scope y)
     → P m → 1 ≤ wire_count (w ∷ []) → A (Use (module_of (ground_over (setting_at o) order) m) (wires_of_all scope (operands_of e)) (new_wires n (w ∷ [])))
 
-module _ (law : SameKeepsMeasure) (o : Origins) (order : List ℕ) (sound : IsSound (setting_at o)) (A : Cell → Type 0) (plain : (cell : Cell) → IsPlain cell → A cell) (P : ℕ → Type 0) (calls : ValueCalls o order A P) (total : ℕ) where
+module _ (facts : Facts) (law : SameKeepsMeasure) (o : Origins) (order : List ℕ) (sound : IsSound (setting_at o)) (A : Cell → Type 0) (plain : (cell : Cell) → IsPlain cell → A cell) (P : ℕ → Type 0) (calls : ValueCalls o order A P) (total : ℕ) where
   mutual
     side_reads : {scope : List Variable} {vars names : List TypeTree} {n : ℕ} {t u : TypeTree} {e : TermTree} {p : Piece} {r : List WireId} {j : Kind} → SideBuilt (ground_over (setting_at o) order) Value scope n t e p r → IsSide o names e → AllByRecursion P (made_in e)
         → HasKind (setting_at o) [] t j → HasType (setting_at o) [] vars e u → SameTypes t u → Fits vars scope → ((y : ℕ) → SizedAt (setting_at o) scope y)
@@ -226,13 +226,13 @@ module _ (law : SameKeepsMeasure) (o : Origins) (order : List ℕ) (sound : IsSo
         calls vars scope e m n w t u j c.it c.known c.value head types c.variables typed kind same a fit sized (head_made P e m head inside) l)
     side_reads {scope} {vars} {n = n} (side_of_case {x = x} {whole = whole} {w = w} {alts = alts} {it = it} {p = p} {results = rs} on i has a is built) form inside kind typed same fit sized room h free =
         let of : 1 ≤ total → Under total it.wires = λ l. subst (Under total) (wires_there scope x it i) (h l x) in
-        let c = case_typed typed in
-        let at = same_found (found vars scope x c.of fit (var_at c.typed)) i in
+        let c = case_typed facts typed in
+        let at = same_found (found facts vars scope x c.of fit (var_at c.typed)) i in
         let blocks = case_side form x alts refl in
         case_reads A plain total on alts w n p rs
         (λ r. subst (λ (on : Tested). after n on.cells ≤ total → Reads A total on.cells) (sym is) (λ r. tested_reads A plain total o.program.datas it.ty whole n it.wires of r) r)
         (λ r. subst (λ (on : Tested). after n on.cells ≤ total → 1 ≤ total → Under total on.wires) (sym is) (λ r l. tested_under total o.program.datas it.ty whole n it.wires of r l) r)
-        (λ r. alts_reads built blocks.blocks inside c.give c.has at fit sized r of h free) (λ r l. alts_under total l built r (λ y o. h l y) free) room
+        (λ r. alts_reads built blocks.blocks inside c.give c.has at fit sized r of h free) (λ r l. alts_under facts total l built r (λ y o. h l y) free) room
 
     alts_reads : {scope : List Variable} {vars names : List TypeTree} {it : Variable} {below n : ℕ} {alts : Alts} {p : Piece} {results : List (List WireId)} {u v uu : TypeTree} {j : Kind} → AltsBuilt (ground_over (setting_at o) order) scope it below n alts p results → AreBlocks o names uu alts → AllByRecursion P (made_in_alts alts)
         → AllGive (setting_at o) [] vars u v alts → HasKind (setting_at o) [] u j → SameTypes u it.ty → Fits vars scope → ((y : ℕ) → SizedAt (setting_at o) scope y)
@@ -240,7 +240,7 @@ module _ (law : SameKeepsMeasure) (o : Origins) (order : List ℕ) (sound : IsSo
     alts_reads alts_none no_blocks inside none_give of_kind at fit sized room of h free = none_reads A plain total
     alts_reads {scope} {vars} {it = it} {below} {n} {u = u} {j = j} (alts_and {q = q} {e = e} {more = rest_of} {fields = fs} {p = p} {r = r} {s = z} ws formed have is block more) (block_and formed' form forms) inside (give_and {bound = bnd} b typed along others) of_kind at fit sized room of h free =
         let front : List Variable = variables_from n fs ws in
-        let a = alternative (setting_at o) vars bnd fs scope q u it.ty j n ws sound fit of_kind at b formed have in
+        let a = alternative facts (setting_at o) vars bnd fs scope q u it.ty j n ws sound fit of_kind at b formed have in
         let within : (y : ℕ) → SizedAt (setting_at o) (reverse front ++ scope) y = λ y. onto_sized (setting_at o) front scope y (λ k h. a.sized k) (λ z h. sized z) in
         let rooms = then_room total n p (r ▸ z) room in
         let cuts : Reads A total p = subst (λ (p : Piece). after n p ≤ total → Reads A total p) (sym is) (λ k. cuts_read A plain total below it.wires ws n of k) rooms.0 in
@@ -254,8 +254,8 @@ module _ (law : SameKeepsMeasure) (o : Origins) (order : List ℕ) (sound : IsSo
         → after n p ≤ total → (1 ≤ total → (y : ℕ) → Under total (wires_at scope y)) → HasNoLoops e → Reads A total p
     block_reads block_variable form inside typed fit sized room h free = none_reads A plain total
     block_reads {scope} {vars} (block_letrec {x = x} {g = g} b more) (is_letrec forms none) inside (h_letrec typed of_kind bound) fit sized room h free =
-        group_reads more forms (all_first P (made_in_group g) [] inside) bound (inside_group (setting_at o) order vars b scope more fit) (letrec_sized law (setting_at o) order sound b more bound fit sized free.0 free.1)
-        room (λ l. letrec_under total l b scope more room (h l) free.0 free.1) free.1
+        group_reads more forms (all_first P (made_in_group g) [] inside) bound (inside_group facts (setting_at o) order vars b scope more fit) (letrec_sized facts law (setting_at o) order sound b more bound fit sized free.0 free.1)
+        room (λ l. letrec_under facts total l b scope more room (h l) free.0 free.1) free.1
 
     group_reads : {scope : List Variable} {vars names : List TypeTree} {n : ℕ} {g : Group} {p : Piece} {b : List Variable} {k : Kind} → GroupBuilt (ground_over (setting_at o) order) Value scope n g p b → AreSides o names g → AllByRecursion P (made_in_group g) → AreBound (setting_at o) [] vars k g → Fits vars scope → ((y : ℕ) → SizedAt (setting_at o) scope y)
         → after n p ≤ total → (1 ≤ total → (y : ℕ) → Under total (wires_at scope y)) → HaveNoLoops g → Reads A total p
@@ -273,10 +273,10 @@ module _ (law : SameKeepsMeasure) (o : Origins) (order : List ℕ) (sound : IsSo
       let r : n + length (present (w ∷ []) ++ ins) + length p.widths ≤ total = room in
       let fits : n + wire_count (w ∷ []) ≤ total = omega (arith, r, count) in
       let next : n + wire_count (w ∷ []) + length ins + length p.widths ≤ total = omega (arith, r, count) in
-      body_reads more under form inside typed (record { same = (same_self t, fit.same) }) (one_sized (setting_at o) t n w scope has sized) next (λ l y. input_under total t n (w ∷ []) scope (h l) fits y) free
+      body_reads more under form inside typed (record { same = (facts.same.same_self t, fit.same) }) (one_sized facts (setting_at o) t n w scope has sized) next (λ l y. input_under total t n (w ∷ []) scope (h l) fits y) free
   body_reads (body_lambda parts more) (under_none asks) form inside typed fit sized room h free = elim form [ ]
   body_reads (body_block block) (under_one same under) form inside typed fit sized room h free = elim block [ ]
   body_reads {n = n} {p = p} (body_block block) (under_none asks) form inside typed fit sized room h free =
       let r : n + 0 + length p.widths ≤ total = room in
       let fits : n + length p.widths ≤ total = omega (arith, r) in
-      (block_reads block form inside typed fit sized fits h free, λ l. block_under total l block fits (λ y o. h l y) free)
+      (block_reads block form inside typed fit sized fits h free, λ l. block_under facts total l block fits (λ y o. h l y) free)

@@ -11,8 +11,6 @@ use Rattle.chw_types.specs.SameTypes.{SameTypes}
 use Rattle.chw_types.specs.TypeMoves.{sub}
 use Rattle.chw_types.specs.TypeTree.{TypeTree, scalar}
 use Rattle.chw_types.specs.TypeView.{trees_of}
-use Rattle.chw_types.proofs.SameLaws.{same_turned, same_through}
-use Rattle.type_laws.proofs.SameForms.{as_scalar}
 use Rattle.chw_prims.specs.declared.prim.Primitive.{Primitive as Prim}
 use Rattle.chw_prims.specs.declared.row.Row.{Row}
 use Rattle.chw_prims.specs.declared.row.Row.TheVariants.{Binary, WideSum, WideProduct, Unary, Shift, Compare, Extend, Truncate, Cut, Joined, Reduce, Packed, Unpacked}
@@ -26,14 +24,13 @@ use Rattle.rewriting.specs.Origins.{Origins}
 use Rattle.rewriting.specs.Spots.{IsOnWords, IsRowOnWords}
 use Rattle.normal_forms.specs.Values.{IsSide}
 use Rattle.chw_layout.specs.Measured.{closed_value, fits, HasWidth}
-use Rattle.chw_layout.proofs.Fitting.{scalar_width}
 use Rattle.layout_laws.specs.SameLayout.{SameKeepsMeasure}
-use Rattle.layout_laws.proofs.SameLayout.{same_number}
 use Rattle.netlist.specs.declared.net.Module.{Module}
 use Rattle.net_built.specs.Bodies.{ValueCells, value_variable, value_literal, value_constructor, value_vector, value_primitive, value_element, value_element_at, value_call, operand_at}
 use Rattle.net_built.specs.Circuits.{Ground}
 use Rattle.net_built.specs.Terms.{head_of, types_of, operands_of, Variable, wires_at}
 use Rattle.net_built.specs.Wires.{present, Piece}
+use Rattle.net_grounds.specs.Facts.{Facts}
 use Rattle.net_means.specs.NetFits.Widths.{AreWide, StandFrom, WideAt}
 use Rattle.net_means.proofs.NetFits.CircuitDrivers.{operands_then}
 use Rattle.net_means.proofs.WordRows.{kinds_of, params_of, result_of, row_is, scalar_within, one_type, two_types, three_types}
@@ -57,7 +54,7 @@ pub record Operands (all : List ℕ) (scope : List Variable) (row : Row) (types 
   pub first : AreWide all (operand_at scope es 0) (present (one ∷ []))
   pub second : AreWide all (operand_at scope es 1) (present (two ∷ []))
 
-module _ (values : SameValues) (s : Setting) (all : List ℕ) (vars : List TypeTree) (scope : List Variable) (fit : Fits vars scope) (wide : (y : ℕ) → WideAt s.datas all scope y) where
+module _ (facts : Facts) (values : SameValues) (s : Setting) (all : List ℕ) (vars : List TypeTree) (scope : List Variable) (fit : Fits vars scope) (wide : (y : ℕ) → WideAt s.datas all scope y) where
   -- a variable that is used as a word
   pub record WordWide (x : ℕ) (n : TypeTree) : Type 0 where
     pub wires : AreWide all (wires_at scope x) (present (closed_value n ∷ []))
@@ -65,13 +62,13 @@ module _ (values : SameValues) (s : Setting) (all : List ℕ) (vars : List TypeT
 
   pub word_wide : (x : ℕ) (r : Scalar) (n : TypeTree) → HasTypeUpTo s [] vars (var x) (scalar r n) → WordWide x n
   word_wide x r n given =
-      let at = found vars scope x given.type fit (var_at given.has) in
-      let form = as_scalar (same_through given.same at.same) in
+      let at = found facts vars scope x given.type fit (var_at given.has) in
+      let form = facts.same.as_scalar (facts.same.same_through given.same at.same) in
       let it = wide x at.it at.is in
       let has : HasWidth s.datas (scalar r form.0) it.width = subst (λ t. HasWidth s.datas t it.width) form.1 it.has in
-      let number : closed_value n ≡ closed_value form.0 = same_number values form.2 in
-      let width : it.width ≡ closed_value n = scalar_width has ∙ sym number in
-      let within = scalar_within has in
+      let number : closed_value n ≡ closed_value form.0 = facts.same_layout.same_number values form.2 in
+      let width : it.width ≡ closed_value n = facts.widths.scalar_width has ∙ sym number in
+      let within = scalar_within facts has in
       record {
         wires = subst (λ w. AreWide all (wires_at scope x) (present (w ∷ []))) width (subst (λ ws. AreWide all ws (present (it.width ∷ []))) (sym (wires_there scope x at.it at.is)) it.wide);
         small = omega (arith, number, within);
@@ -117,8 +114,8 @@ module _ (values : SameValues) (s : Setting) (all : List ℕ) (vars : List TypeT
   row_takes : (row : Row) → IsRowOnWords row → (types : List TypeTree) → length types ≡ length (kinds_of row) → Taking row types
   unfolding sub natural_value
   row_takes (Binary x) on = one_type (Taking (Binary x)) (λ n xs w given has. let o = two_words x x n n xs given in by_two (Binary x) (n ∷ []) xs n n o (refl, refl, o.small))
-  row_takes (WideSum x) on = one_type (Taking (WideSum x)) (λ n xs w given has. let l = scalar_within has in by_two (WideSum x) (n ∷ []) xs n n (two_words x x n n xs given) (refl, refl, omega (arith, l)))
-  row_takes (WideProduct x) on = two_types (Taking (WideProduct x)) (λ n m xs w given has. let l = scalar_within has in by_two (WideProduct x) (n ∷ m ∷ []) xs n m (two_words x x n m xs given) (refl, refl, omega (arith, l)))
+  row_takes (WideSum x) on = one_type (Taking (WideSum x)) (λ n xs w given has. let l = scalar_within facts has in by_two (WideSum x) (n ∷ []) xs n n (two_words x x n n xs given) (refl, refl, omega (arith, l)))
+  row_takes (WideProduct x) on = two_types (Taking (WideProduct x)) (λ n m xs w given has. let l = scalar_within facts has in by_two (WideProduct x) (n ∷ m ∷ []) xs n m (two_words x x n m xs given) (refl, refl, omega (arith, l)))
   row_takes (Unary x) on = one_type (Taking (Unary x)) (λ n xs w given has. by_one (Unary x) (n ∷ []) xs n (one_word x n xs given) refl)
   row_takes (Shift x) on = two_types (Taking (Shift x)) (λ n m xs w given has. by_two (Shift x) (n ∷ m ∷ []) xs n m (two_words x U n m xs given) (refl, refl))
   row_takes (Compare x) on = one_type (Taking (Compare x)) (λ n xs w given has. by_two (Compare x) (n ∷ []) xs n n (two_words x x n n xs given) (refl, refl))
@@ -137,8 +134,8 @@ module _ (values : SameValues) (s : Setting) (all : List ℕ) (vars : List TypeT
       let side = prim_side form q h in
       let row : Row = row_of q in
       let line = row_is row on in
-      let sat = prim_saturated s vars q (kinds_of row) (params_of row) (result_of row) side.types side.xs u sound scoped line.0 (side.count ∙ line.1) (subst (λ e. HasType s [] vars e u) side.is typed) (wide_asks has same) in
-      let result = law (fits w) s t (sub (result_of row) (arguments (trees_of side.types))) sound (record { kind = k; has = kind; same = same_through same (same_turned sat.1.gives) }) has in
+      let sat = prim_saturated facts s vars q (kinds_of row) (params_of row) (result_of row) side.types side.xs u sound scoped line.0 (side.count ∙ line.1) (subst (λ e. HasType s [] vars e u) side.is typed) (wide_asks facts has same) in
+      let result = law (fits w) s t (sub (result_of row) (arguments (trees_of side.types))) sound (record { kind = k; has = kind; same = facts.same.same_through same (facts.same.same_turned sat.1.gives) }) has in
       let all_given = row_takes row on side.types sat.0 side.xs w sat.1.args_given result in
       let types : types_of e ≡ side.types = ap (λ e. types_of e) side.is ∙ types_after (prim q) side.types (names side.xs) in
       let terms : operands_of e ≡ names side.xs = ap (λ e. operands_of e) side.is ∙ operands_then (prim q) side.types (names side.xs) in

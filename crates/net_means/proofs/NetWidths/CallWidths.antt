@@ -10,17 +10,14 @@ use Rattle.chw_types.specs.declared.kind.Kind.TheVariants.{Dom, Val}
 use Rattle.chw_types.specs.SameTypes.{SameTypes, same_signal}
 use Rattle.chw_types.specs.TypeMoves.{sub}
 use Rattle.chw_types.specs.TypeTree.{TypeTree, ty_var, fun, signal}
-use Rattle.chw_types.proofs.SameLaws.{same_self, same_through, same_turned}
 use Rattle.chw_prims.specs.declared.prim.Primitive.TheVariants.{Fmap, Ap}
 use Rattle.type_laws.specs.SameKept.{FieldsKeepSame}
-use Rattle.type_laws.proofs.SameForms.{as_function, as_signal}
 use Rattle.chw_terms.specs.declared.scene.Sort.{Sort}
 use Rattle.chw_terms.specs.declared.scene.Sort.TheVariants.{Value, Circuit}
 use Rattle.chw_terms.specs.TermTree.{TermTree, var, made, app, ty_app}
 use Rattle.chw_typing.specs.Programs.{IsSound}
 use Rattle.chw_typing.specs.Scopes.{Setting, HasKind, AreTermTypes}
 use Rattle.chw_typing.specs.Typing.{HasType, HasTypeUpTo, h_made, h_app}
-use Rattle.chw_typing.proofs.Kinded.{function_parts}
 use Rattle.chw_layout.specs.Measured.{fits}
 use Rattle.layout_laws.specs.SameLayout.{SameKeepsMeasure}
 use Rattle.rewriting.specs.Shapes.{IsVariable}
@@ -30,7 +27,8 @@ use Rattle.normal_forms.specs.Circuits.{IsLiftedCall, lifted_on_one, lifted_on_m
 use Rattle.net_built.specs.Data.{HasParts}
 use Rattle.net_built.specs.Terms.{head_of, types_of, operands_of, Variable, wires_at, wires_of, wires_of_all}
 use Rattle.net_built.specs.Wires.{present}
-use Rattle.net_built.proofs.Parts.{same_some, width_once}
+use Rattle.net_grounds.specs.Facts.{Facts}
+use Rattle.net_means.proofs.Lists.{same_some}
 use Rattle.net_means.specs.NetFits.Widths.{AreWide}
 use Rattle.net_means.proofs.NetFits.CallShapes.{all_first, all_rest}
 use Rattle.net_means.proofs.NetFits.Calls.{ParamParts, no_params, param_and, any_kept, lifted_on}
@@ -81,7 +79,7 @@ of_variable : (s : Setting) (all : List ℕ) (sort : Sort) (vars : List TypeTree
 of_variable s all sort vars scope (var x) t u k ws wide is typed kind same has = wide x t u k ws typed kind same has
 of_variable s all sort vars scope _ t u k ws wide is typed kind same has = absurd is
 
-module _ (s : Setting) (all : List ℕ) (sort : Sort) (vars : List TypeTree) (scope : List Variable) (m : ℕ) (whole : TypeTree) (k : Kind) (ins : List ℕ) (r : TypeTree) (wide : VarWide s all sort vars scope)
+module _ (facts : Facts) (s : Setting) (all : List ℕ) (sort : Sort) (vars : List TypeTree) (scope : List Variable) (m : ℕ) (whole : TypeTree) (k : Kind) (ins : List ℕ) (r : TypeTree) (wide : VarWide s all sort vars scope)
     (known : slice_get s.made m ≡ Some whole) (of_kind : HasKind s [] whole k) (params : ParamParts s.datas sort whole ins r) where
   -- a spine on a made definition
   pub spine_called : (e : TermTree) (u : TypeTree) → head_of e ≡ made m → types_of e ≡ [] → AllByRecursion IsVariable (operands_of e) → HasType s [] vars e u → Called s all sort u (wires_of_all scope (operands_of e)) ins r
@@ -95,17 +93,17 @@ module _ (s : Setting) (all : List ℕ) (sort : Sort) (vars : List TypeTree) (sc
         kind = k;
         has = of_kind;
         params = params;
-        same = subst (SameTypes whole) type (same_self whole);
+        same = subst (SameTypes whole) type (facts.same.same_self whole);
         wide = tt;
         are = refl;
       }
   spine_called (app f a) u h ts names (h_app {a = c} {c = d} typed given same) =
       let before = spine_called f (fun c u) h ts (all_first IsVariable (operands_of f) (a ∷ []) names) typed in
       let last = (all_rest IsVariable (operands_of f) (a ∷ []) names).0 in
-      let form = as_function (same_turned before.same) in
+      let form = facts.same.as_function (facts.same.same_turned before.same) in
       let parts = param_of (subst (λ t. ParamParts s.datas sort t before.left r) form.2 before.params) in
-      let kinds = function_parts (subst (λ t. HasKind s [] t before.kind) form.2 before.has) in
-      let one = of_variable s all sort vars scope a form.0 d kinds.0 parts.widths wide last given kinds.1 (same_through (same_turned form.3) same) parts.parts in
+      let kinds = facts.kinds.function_parts (subst (λ t. HasKind s [] t before.kind) form.2 before.has) in
+      let one = of_variable s all sort vars scope a form.0 d kinds.0 parts.widths wide last given kinds.1 (facts.same.same_through (facts.same.same_turned form.3) same) parts.parts in
       record {
         rest = form.1;
         taken = before.taken ++ present parts.widths;
@@ -113,7 +111,7 @@ module _ (s : Setting) (all : List ℕ) (sort : Sort) (vars : List TypeTree) (sc
         kind = _;
         has = kinds.2;
         params = parts.more;
-        same = same_turned form.4;
+        same = facts.same.same_turned form.4;
         wide = one_more_wide all scope (operands_of f) a before.taken (present parts.widths) before.wide one;
         are = taken_next ins before.taken before.left (present parts.widths) parts.left before.are parts.are;
       }
@@ -125,10 +123,10 @@ all_taken : (all : List ℕ) (reads : List WireId) (ins taken left : List ℕ) �
 all_taken all reads ins taken left h are none = subst (AreWide all reads) (sym (are ∙ ap (λ l. taken ++ l) none ∙ append-nil taken)) h
 
 -- all operands are given where what is left has the parts of a wire or of a port
-pub called_whole : FieldsKeepSame → SameKeepsMeasure → {sort : Sort} (s : Setting) → IsSound s → (all : List ℕ) (t u : TypeTree) (k : Kind) (ws : List ℕ) (reads : List WireId) (ins : List ℕ) (r : TypeTree) → Called s all sort u reads ins r → HasKind s [] t k → SameTypes t u → HasParts s.datas sort t ws → AreWide all reads ins
-called_whole keep law s sound all t u k ws reads ins r called kind same has =
-    let like = any_kept keep law s sound t called.rest ws (record { kind = k; has = kind; same = same_through same (same_turned called.same) }) has in
-    all_taken all reads ins called.taken called.left called.wide called.are (param_none (parts_ask like) called.params)
+pub called_whole : Facts → FieldsKeepSame → SameKeepsMeasure → {sort : Sort} (s : Setting) → IsSound s → (all : List ℕ) (t u : TypeTree) (k : Kind) (ws : List ℕ) (reads : List WireId) (ins : List ℕ) (r : TypeTree) → Called s all sort u reads ins r → HasKind s [] t k → SameTypes t u → HasParts s.datas sort t ws → AreWide all reads ins
+called_whole facts keep law s sound all t u k ws reads ins r called kind same has =
+    let like = any_kept facts keep law s sound t called.rest ws (record { kind = k; has = kind; same = facts.same.same_through same (facts.same.same_turned called.same) }) has in
+    all_taken all reads ins called.taken called.left called.wide called.are (param_none (parts_ask facts like) called.params)
 
 -- a function that was given one more operand
 record OneMore (s : Setting) (b : TypeTree) (given left : List ℕ) (r : TypeTree) : Type 0 where
@@ -159,35 +157,35 @@ signal_of e = cc
 made_type : {s : Setting} {vars : List TypeTree} {m : ℕ} {whole t : TypeTree} → slice_get s.made m ≡ Some whole → HasType s [] vars (made m) t → t ≡ whole
 made_type known (h_made is) = same_some is known
 
-module _ (keep : FieldsKeepSame) (law : SameKeepsMeasure) (prims : PrimAtArguments) (s : Setting) (sound : IsSound s) (all : List ℕ) (vars : List TypeTree) (scope : List Variable) (fit : Fits vars scope) (wide : PortsWide s.datas all scope) (scoped : AreTermTypes s [] vars) where
+module _ (facts : Facts) (keep : FieldsKeepSame) (law : SameKeepsMeasure) (prims : PrimAtArguments) (s : Setting) (sound : IsSound s) (all : List ℕ) (vars : List TypeTree) (scope : List Variable) (fit : Fits vars scope) (wide : PortsWide s.datas all scope) (scoped : AreTermTypes s [] vars) where
   -- a variable that is a signal of values of a type that is the same up to naturals
   pub signal_wide : (x : ℕ) (d a c : TypeTree) (k : Kind) (ws : List ℕ) → HasTypeUpTo s [] vars (var x) (signal d a) → HasKind s [] c k → SameTypes c a → HasParts s.datas Value c ws → AreWide all (wires_at scope x) (present ws)
   signal_wide x d a c k ws given kind same parts =
-      let at = found vars scope x given.type fit (var_at given.has) in
-      let form = as_signal (same_through given.same at.same) in
+      let at = found facts vars scope x given.type fit (var_at given.has) in
+      let form = facts.same.as_signal (facts.same.same_through given.same at.same) in
       let it = wide x at.it at.is in
       let narrow = signal_part (subst (λ t. HasParts s.datas Circuit t it.parts) form.2 it.have) in
       let value = value_width parts in
-      let carried = law (fits value.0) s c form.1 sound (record { kind = k; has = kind; same = same_through same form.4 }) value.1 in
-      let width : narrow.0 ≡ value.0 = width_once narrow.1 carried in
+      let carried = law (fits value.0) s c form.1 sound (record { kind = k; has = kind; same = facts.same.same_through same form.4 }) value.1 in
+      let width : narrow.0 ≡ value.0 = facts.widths.width_once narrow.1 carried in
       let are : it.parts ≡ ws = narrow.2 ∙ ap (λ w. w ∷ []) width ∙ sym value.2 in
       subst (λ ws. AreWide all (wires_at scope x) (present ws)) are (subst (λ (wires : List WireId). AreWide all wires (present it.parts)) (sym (wires_there scope x at.it at.is)) it.wide)
 
   one_more : (x : ℕ) (d a b rest : TypeTree) (k : Kind) (left : List ℕ) (r : TypeTree) → HasKind s [] rest k → ParamParts s.datas Value rest left r → SameTypes rest (fun a b) → HasTypeUpTo s [] vars (var x) (signal d a)
       → (given : List ℕ) × AreWide all (wires_at scope x) given × OneMore s b given left r
   one_more x d a b rest k left r kind params same given =
-      let form = as_function (same_turned same) in
+      let form = facts.same.as_function (facts.same.same_turned same) in
       let parts = param_of (subst (λ t. ParamParts s.datas Value t left r) form.2 params) in
-      let kinds = function_parts (subst (λ t. HasKind s [] t k) form.2 kind) in (
+      let kinds = facts.kinds.function_parts (subst (λ t. HasKind s [] t k) form.2 kind) in (
         present parts.widths,
-        signal_wide x d a form.0 kinds.0 parts.widths given kinds.1 (same_turned form.3) parts.parts,
+        signal_wide x d a form.0 kinds.0 parts.widths given kinds.1 (facts.same.same_turned form.3) parts.parts,
         record {
           rest = form.1;
           more = parts.left;
           kind = k;
           has = kinds.2;
           params = parts.more;
-          same = same_turned form.4;
+          same = facts.same.same_turned form.4;
           are = parts.are;
         },
       )
@@ -202,7 +200,7 @@ module _ (keep : FieldsKeepSame) (law : SameKeepsMeasure) (prims : PrimAtArgumen
         let function : HasTypeUpTo s [] vars (made m) (fun a b) = given_all.args_given.0 in
         let given : HasTypeUpTo s [] vars (var x) (signal d a) = given_all.args_given.1.0 in
         let same : SameTypes (fun a b) whole = subst (SameTypes (fun a b)) (made_type known function.has) function.same in
-        let one = one_more x d a b whole k ins r of_kind params (same_turned same) given in
+        let one = one_more x d a b whole k ins r of_kind params (facts.same.same_turned same) given in
         let more = one.2 in
         record {
           dom = d;
@@ -212,7 +210,7 @@ module _ (keep : FieldsKeepSame) (law : SameKeepsMeasure) (prims : PrimAtArgumen
           kind = more.kind;
           has = more.has;
           params = more.params;
-          same = same_through (same_signal (same_self d) more.same) gives;
+          same = facts.same.same_through (same_signal (facts.same.same_self d) more.same) gives;
           wide = one_more_wide all scope [] (var x) [] one.0 tt one.1;
           are = more.are;
         }
@@ -222,7 +220,7 @@ module _ (keep : FieldsKeepSame) (law : SameKeepsMeasure) (prims : PrimAtArgumen
         let function : HasTypeUpTo s [] vars f (signal d (fun a b)) = given_all.args_given.0 in
         let given : HasTypeUpTo s [] vars (var x) (signal d a) = given_all.args_given.1.0 in
         let so_far = lifted_called before function.type function.has in
-        let form = as_signal (same_through so_far.same (same_turned function.same)) in
+        let form = facts.same.as_signal (facts.same.same_through so_far.same (facts.same.same_turned function.same)) in
         let is : form.1 ≡ fun a b = signal_of (sym form.2) in
         let same : SameTypes so_far.rest (fun a b) = subst (SameTypes so_far.rest) is form.4 in
         let one = one_more x d a b so_far.rest so_far.kind so_far.left r so_far.has so_far.params same given in
@@ -235,7 +233,7 @@ module _ (keep : FieldsKeepSame) (law : SameKeepsMeasure) (prims : PrimAtArgumen
           kind = more.kind;
           has = more.has;
           params = more.params;
-          same = same_through (same_signal (same_self d) more.same) gives;
+          same = facts.same.same_through (same_signal (facts.same.same_self d) more.same) gives;
           wide = one_more_wide all scope (lifted_on before) (var x) so_far.taken one.0 so_far.wide one.1;
           are = taken_next ins so_far.taken so_far.left one.0 more.more so_far.are more.are;
         }
@@ -243,5 +241,5 @@ module _ (keep : FieldsKeepSame) (law : SameKeepsMeasure) (prims : PrimAtArgumen
   -- all operands of a lifted call are given where it is a port
   pub lifted_whole : (t u : TypeTree) (k : Kind) (ws : List ℕ) (reads : List WireId) (ins : List ℕ) (r : TypeTree) → LiftedSoFar s all u reads ins r → HasKind s [] t k → SameTypes t u → HasParts s.datas Circuit t ws → AreWide all reads ins
   lifted_whole t u k ws reads ins r called kind same has =
-      let like = parts_kept keep law s sound t (signal called.dom called.rest) ws (record { kind = k; has = kind; same = same_through same (same_turned called.same) }) has in
+      let like = parts_kept facts keep law s sound t (signal called.dom called.rest) ws (record { kind = k; has = kind; same = facts.same.same_through same (facts.same.same_turned called.same) }) has in
       all_taken all reads ins called.taken called.left called.wide called.are (param_none (measured_asks (signal_part like).1) called.params)

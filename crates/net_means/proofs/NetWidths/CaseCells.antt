@@ -3,7 +3,6 @@ use Rattle.std.proofs.Common.{◌≡◌, ℕ, suc, ◌+◌, ◌-◌, ◌<◌, �
 use Rattle.std.specs.List.{slice_get, AllByRecursion}
 use Rattle.chw_base.specs.declared.index.WireId.{WireId}
 use Rattle.chw_base.specs.declared.limits.TheConstants.{DATA_BITS}
-use Rattle.chw_bits.proofs.Numbers.{length-bits_of}
 use Rattle.chw_types.specs.declared.declarations.Data.{Data}
 use Rattle.chw_types.specs.SamePromises.{SameValues, natural_value}
 use Rattle.chw_types.specs.TypeMoves.{Substitution, sub}
@@ -16,10 +15,6 @@ use Rattle.chw_typing.specs.HeadTypes.{PatternOf, of_con, of_lit, of_any}
 use Rattle.chw_typing.specs.Scopes.{Setting}
 use Rattle.chw_typing.specs.Typing.{HasType, h_case}
 use Rattle.chw_layout.specs.Measured.{fits, tag_width, HasWidth, MeasuredFields}
-use Rattle.chw_layout.proofs.Fitting.{cons_width, con_width, field_width, scalar_width}
-use Rattle.chw_layout.proofs.Measures.{data_measured, measured_within, no_fields}
-use Rattle.layout_laws.proofs.Numbering.{has_place}
-use Rattle.layout_laws.proofs.SameLayout.{same_number}
 use Rattle.netlist.specs.declared.net.Cell.TheVariants.{Cut}
 use Rattle.netlist.specs.declared.net.Module.{Module}
 use Rattle.net_built.specs.Bodies.{AltsBuilt, alts_none, alts_and}
@@ -28,7 +23,8 @@ use Rattle.net_built.specs.Data.{HaveWidths, constructor_count, field_cuts, Test
 use Rattle.net_built.specs.Terms.{Variable}
 use Rattle.net_built.specs.Wires.{wire, present, wire_count, Piece, nothing, one, ◌▸◌, after}
 use Rattle.net_built.specs.Words.{only}
-use Rattle.net_built.proofs.Parts.{width_once}
+use Rattle.net_grounds.specs.Facts.{Facts}
+use Rattle.net_means.proofs.Lists.{length-bits_of}
 use Rattle.net_means.specs.NetFits.Widths.{AreWide, StandFrom}
 use Rattle.net_means.proofs.NetFits.Choosing.{EachLong, EachBit, tests_agree, tests_wide, chosen_agrees}
 use Rattle.net_means.proofs.NetFits.ValueDrivers.{HasOne}
@@ -38,14 +34,14 @@ use Rattle.net_means.proofs.NetFits.WordWidths.{Agree, given_wide, none_agree, o
 use Rattle.net_means.proofs.NetWidths.Small.{IsPart, Small, none_small, one_small, then_small, tests_small, chosen_small}
 
 -- what has a width may be a part
-pub part_of : {datas : List Data} {t : TypeTree} {w : ℕ} → HasWidth datas t w → IsPart w
-part_of has = let l = measured_within has in omega (arith, l)
+pub part_of : Facts → {datas : List Data} {t : TypeTree} {w : ℕ} → HasWidth datas t w → IsPart w
+part_of facts has = let l = facts.measures.measured_within has in omega (arith, l)
 
-pub each_part : (datas : List Data) (ts : List TypeTree) (ws : List ℕ) → HaveWidths datas ts ws → AllByRecursion IsPart ws
-each_part datas [] [] h = tt
-each_part datas [] (w ∷ ws) h = absurd h
-each_part datas (t ∷ ts) [] h = absurd h
-each_part datas (t ∷ ts) (w ∷ ws) h = (part_of h.0, each_part datas ts ws h.1)
+pub each_part : Facts → (datas : List Data) (ts : List TypeTree) (ws : List ℕ) → HaveWidths datas ts ws → AllByRecursion IsPart ws
+each_part facts datas [] [] h = tt
+each_part facts datas [] (w ∷ ws) h = absurd h
+each_part facts datas (t ∷ ts) [] h = absurd h
+each_part facts datas (t ∷ ts) (w ∷ ws) h = (part_of facts h.0, each_part facts datas ts ws h.1)
 
 -- in a typed case nothing is hidden
 pub case_hidden : {s : Setting} {vars : List TypeTree} {e : TermTree} {alts : Alts} {t : TypeTree} → HasType s [] vars (case_of e alts) t → NoneHidden alts
@@ -54,7 +50,7 @@ case_hidden (h_case typed looked kind b has of_kind functions more hidden) = hid
 counted : (datas : List Data) (d : ℕ) (it : Data) → slice_get datas d ≡ Some it → constructor_count datas d ≡ length it.cons
 counted datas d it known = ap (λ o. unwrap_or (option_map (λ (it : Data). length it.cons) o) 0) known
 
-module _ (earlier : List Module) (all : List ℕ) where
+module _ (facts : Facts) (earlier : List Module) (all : List ℕ) where
   -- bits of a wire of which so many are below
   cut_agrees : (w below whole at : ℕ) (a : List WireId) → AreWide all a (present (whole ∷ [])) → w ≤ below → below ≤ whole → StandFrom all at (present (w ∷ [])) → Agree earlier all (one w (Cut (wire at) (only a) (below - 1) (below - w)))
   cut_agrees w below whole at a h fit less stand =
@@ -83,13 +79,13 @@ module _ (earlier : List Module) (all : List ℕ) where
 
   pub tested_fits : (datas : List Data) (t : TypeTree) (whole at : ℕ) (a : List WireId) → HasWidth datas t whole → AreWide all a (present (whole ∷ [])) → StandFrom all at (tested_of datas t whole at a).cells.widths → TestedFits (tested_of datas t whole at a) whole
   tested_fits datas (data_of d ts) whole at a has h stand =
-      let m = data_measured has in
-      let c = cons_width m.it m.known has in
+      let m = facts.measures.data_measured has in
+      let c = facts.widths.cons_width m.it m.known has in
       let tag : ℕ = tag_width (constructor_count datas d) in
       let same : tag ≡ tag_width (length m.it.cons) = ap (λ n. tag_width n) (counted datas d m.it m.known) in
       let is = c.is in
       let room : tag ≤ whole = omega (arith, is, same) in
-      let most = part_of has in
+      let most = part_of facts has in
       record {
         agree = cut_agrees tag whole whole at a h room (omega arith) stand;
         small = one_small tag (omega (arith, room, most));
@@ -138,27 +134,27 @@ patterns_of alts_none = tt
 patterns_of (alts_and {fields = fs} ws formed have is block more) = ((fs, formed), patterns_of more)
 
 -- the word of a pattern but the default has as many bits as are tested
-word_long : SameValues → {datas : List Data} {t : TypeTree} {q : Pattern} {fs : List TypeTree} (whole at : ℕ) (a : List WireId) → PatternOf datas t q fs → (q ≡ Default → ⊥) → HasWidth datas t whole → length (word_of (tested_of datas t whole at a).bits (tested_of datas t whole at a).first q) ≡ (tested_of datas t whole at a).bits
+word_long : Facts → SameValues → {datas : List Data} {t : TypeTree} {q : Pattern} {fs : List TypeTree} (whole at : ℕ) (a : List WireId) → PatternOf datas t q fs → (q ≡ Default → ⊥) → HasWidth datas t whole → length (word_of (tested_of datas t whole at a).bits (tested_of datas t whole at a).first q) ≡ (tested_of datas t whole at a).bits
 unfolding natural_value
-word_long values whole at a (of_con it known of count) other has = length-bits_of _ _
-word_long values whole at a (of_lit l same) other has =
-    let number = same_number values same in
-    let width = scalar_width has in
+word_long facts values whole at a (of_con it known of count) other has = length-bits_of _ _
+word_long facts values whole at a (of_lit l same) other has =
+    let number = facts.same_layout.same_number values same in
+    let width = facts.widths.scalar_width has in
     omega (arith, number, width, l)
-word_long values whole at a of_any other has = absurd (other refl)
+word_long facts values whole at a of_any other has = absurd (other refl)
 
-words_fit : SameValues → (datas : List Data) (t : TypeTree) (whole at : ℕ) (a : List WireId) (alts : Alts) → Patterns datas t alts → NoneHidden alts → HasWidth datas t whole
+words_fit : Facts → SameValues → (datas : List Data) (t : TypeTree) (whole at : ℕ) (a : List WireId) (alts : Alts) → Patterns datas t alts → NoneHidden alts → HasWidth datas t whole
     → EachLong (tested_of datas t whole at a).bits (words_of (tested_of datas t whole at a).bits (tested_of datas t whole at a).first alts)
-words_fit values datas t whole at a no_alts ps hidden has = tt
-words_fit values datas t whole at a (alt q e no_alts) ps hidden has = tt
-words_fit values datas t whole at a (alt q e (alt r f more)) ps hidden has = (
-  word_long values whole at a ps.0.1 (λ is. subst (λ q. Hides q r → ⊥) is hidden.0.0 tt) has,
-  words_fit values datas t whole at a (alt r f more) ps.1 hidden.1 has,
+words_fit facts values datas t whole at a no_alts ps hidden has = tt
+words_fit facts values datas t whole at a (alt q e no_alts) ps hidden has = tt
+words_fit facts values datas t whole at a (alt q e (alt r f more)) ps hidden has = (
+  word_long facts values whole at a ps.0.1 (λ is. subst (λ q. Hides q r → ⊥) is hidden.0.0 tt) has,
+  words_fit facts values datas t whole at a (alt r f more) ps.1 hidden.1 has,
 )
 
-pub words_long : SameValues → {ground : Ground} {scope : List Variable} {it : Variable} {below n : ℕ} {alts : Alts} {p : Piece} {results : List (List WireId)} (whole at : ℕ) (a : List WireId) → AltsBuilt ground scope it below n alts p results → NoneHidden alts → HasWidth ground.datas it.ty whole
+pub words_long : Facts → SameValues → {ground : Ground} {scope : List Variable} {it : Variable} {below n : ℕ} {alts : Alts} {p : Piece} {results : List (List WireId)} (whole at : ℕ) (a : List WireId) → AltsBuilt ground scope it below n alts p results → NoneHidden alts → HasWidth ground.datas it.ty whole
     → EachLong (tested_of ground.datas it.ty whole at a).bits (words_of (tested_of ground.datas it.ty whole at a).bits (tested_of ground.datas it.ty whole at a).first alts)
-words_long values {ground} {it = it} {alts = alts} whole at a built hidden has = words_fit values ground.datas it.ty whole at a alts (patterns_of built) hidden has
+words_long facts values {ground} {it = it} {alts = alts} whole at a built hidden has = words_fit facts values ground.datas it.ty whole at a alts (patterns_of built) hidden has
 
 none_total : (datas : List Data) (ws : List ℕ) → HaveWidths datas [] ws → total_of ws ≡ 0
 none_total datas [] h = refl
@@ -168,29 +164,29 @@ none_fits : (s : ℕ) → fits s ≡ fits 0 → s ≡ 0
 none_fits s e = cc
 
 -- fields are together as wide as they are measured
-fields_total : {datas : List Data} {σ : Substitution} (fs : List TypeTree) (ws : List ℕ) (s : ℕ) → s ≤ DATA_BITS → MeasuredFields datas fs σ (fits s) → HaveWidths datas (map (λ f. sub f σ) fs) ws → total_of ws ≡ s
-fields_total [] [] s l m h = sym (none_fits s (no_fields m))
-fields_total [] (w ∷ ws) s l m h = absurd h
-fields_total (f ∷ fs) [] s l m h = absurd h
-fields_total (f ∷ fs) (w ∷ ws) s l m h =
-    let x = field_width l m in
+fields_total : Facts → {datas : List Data} {σ : Substitution} (fs : List TypeTree) (ws : List ℕ) (s : ℕ) → s ≤ DATA_BITS → MeasuredFields datas fs σ (fits s) → HaveWidths datas (map (λ f. sub f σ) fs) ws → total_of ws ≡ s
+fields_total facts [] [] s l m h = sym (none_fits s (facts.measures.no_fields m))
+fields_total facts [] (w ∷ ws) s l m h = absurd h
+fields_total facts (f ∷ fs) [] s l m h = absurd h
+fields_total facts (f ∷ fs) (w ∷ ws) s l m h =
+    let x = facts.widths.field_width l m in
     let is = x.is in
-    let first : w ≡ x.a = width_once h.0 x.first in
-    let rest = fields_total fs ws x.b (omega (arith, is, l)) x.rest h.1 in
+    let first : w ≡ x.a = facts.widths.width_once h.0 x.first in
+    let rest = fields_total facts fs ws x.b (omega (arith, is, l)) x.rest h.1 in
     omega (arith, first, rest, is)
 
 -- the fields that a pattern binds have room below what is tested
-pub fields_room : {datas : List Data} {t : TypeTree} {q : Pattern} {fs : List TypeTree} (whole at : ℕ) (a : List WireId) (ws : List ℕ) → PatternOf datas t q fs → HasWidth datas t whole → HaveWidths datas fs ws → total_of ws ≤ whole - (tested_of datas t whole at a).bits
-fields_room {datas} whole at a ws (of_con {d = d} {c = c} {ts = ts} it known of count) has h =
-    let place = has_place datas c.number it known in
+pub fields_room : Facts → {datas : List Data} {t : TypeTree} {q : Pattern} {fs : List TypeTree} (whole at : ℕ) (a : List WireId) (ws : List ℕ) → PatternOf datas t q fs → HasWidth datas t whole → HaveWidths datas fs ws → total_of ws ≤ whole - (tested_of datas t whole at a).bits
+fields_room facts {datas} whole at a ws (of_con {d = d} {c = c} {ts = ts} it known of count) has h =
+    let place = facts.constructors.has_place datas c.number it known in
     let there : slice_get datas d ≡ Some it.it = subst (λ d. slice_get datas d ≡ Some it.it) of place.in_datas in
-    let x = cons_width it.it there has in
-    let y = con_width it.it.cons place.place it.decl place.in_cons x.cons in
+    let x = facts.widths.cons_width it.it there has in
+    let y = facts.widths.con_width it.it.cons place.place it.decl place.in_cons x.cons in
     let same : tag_width (constructor_count datas d) ≡ tag_width (length it.it.cons) = ap (λ n. tag_width n) (counted datas d it.it there) in
     let all_is = x.is in
     let limit = x.within in
     let less = y.within in
-    let total = fields_total it.decl.fields ws y.s (omega (arith, all_is, limit, less)) y.fields h in
+    let total = fields_total facts it.decl.fields ws y.s (omega (arith, all_is, limit, less)) y.fields h in
     omega (arith, all_is, less, total, same)
-fields_room {datas} whole at a ws (of_lit l same) has h = let none = none_total datas ws h in omega (arith, none)
-fields_room {datas} whole at a ws of_any has h = let none = none_total datas ws h in omega (arith, none)
+fields_room facts {datas} whole at a ws (of_lit l same) has h = let none = none_total datas ws h in omega (arith, none)
+fields_room facts {datas} whole at a ws of_any has h = let none = none_total datas ws h in omega (arith, none)

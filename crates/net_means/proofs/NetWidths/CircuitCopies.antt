@@ -16,9 +16,7 @@ use Rattle.chw_types.specs.SameTypes.{SameTypes}
 use Rattle.chw_types.specs.TypeMoves.{Substitution, sub}
 use Rattle.chw_types.specs.TypeTree.{TypeTree, TypeTrees, no_types, type_and, ty_var, data_of, signal}
 use Rattle.chw_types.specs.TypeView.{trees_of}
-use Rattle.chw_types.proofs.SameLaws.{same_turned, same_through}
 use Rattle.type_laws.specs.SameKept.{FieldsKeepSame}
-use Rattle.type_laws.proofs.SameForms.{as_signal}
 use Rattle.chw_prims.specs.declared.prim.Primitive.TheVariants.{UnsafeSynchronizer}
 use Rattle.chw_terms.specs.Constructors.{Constructor, con_at}
 use Rattle.chw_terms.specs.declared.scene.Sort.TheVariants.{Circuit}
@@ -29,8 +27,6 @@ use Rattle.chw_typing.specs.HeadTypes.{PatternOf, of_con}
 use Rattle.chw_typing.specs.Programs.{IsSound}
 use Rattle.chw_typing.specs.Scopes.{Setting, HasKind, AreTermTypes, AreSame, with_more}
 use Rattle.chw_typing.specs.Typing.{HasType, HasTypeUpTo, h_case, Binds}
-use Rattle.chw_typing.proofs.Patterns.{binds}
-use Rattle.chw_typing.proofs.SameScopes.{same_at}
 use Rattle.chw_layout.specs.Measured.{fits}
 use Rattle.layout_laws.specs.SameLayout.{SameKeepsMeasure}
 use Rattle.chw_typing.specs.Given.{types_then, AreGiven}
@@ -39,7 +35,8 @@ use Rattle.net_built.specs.Circuits.{HaveParts, field_wires}
 use Rattle.net_built.specs.Data.{HaveWidths, HasParts, port_parts}
 use Rattle.net_built.specs.Terms.{Variable, wires_at, wires_of_all}
 use Rattle.net_built.specs.Wires.{present, wire_count}
-use Rattle.net_built.proofs.Parts.{same_some, width_once, parts_once}
+use Rattle.net_grounds.specs.Facts.{Facts}
+use Rattle.net_means.proofs.Lists.{same_some}
 use Rattle.net_means.specs.NetFits.Widths.{AreWide}
 use Rattle.net_means.proofs.NetFits.CircuitDrivers.{AllKinded, fields_kinded, type_count, term_count, types_counted, terms_counted}
 use Rattle.net_means.proofs.NetFits.Ports.{payloads, parts_kept, present_append, split, con_leaves, parts_at, signal_part, port_asks}
@@ -76,21 +73,21 @@ module _ (all : List ℕ) where
   field_wide (suc j) (x ∷ parts) wires ws e h = field_wide j parts (drop (wire_count x) wires) ws e (wide_back wires (present x) (all_present parts) h)
 
 -- the parts of a port are those of its fields
-leaves_present : {datas : List Data} {fs : List TypeTree} {σ : Substitution} {ls : List Leaf} → LeavesOfAll datas fs σ ls → (ws : List ℕ) (parts : List (List ℕ)) → HaveWidths datas (payloads ls) ws → HaveParts datas (map (λ f. sub f σ) fs) parts → present ws ≡ all_present parts
-leaves_present no_leaves [] [] h k = refl
-leaves_present no_leaves [] (x ∷ parts) h k = absurd k
-leaves_present no_leaves (w ∷ ws) parts h k = absurd h
-leaves_present (leaves_and a b) ws [] h k = absurd k
-leaves_present {datas} (leaves_and {ls = ls} {ms = ms} a b) ws (x ∷ parts) h k =
+leaves_present : Facts → {datas : List Data} {fs : List TypeTree} {σ : Substitution} {ls : List Leaf} → LeavesOfAll datas fs σ ls → (ws : List ℕ) (parts : List (List ℕ)) → HaveWidths datas (payloads ls) ws → HaveParts datas (map (λ f. sub f σ) fs) parts → present ws ≡ all_present parts
+leaves_present facts no_leaves [] [] h k = refl
+leaves_present facts no_leaves [] (x ∷ parts) h k = absurd k
+leaves_present facts no_leaves (w ∷ ws) parts h k = absurd h
+leaves_present facts (leaves_and a b) ws [] h k = absurd k
+leaves_present facts {datas} (leaves_and {ls = ls} {ms = ms} a b) ws (x ∷ parts) h k =
     let s = split datas ls ms ws h in
-    let first : s.first ≡ x = parts_once (port_parts a s.have) k.0 in
-    let rest = leaves_present b s.rest parts s.others k.1 in
+    let first : s.first ≡ x = facts.built.parts_once (port_parts a s.have) k.0 in
+    let rest = leaves_present facts b s.rest parts s.others k.1 in
     ap (λ ws. present ws) s.are ∙ present_append s.first s.rest ∙ (λ i. present (first i) ++ rest i)
 
-pattern_present : {datas : List Data} {t : TypeTree} {c : ConId} {n : ℕ} {fields : List TypeTree} {ws : List ℕ} (parts : List (List ℕ)) → PatternOf datas t (OfCon c n) fields → HasParts datas Circuit t ws → HaveParts datas fields parts → present ws ≡ all_present parts
-pattern_present {datas} {ws = ws} parts (of_con {d = d} {c = c} it known of n) (port_parts l h) k = leaves_present (con_leaves datas c.number d it known of l) ws parts h k
+pattern_present : Facts → {datas : List Data} {t : TypeTree} {c : ConId} {n : ℕ} {fields : List TypeTree} {ws : List ℕ} (parts : List (List ℕ)) → PatternOf datas t (OfCon c n) fields → HasParts datas Circuit t ws → HaveParts datas fields parts → present ws ≡ all_present parts
+pattern_present facts {datas} {ws = ws} parts (of_con {d = d} {c = c} it known of n) (port_parts l h) k = leaves_present facts (con_leaves facts datas c.number d it known of l) ws parts h k
 
-module _ (keep : FieldsKeepSame) (law : SameKeepsMeasure) (s : Setting) (sound : IsSound s) (all : List ℕ) (vars : List TypeTree) (scope : List Variable) (fit : Fits vars scope) (wide : PortsWide s.datas all scope) where
+module _ (facts : Facts) (keep : FieldsKeepSame) (law : SameKeepsMeasure) (s : Setting) (sound : IsSound s) (all : List ℕ) (vars : List TypeTree) (scope : List Variable) (fit : Fits vars scope) (wide : PortsWide s.datas all scope) where
   -- given to fields, variables have wires as wide as the fields' parts
   given_wide : {fs : List TypeTree} {σ : Substitution} {ls : List Leaf} → LeavesOfAll s.datas fs σ ls → (xs ws : List ℕ) → AllKinded s σ fs → AreGiven s [] vars (map (λ f. sub f σ) fs) (names xs) → HaveWidths s.datas (payloads ls) ws
       → AreWide all (wires_of_all scope (names xs)) (present ws)
@@ -100,7 +97,7 @@ module _ (keep : FieldsKeepSame) (law : SameKeepsMeasure) (s : Setting) (sound :
   given_wide (leaves_and a b) [] ws kinded given h = absurd given
   given_wide {σ = σ} (leaves_and {f = f} {ls = ls} {ms = ms} a b) (x ∷ xs) ws kinded given h =
       let parts = split s.datas ls ms ws h in
-      let one = port_wide keep law s sound all vars scope x (sub f σ) given.0.type kinded.0.0 parts.first fit wide given.0.has kinded.0.1 given.0.same (port_parts a parts.have) in
+      let one = port_wide facts keep law s sound all vars scope x (sub f σ) given.0.type kinded.0.0 parts.first fit wide given.0.has kinded.0.1 given.0.same (port_parts a parts.have) in
       let rest = given_wide b xs parts.rest kinded.1 given.1 parts.others in
       subst (λ ws. AreWide all (wires_at scope x ++ wires_of_all scope (names xs)) ws) (sym (ap (λ ws. present ws) parts.are ∙ present_append parts.first parts.rest)) (wide_append all (wires_at scope x) (wires_of_all scope (names xs)) (present parts.first) (present parts.rest) one rest)
 
@@ -109,18 +106,18 @@ module _ (keep : FieldsKeepSame) (law : SameKeepsMeasure) (s : Setting) (sound :
       → AreTermTypes s [] vars → con_at s.datas c ≡ Some it → HasType s [] vars (applied (con c) (types_then types (names xs))) u → HasKind s [] t k → SameTypes t u → HasParts s.datas Circuit t ws
       → AreWide all (wires_of_all scope (names xs)) (present ws)
   product_wide arguments_law saturated c it types xs t u k ws scoped known typed kind same has =
-      let args = saturated s [] vars c it (types_then types (names xs)) u sound scoped known typed (port_asks has u same) in
+      let args = saturated s [] vars c it (types_then types (names xs)) u sound scoped known typed (port_asks facts has u same) in
       let are : types_then types (names xs) ≡ types_then args.0.types args.0.es =
       args.0.are ∙ ap (λ more. types_then args.0.types args.0.es ++ more) args.1 ∙ append-nil (types_then args.0.types args.0.es) in
       let on_types : length types ≡ length it.it.params = sym (types_counted types (names xs)) ∙ ap (λ args. type_count args) are ∙ types_counted args.0.types args.0.es ∙ args.0.on_types in
       let on_terms : length (names xs) ≡ length it.decl.fields = sym (terms_counted types (names xs)) ∙ ap (λ args. term_count args) are ∙ terms_counted args.0.types args.0.es ∙ args.0.on_terms in
       let at = arguments_law s [] vars c it types (names xs) u sound scoped known on_types on_terms typed in
       let whole : HasParts s.datas Circuit (data_of it.of (trees_of types)) ws =
-      parts_kept keep law s sound t (data_of it.of (trees_of types)) ws (record { kind = k; has = kind; same = same_through same (same_turned at.2) }) has in
-      of_leaves whole (fields_kinded s sound c it (trees_of types) known at.0) at.1
+      parts_kept facts keep law s sound t (data_of it.of (trees_of types)) ws (record { kind = k; has = kind; same = facts.same.same_through same (facts.same.same_turned at.2) }) has in
+      of_leaves whole (fields_kinded facts s sound c it (trees_of types) known at.0) at.1
     where
       of_leaves : {ts : TypeTrees} → HasParts s.datas Circuit (data_of it.of ts) ws → AllKinded s (arguments ts) it.decl.fields → AreGiven s [] vars (map (λ f. sub f (arguments ts)) it.decl.fields) (names xs) → AreWide all (wires_of_all scope (names xs)) (present ws)
-      of_leaves (port_parts l h) kinded given = given_wide (con_leaves s.datas c it.of it known refl l) xs ws kinded given h
+      of_leaves (port_parts l h) kinded given = given_wide (con_leaves facts s.datas c it.of it known refl l) xs ws kinded given h
 
 -- a typed case with one alternative
 record OneCase (s : Setting) (vars : List TypeTree) (x n : ℕ) (c : ConId) (e : TermTree) (t : TypeTree) : Type 0 where
@@ -138,25 +135,25 @@ one_case (h_case {bound = bnd} {u = u} {j = j} of looked kind b typed of_kind fu
 same_found : {scope : List Variable} {x : ℕ} {t : TypeTree} {it : Variable} → Found scope x t → slice_get scope x ≡ Some it → SameTypes t it.ty
 same_found {t = t} {it = it} f e = let is : f.it ≡ it = same_some f.is e in subst (λ (v : Variable). SameTypes t v.ty) is f.same
 
-module _ (keep : FieldsKeepSame) (law : SameKeepsMeasure) (s : Setting) (sound : IsSound s) (all : List ℕ) (vars : List TypeTree) (scope : List Variable) (fit : Fits vars scope) (wide : PortsWide s.datas all scope) where
+module _ (facts : Facts) (keep : FieldsKeepSame) (law : SameKeepsMeasure) (s : Setting) (sound : IsSound s) (all : List ℕ) (vars : List TypeTree) (scope : List Variable) (fit : Fits vars scope) (wide : PortsWide s.datas all scope) where
   -- the field that a projection takes has the wires of its parts
   pub projection_wide : (x count z : ℕ) (c : ConId) (it : Variable) (fields : List TypeTree) (parts : List (List ℕ)) (t u : TypeTree) (k : Kind) (ws : List ℕ)
       → z < count → slice_get scope x ≡ Some it → PatternOf s.datas it.ty (OfCon c count) fields → HaveParts s.datas fields parts → HasType s [] vars (case_of (var x) (alt (OfCon c count) (var z) no_alts)) u → HasKind s [] t k → SameTypes t u → HasParts s.datas Circuit t ws
       → AreWide all (field_wires (count - 1 - z) parts it.wires) (present ws)
   projection_wide x count z c it fields parts t u k ws less is pattern have typed kind same has =
       let one = one_case typed in
-      let of : SameTypes one.of it.ty = same_found (found vars scope x one.of fit one.is) is in
-      let same_fields : AreSame one.bnd fields = bound_fields s one.of it.ty (OfCon c count) fields one.bnd one.kind sound one.has of one.binding pattern in
-      let counted : length one.bnd ≡ count = binds one.binding in
+      let of : SameTypes one.of it.ty = same_found (found facts vars scope x one.of fit one.is) is in
+      let same_fields : AreSame one.bnd fields = bound_fields facts s one.of it.ty (OfCon c count) fields one.bnd one.kind sound one.has of one.binding pattern in
+      let counted : length one.bnd ≡ count = facts.patterns.binds one.binding in
       let place = new_one one.bnd vars z u (omega (arith, less, counted)) (new_or_outer one.bnd vars z u (var_at one.typed)) in
       let at = place.1 in
-      let field = same_at one.bnd fields place.0 u same_fields place.2 in
+      let field = facts.scopes.same_at one.bnd fields place.0 u same_fields place.2 in
       let part = parts_at s.datas fields parts place.0 field.0 have field.1 in
-      let kept = parts_kept keep law s sound t field.0 ws (record { kind = k; has = kind; same = same_through same field.2 }) has in
-      let width : part.0 ≡ ws = parts_once part.2 kept in
+      let kept = parts_kept facts keep law s sound t field.0 ws (record { kind = k; has = kind; same = facts.same.same_through same field.2 }) has in
+      let width : part.0 ≡ ws = facts.built.parts_once part.2 kept in
       let number : count - 1 - z ≡ place.0 = omega (arith, at, counted) in
       let h = wide x it is in
-      let total : AreWide all it.wires (all_present parts) = subst (AreWide all it.wires) (pattern_present parts pattern h.have have) h.wide in
+      let total : AreWide all it.wires (all_present parts) = subst (AreWide all it.wires) (pattern_present facts parts pattern h.have have) h.wide in
       subst (λ j. AreWide all (field_wires j parts it.wires) (present ws)) (sym number)
       (subst (λ ws. AreWide all (field_wires place.0 parts it.wires) (present ws)) width (field_wide all place.0 parts it.wires part.0 part.1 total))
 
@@ -171,14 +168,14 @@ module _ (keep : FieldsKeepSame) (law : SameKeepsMeasure) (s : Setting) (sound :
   crossing_wide prims d b a x t u k ws scoped typed kind same has =
       let args = prims s [] vars UnsafeSynchronizer (Dom ∷ Dom ∷ Val ∷ []) (signal (ty_var 2) (ty_var 0) ∷ []) (signal (ty_var 1) (ty_var 0)) (d ∷ b ∷ a ∷ []) (var x ∷ []) u sound scoped refl refl refl typed in
       let gives : SameTypes (signal b a) u = args.gives in
-      let whole : HasParts s.datas Circuit (signal b a) ws = parts_kept keep law s sound t (signal b a) ws (record { kind = k; has = kind; same = same_through same (same_turned gives) }) has in
+      let whole : HasParts s.datas Circuit (signal b a) ws = parts_kept facts keep law s sound t (signal b a) ws (record { kind = k; has = kind; same = facts.same.same_through same (facts.same.same_turned gives) }) has in
       let part = signal_part whole in
       let given : HasTypeUpTo s [] vars (var x) (signal d a) = args.args_given.0 in
-      let at = found vars scope x given.type fit (var_at given.has) in
-      let form = as_signal (same_through given.same at.same) in
+      let at = found facts vars scope x given.type fit (var_at given.has) in
+      let form = facts.same.as_signal (facts.same.same_through given.same at.same) in
       let it = wide x at.it at.is in
       let narrow = signal_part (subst (λ t. HasParts s.datas Circuit t it.parts) form.2 it.have) in
       let carried = law (fits part.0) s a form.1 sound (record { kind = Val; has = third_kind args.have; same = form.4 }) part.1 in
-      let width : narrow.0 ≡ part.0 = width_once narrow.1 carried in
+      let width : narrow.0 ≡ part.0 = facts.widths.width_once narrow.1 carried in
       let are : it.parts ≡ ws = narrow.2 ∙ ap (λ w. w ∷ []) width ∙ sym part.2 in
       subst (λ ws. AreWide all (wires_at scope x) (present ws)) are (subst (λ (wires : List WireId). AreWide all wires (present it.parts)) (sym (wires_there scope x at.it at.is)) it.wide)

@@ -20,7 +20,6 @@ use Rattle.chw_layout.specs.Measured.{HasWidth}
 use Rattle.layout_laws.specs.SameLayout.{SameKeepsMeasure}
 use Rattle.chw_typing.specs.Given.{types_then}
 use Rattle.chw_typing.specs.SpineLaws.{ConAtArguments, ConIsSaturated}
-use Rattle.chw_typing.proofs.Saturated.{prim_at_arguments}
 use Rattle.rewriting.specs.Origins.{MadeOf, Origins, setting_at}
 use Rattle.rewriting.specs.Shapes.{IsVariable, fmap_of, ap_of}
 use Rattle.normal_forms.specs.Circuits.{IsCircuitSide, of_variable, of_register, of_block_ram, of_synchronizer, of_pure, of_lifted, of_call, of_constructor, of_projection, IsLiftedCall, lifted_on_one, lifted_on_more, content_type}
@@ -33,7 +32,7 @@ use Rattle.net_built.specs.Memories.{HasBits, HasWords}
 use Rattle.net_built.specs.Modules.{made_in}
 use Rattle.net_built.specs.Terms.{head_of, types_of, operands_of, Variable, wires_at, wires_of, wires_of_all}
 use Rattle.net_built.specs.Wires.{wire_count, new_wires, present}
-use Rattle.net_built.proofs.Parts.{lifted_once}
+use Rattle.net_grounds.specs.Facts.{Facts}
 use Rattle.net_means.specs.NetFits.Laws.{ground_over}
 use Rattle.net_means.specs.NetFits.Widths.{AreWide, StandFrom}
 use Rattle.net_means.proofs.NetFits.CallShapes.{IsNoCall, CallShape, a_lifted, a_call, no_call, call_shape, head_made, operands_made}
@@ -93,7 +92,7 @@ lifted_made : (P : ℕ → Type 0) {m n : ℕ} {e : TermTree} → IsLiftedCall m
 lifted_made P {e = e} lifted_on_one all = (operands_made P e all).0.0
 lifted_made P {e = e} (lifted_on_more before) all = lifted_made P before (operands_made P e all).0
 
-module _ (keep : FieldsKeepSame) (law : SameKeepsMeasure) (values : SameValues) (con_args : ConAtArguments) (saturated : ConIsSaturated) (o : Origins) (order : List ℕ) (sound : IsSound (setting_at o)) (earlier : List Module) (all : List ℕ) (P : ℕ → Type 0) (lifted_calls : LiftedFit o order earlier all P) (circuit_calls : CircuitsFit o order earlier all P) where
+module _ (facts : Facts) (keep : FieldsKeepSame) (law : SameKeepsMeasure) (values : SameValues) (con_args : ConAtArguments) (saturated : ConIsSaturated) (o : Origins) (order : List ℕ) (sound : IsSound (setting_at o)) (earlier : List Module) (all : List ℕ) (P : ℕ → Type 0) (lifted_calls : LiftedFit o order earlier all P) (circuit_calls : CircuitsFit o order earlier all P) where
   module _ (vars : List TypeTree) (scope : List Variable) (n : ℕ) (ws : List ℕ) (t u : TypeTree) (k : Kind) (kind : HasKind (setting_at o) [] t k) (same : SameTypes t u) (has : HasParts o.program.datas Circuit t ws) (fit : Fits vars scope) (wide : PortsWide o.program.datas all scope) (scoped : AreTermTypes (setting_at o) [] vars) where
     mapped_of : {e : TermTree} → CallShape o e → AllByRecursion P (made_in e) → HasType (setting_at o) [] vars e u → (m : ℕ) (x : TermTree) → head_of e ≡ prim Fmap → operands_of e ≡ made m ∷ x ∷ [] → StandFrom all n (present ws) → 1 ≤ wire_count ws → WidthsAgree earlier all (Use (module_of (ground_over (setting_at o) order) m) (wires_of scope x) (new_wires n ws))
     mapped_of {e} (a_lifted j it known value (lifted_on_one {d = d} {a = a} {b = b} {x = y})) inside typed m x h es stand l =
@@ -112,7 +111,7 @@ module _ (keep : FieldsKeepSame) (law : SameKeepsMeasure) (values : SameValues) 
     lifted_of (a_lifted j it known value (lifted_on_more {d = d} {a = a} {b = b} {u = g} {x = y} {n = count} before)) inside typed m f x xs h es is_call stand l =
         let function : g ≡ f = cc in
         let operand : var y ≡ x = cc in
-        let once = lifted_once (is_lifted before) is_call function in
+        let once = facts.built.lifted_once (is_lifted before) is_call function in
         let operands : lifted_on before ++ var y ∷ [] ≡ xs ++ x ∷ [] = λ i. once.1 i ++ operand i ∷ [] in
         let found_use = lifted_calls vars scope (ap_of d a b g (var y)) (suc count) j (lifted_on_more before) n ws t u k it known value typed kind same has fit wide scoped (lifted_made P {e = ap_of d a b g (var y)} (lifted_on_more before) inside) stand l in
         subst (λ m. WidthsAgree earlier all (Use (module_of (ground_over (setting_at o) order) m) (wires_of_all scope (xs ++ x ∷ [])) (new_wires n ws))) once.0
@@ -139,7 +138,7 @@ module _ (keep : FieldsKeepSame) (law : SameKeepsMeasure) (values : SameValues) 
     constant_of (a_pure {d = f} {a = b} {c = v}) typed d a c w bits h ts es are has_bits =
         let type : a ≡ b = cc in
         let operand : c ≡ v = cc in
-        pure_long keep law values (setting_at o) sound all vars scope fit wide scoped f b v t u k w bits typed kind same (of_part w are) (subst (λ c. HasBits Datas b c bits) operand (subst (λ a. HasBits Datas a c bits) type has_bits))
+        pure_long facts keep law values (setting_at o) sound all vars scope fit wide scoped f b v t u k w bits typed kind same (of_part w are) (subst (λ c. HasBits Datas b c bits) operand (subst (λ a. HasBits Datas a c bits) type has_bits))
     constant_of a_register typed d a c w bits h ts es are has_bits = absurd cc
     constant_of (a_ram content) typed d a c w bits h ts es are has_bits = absurd cc
     constant_of (no_keeper other) typed d a c w bits h ts es are has_bits = absurd ((subst NoConstant h other).0 refl)
@@ -150,7 +149,7 @@ module _ (keep : FieldsKeepSame) (law : SameKeepsMeasure) (values : SameValues) 
         let type : a ≡ b = cc in
         let constant : c ≡ v = cc in
         let operand : var y ≡ x = cc in
-        let r = register_fits keep law values (setting_at o) sound all vars scope fit wide scoped f b v y t u k w bits typed kind same (of_part w are) (subst (λ c. HasBits Datas b c bits) constant (subst (λ a. HasBits Datas a c bits) type has_bits)) in
+        let r = register_fits facts keep law values (setting_at o) sound all vars scope fit wide scoped f b v y t u k w bits typed kind same (of_part w are) (subst (λ c. HasBits Datas b c bits) constant (subst (λ a. HasBits Datas a c bits) type has_bits)) in
         (r.0, subst (λ x. AreWide all (wires_of scope x) (present (w ∷ []))) operand r.1)
     register_of (a_ram content) typed d a c x w bits h ts es are has_bits = absurd cc
     register_of (no_keeper other) typed d a c x w bits h ts es are has_bits = absurd ((subst NoConstant h other).1 refl)
@@ -164,7 +163,7 @@ module _ (keep : FieldsKeepSame) (law : SameKeepsMeasure) (values : SameValues) 
         let constant : c ≡ v = cc in
         let read : var r ≡ x = cc in
         let write : var q ≡ y = cc in
-        let fits_so = memory_fits keep law values (setting_at o) sound all vars scope fit wide scoped f n i b v r q t u k w size words typed kind same (of_part w are) content (subst (λ c. HasWords Datas b c words) constant (subst (λ a. HasWords Datas a c words) type has_words)) in
+        let fits_so = memory_fits facts keep law values (setting_at o) sound all vars scope fit wide scoped f n i b v r q t u k w size words typed kind same (of_part w are) content (subst (λ c. HasWords Datas b c words) constant (subst (λ a. HasWords Datas a c words) type has_words)) in
         subst (λ j. MemoryFits all (wires_of scope x) (wires_of scope y) j w words) number
         (subst (λ x. MemoryFits all (wires_of scope x) (wires_of scope y) i w words) read (subst (λ y. MemoryFits all (wires_at scope r) (wires_of scope y) i w words) write fits_so))
     ram_of (no_keeper other) typed d m j a c x y w words h ts es are has_words = absurd ((subst NoConstant h other).2 refl)
@@ -174,21 +173,21 @@ module _ (keep : FieldsKeepSame) (law : SameKeepsMeasure) (values : SameValues) 
         let s : Setting = setting_at o in
         record {
           parts = parts;
-          of_name = λ x h ts es. port_wide keep law s sound all vars scope x t u k ws fit wide (subst (λ e. HasType s [] vars e u) (alone e ts es ∙ h) typed) kind same has;
+          of_name = λ x h ts es. port_wide facts keep law s sound all vars scope x t u k ws fit wide (subst (λ e. HasType s [] vars e u) (alone e ts es ∙ h) typed) kind same has;
           crossing = λ y h es.
               let c = crossing_of form h in
               let is : var c.x ∷ [] ≡ y ∷ [] = sym (ap (λ e. operands_of e) c.is) ∙ es in
               let operand : var c.x ≡ y = cc in
               subst (λ y. AreWide all (wires_of scope y) (present ws)) operand
-              (crossing_wide keep law s sound all vars scope fit wide prim_at_arguments c.d c.b c.a c.x t u k ws scoped (subst (λ e. HasType s [] vars e u) c.is typed) kind same has);
+              (crossing_wide facts keep law s sound all vars scope fit wide facts.terms.prim_at_arguments c.d c.b c.a c.x t u k ws scoped (subst (λ e. HasType s [] vars e u) c.is typed) kind same has);
           product = λ c h.
               let p = product_of form c h in
               let operands : operands_of e ≡ names p.xs = ap (λ e. operands_of e) p.is ∙ operands_then (con p.c) p.types (names p.xs) in
               subst (λ es. AreWide all (wires_of_all scope es) (present ws)) (sym operands)
-              (product_wide keep law s sound all vars scope fit wide con_args saturated p.c p.it p.types p.xs t u k ws scoped p.known (subst (λ e. HasType s [] vars e u) p.is typed) kind same has);
+              (product_wide facts keep law s sound all vars scope fit wide con_args saturated p.c p.it p.types p.xs t u k ws scoped p.known (subst (λ e. HasType s [] vars e u) p.is typed) kind same has);
           projection = λ x count z c it fields of_fields h ts es i pattern have.
               let is = alone e ts es ∙ h in
-              projection_wide keep law s sound all vars scope fit wide x count z c it fields of_fields t u k ws (projection_of form x count z c is) i pattern have (subst (λ e. HasType s [] vars e u) is typed) kind same has;
+              projection_wide facts keep law s sound all vars scope fit wide x count z c it fields of_fields t u k ws (projection_of form x count z c is) i pattern have (subst (λ e. HasType s [] vars e u) is typed) kind same has;
           constant = constant_of (keeper_shape form) typed;
           register = register_of (keeper_shape form) typed;
           ram = ram_of (keeper_shape form) typed;

@@ -13,7 +13,8 @@ use Rattle.net_built.specs.Built.{Built, ground_of}
 use Rattle.net_built.specs.Circuits.{Ground, place_in}
 use Rattle.net_built.specs.Modules.{AreModules, HasOutputs, holds, made_in, Visited, already, without_outputs, behind_its_uses, AllVisited, none_visited, visited_and}
 use Rattle.net_built.specs.Wires.{wire_count}
-use Rattle.net_built.proofs.Parts.{parts_once, same_some}
+use Rattle.net_grounds.specs.Facts.{Facts}
+use Rattle.net_means.proofs.Lists.{same_some}
 use Rattle.net_means.proofs.NetFits.Drivers.{as_many}
 use Rattle.net_means.proofs.NetFits.Uses.{NoOutputs, BeforePlace, AllBefore, Behind, order_behind}
 use Rattle.net_means.proofs.NetWidths.Distinct.{Distinct, AllBelow, distinct_end, distinct_few}
@@ -80,17 +81,17 @@ holds_last [] m = ap (λ b. b || false) (eq-eqb m m refl)
 holds_last (k ∷ ks) m = or_right (k == m) (holds (ks ++ m ∷ []) m) (holds_last ks m)
 
 -- one with outputs isn't one without
-outputs_differ : (datas : List Data) (state : List Made) (m count : ℕ) (it : Made) → slice_get state m ≡ Some it → HasOutputs datas it (suc count) → NoOutputs datas state m → ⊥
-outputs_differ datas state m count it is some none =
+outputs_differ : Facts → (datas : List Data) (state : List Made) (m count : ℕ) (it : Made) → slice_get state m ≡ Some it → HasOutputs datas it (suc count) → NoOutputs datas state m → ⊥
+outputs_differ facts datas state m count it is some none =
     let same : none.0 ≡ it = same_some none.1 is in
     let other : HasOutputs datas it 0 = subst (λ it. HasOutputs datas it 0) same none.2 in
-    let widths : other.widths ≡ some.widths = parts_once other.parts some.parts in
+    let widths : other.widths ≡ some.widths = facts.built.parts_once other.parts some.parts in
     let many : wire_count other.widths ≡ wire_count some.widths = ap (λ ws. wire_count ws) widths in
     let are = some.are in
     let none_are = other.are in
     omega (arith, many, are, none_are)
 
-module _ (datas : List Data) (state : List Made) (whole : List ℕ) (behind : Behind datas state whole) where
+module _ (facts : Facts) (datas : List Data) (state : List Made) (whole : List ℕ) (behind : Behind datas state whole) where
   -- those that a made definition of the order uses stand before it
   uses_before : (m : ℕ) (it : Made) → holds whole m ≡ true → slice_get state m ≡ Some it → AllBefore datas state whole (place_in whole m) (made_in it.body)
   uses_before m it h is = behind.each (place_in whole m) m it (place_there whole m (holds_place whole m h)) is
@@ -132,7 +133,7 @@ module _ (datas : List Data) (state : List Made) (whole : List ℕ) (behind : Be
     visited_grown : {order longer : List ℕ} {m : ℕ} → Visited datas state order m longer → ((x : ℕ) → holds longer x ≡ true → holds whole x ≡ true) → (place : ℕ) → BeforePlace datas state whole place m → Grown order longer place
     visited_grown {order} (already h) within place before = unchanged order place
     visited_grown {order} (without_outputs h is none) within place before = unchanged order place
-    visited_grown (behind_its_uses {m = m} {count = count} {it = it} h is some uses) within place (inl none) = absurd (outputs_differ datas state m count it is some none)
+    visited_grown (behind_its_uses {m = m} {count = count} {it = it} h is some uses) within place (inl none) = absurd (outputs_differ facts datas state m count it is some none)
     visited_grown {order} (behind_its_uses {longer = longer} {m = m} {it = it} h is some uses) within place (inr l) =
         one_grown order longer m place h l
         (all_grown uses (λ x e. within x (holds_longer longer (m ∷ []) x e)) (place_in whole m) (uses_before m it (within m (holds_last longer m)) is))
@@ -147,13 +148,13 @@ order_below ground state [] modules all = tt
 order_below ground state (m ∷ ms) [] all = absurd all
 order_below ground state (m ∷ ms) (built ∷ more) all = (slice_get_within state m all.0.0 all.0.1, order_below ground state ms more all.1)
 
-pub modules_few : (p : Program) (state : List Made) (net : Net) → Built p state net → length net.modules ≤ length state
-modules_few p state net of =
+pub modules_few : Facts → (p : Program) (state : List Made) (net : Net) → Built p state net → length net.modules ≤ length state
+modules_few facts p state net of =
     let below : List ℕ = of.is_order.below in
     let whole : List ℕ = below ++ 0 ∷ [] in
     let behind : Behind p.datas state whole = subst (λ order. Behind p.datas state order) of.is_order.whole (order_behind p state net of) in
-    let before = uses_before p.datas state whole behind 0 of.is_order.top (holds_last below 0) of.is_order.is_top in
-    let grown = all_grown p.datas state whole behind of.is_order.visited (λ x e. holds_longer below (0 ∷ []) x e) (place_in whole 0) before in
+    let before = uses_before facts p.datas state whole behind 0 of.is_order.top (holds_last below 0) of.is_order.is_top in
+    let grown = all_grown facts p.datas state whole behind of.is_order.visited (λ x e. holds_longer below (0 ∷ []) x e) (place_in whole 0) before in
     let fresh : holds below 0 ≡ false = not_true (holds below 0) (λ e. again below (grown.new 0 e)) in
     let distinct : Distinct of.order = subst Distinct (sym of.is_order.whole) (distinct_end below 0 (grown.distinct tt) fresh) in
     let few = distinct_few (length state) of.order distinct (order_below (ground_of p of.order) state of.order net.modules of.modules) in

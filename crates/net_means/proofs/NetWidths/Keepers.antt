@@ -3,7 +3,6 @@ use Rattle.std.proofs.Common.{◌≡◌, ℕ, suc, ◌+◌, ◌≤◌, arith, Bo
 use Rattle.std.specs.List.{AllByRecursion}
 use Rattle.chw_base.specs.declared.index.WireId.{WireId}
 use Rattle.chw_base.specs.declared.limits.TheConstants.{RAM_WORDS, SCALAR_BITS, VECTOR_LENGTH}
-use Rattle.chw_bits.proofs.Numbers.{length-bits_of}
 use Rattle.chw_types.specs.declared.declarations.Data.{Data}
 use Rattle.chw_types.specs.declared.kind.Kind.{Kind}
 use Rattle.chw_types.specs.declared.kind.Kind.TheVariants.{Dom, Nat, Val}
@@ -13,9 +12,7 @@ use Rattle.chw_types.specs.SamePromises.{SameValues, natural_value}
 use Rattle.chw_types.specs.SameTypes.{SameTypes}
 use Rattle.chw_types.specs.TypeMoves.{sub}
 use Rattle.chw_types.specs.TypeTree.{TypeTree, TypeTrees, type_and, ty_var, nat_lit, nat_sum, scalar, vector, signal}
-use Rattle.chw_types.proofs.SameLaws.{same_self, same_turned, same_through}
 use Rattle.type_laws.specs.SameKept.{FieldsKeepSame}
-use Rattle.type_laws.proofs.SameForms.{as_scalar, as_signal, as_vector}
 use Rattle.chw_prims.specs.declared.prim.Primitive.TheVariants.{Pure, Register, BlockRam}
 use Rattle.chw_prims.specs.Schemas.{maybe, pair}
 use Rattle.chw_terms.specs.declared.scene.Sort.TheVariants.{Circuit}
@@ -27,16 +24,13 @@ use Rattle.chw_typing.specs.Typing.{HasType, HasTypeUpTo, h_vec, count}
 use Rattle.chw_layout.specs.Datum.{Datums, no_data, datum_and, elements}
 use Rattle.chw_layout.specs.Encodes.{count_of}
 use Rattle.chw_layout.specs.Measured.{closed_value, HasWidth}
-use Rattle.chw_layout.proofs.Encodings.{encoded_length}
-use Rattle.chw_layout.proofs.Fitting.{scalar_width}
 use Rattle.layout_laws.specs.SameLayout.{SameKeepsMeasure}
-use Rattle.layout_laws.proofs.SameLayout.{same_number}
 use Rattle.chw_typing.specs.Given.{types_then}
-use Rattle.chw_typing.proofs.Saturated.{prim_at_arguments}
 use Rattle.net_built.specs.Data.{HasParts, value_part}
 use Rattle.net_built.specs.Memories.{Denotes, denotes_elements, DenoteEach, denote_none, denote_and, HasBits, EncodeEach, HasWords}
 use Rattle.net_built.specs.Terms.{list_of, Variable, wires_at}
 use Rattle.net_built.specs.Wires.{present}
+use Rattle.net_grounds.specs.Facts.{Facts}
 use Rattle.net_means.specs.NetFits.Widths.{AreWide}
 use Rattle.net_means.proofs.NetFits.Ports.{parts_kept, signal_part}
 use Rattle.net_means.proofs.WordRows.{scalar_within}
@@ -46,16 +40,16 @@ use Rattle.net_means.proofs.NetWidths.CallWidths.{signal_wide}
 use Rattle.net_means.proofs.NetWidths.PortsWide.{PortsWide}
 use Rattle.net_means.proofs.NetWidths.Writes.{write_width}
 
-pub bits_long : {datas : List Data} {a : TypeTree} {c : TermTree} {bits : List Bool} {w : ℕ} → HasBits datas a c bits → HasWidth datas a w → length bits ≡ w
-bits_long b has = encoded_length length-bits_of b.encodes has
+pub bits_long : Facts → {datas : List Data} {a : TypeTree} {c : TermTree} {bits : List Bool} {w : ℕ} → HasBits datas a c bits → HasWidth datas a w → length bits ≡ w
+bits_long facts b has = facts.encodings.encoded_length b.encodes has
 
 -- as many words as values, each as wide as the type
-words_fit : (datas : List Data) (a : TypeTree) (w : ℕ) (ds : Datums) (words : List (List Bool)) → HasWidth datas a w → EncodeEach datas a ds words → (length words ≡ count_of ds) × AllByRecursion (λ (word : List Bool). length word ≡ w) words
-words_fit datas a w no_data [] has h = (refl, tt)
-words_fit datas a w no_data (b ∷ words) has h = absurd h
-words_fit datas a w (datum_and d ds) [] has h = absurd h
-words_fit datas a w (datum_and d ds) (b ∷ words) has h =
-    let rest = words_fit datas a w ds words has h.1 in (ap suc rest.0, (encoded_length length-bits_of h.0 has, rest.1))
+words_fit : Facts → (datas : List Data) (a : TypeTree) (w : ℕ) (ds : Datums) (words : List (List Bool)) → HasWidth datas a w → EncodeEach datas a ds words → (length words ≡ count_of ds) × AllByRecursion (λ (word : List Bool). length word ≡ w) words
+words_fit facts datas a w no_data [] has h = (refl, tt)
+words_fit facts datas a w no_data (b ∷ words) has h = absurd h
+words_fit facts datas a w (datum_and d ds) [] has h = absurd h
+words_fit facts datas a w (datum_and d ds) (b ∷ words) has h =
+    let rest = words_fit facts datas a w ds words has h.1 in (ap suc rest.0, (facts.encodings.encoded_length h.0 has, rest.1))
 
 each_count : (es : Terms) (ds : Datums) → DenoteEach (list_of es) ds → count_of ds ≡ count es
 each_count no_terms no_data denote_none = refl
@@ -66,18 +60,18 @@ each_count (term_and e es) (datum_and d ds) (denote_and one more) = ap suc (each
 vec_typed : {s : Setting} {vars : List TypeTree} {t u : TypeTree} {es : Terms} → HasType s [] vars (vec_lit t es) u → u ≡ vector (nat_lit (count es)) t
 vec_typed (h_vec is all) = refl
 
-literal_number : (values : SameValues) (n a t u : TypeTree) (c : ℕ) → closed_value n ≤ VECTOR_LENGTH → u ≡ vector (nat_lit c) t → SameTypes (vector n a) u → c ≡ closed_value n
+literal_number : Facts → (values : SameValues) (n a t u : TypeTree) (c : ℕ) → closed_value n ≤ VECTOR_LENGTH → u ≡ vector (nat_lit c) t → SameTypes (vector n a) u → c ≡ closed_value n
 unfolding natural_value
-literal_number values n a t u c small is same =
-    let at = as_vector same in
+literal_number facts values n a t u c small is same =
+    let at = facts.same.as_vector same in
     let both : vector (nat_lit c) t ≡ vector at.0 at.1 = sym is ∙ at.2 in
     let number : nat_lit c ≡ at.0 = cc in
-    let means : closed_value n ≡ closed_value (nat_lit c) = same_number values at.3 ∙ ap (λ n. closed_value n) (sym number) in
+    let means : closed_value n ≡ closed_value (nat_lit c) = facts.same_layout.same_number values at.3 ∙ ap (λ n. closed_value n) (sym number) in
     omega (arith, means, small)
 
 -- a typed vector of constants has as many values as its type says
-values_counted : (values : SameValues) {s : Setting} {vars : List TypeTree} {c : TermTree} {ds : Datums} {u : TypeTree} (n a : TypeTree) → closed_value n ≤ VECTOR_LENGTH → Denotes c (elements ds) → HasType s [] vars c u → SameTypes (vector n a) u → count_of ds ≡ closed_value n
-values_counted values {ds = ds} {u = u} n a small (denotes_elements {t = t} {es = es} all) typed same = each_count es ds all ∙ literal_number values n a t u (count es) small (vec_typed typed) same
+values_counted : Facts → (values : SameValues) {s : Setting} {vars : List TypeTree} {c : TermTree} {ds : Datums} {u : TypeTree} (n a : TypeTree) → closed_value n ≤ VECTOR_LENGTH → Denotes c (elements ds) → HasType s [] vars c u → SameTypes (vector n a) u → count_of ds ≡ closed_value n
+values_counted facts values {ds = ds} {u = u} n a small (denotes_elements {t = t} {es = es} all) typed same = each_count es ds all ∙ literal_number facts values n a t u (count es) small (vec_typed typed) same
 
 sum_some : (m : TypeTree) → 1 ≤ closed_value (nat_sum m (nat_lit 1))
 unfolding natural_value
@@ -92,11 +86,11 @@ pub record MemoryFits (all : List ℕ) (read write : List WireId) (k : TypeTree)
   pub most : length words ≤ RAM_WORDS
   pub address : closed_value k ≤ SCALAR_BITS
 
-module _ (keep : FieldsKeepSame) (law : SameKeepsMeasure) (values : SameValues) (s : Setting) (sound : IsSound s) (all : List ℕ) (vars : List TypeTree) (scope : List Variable) (fit : Fits vars scope) (wide : PortsWide s.datas all scope) (scoped : AreTermTypes s [] vars) where
+module _ (facts : Facts) (keep : FieldsKeepSame) (law : SameKeepsMeasure) (values : SameValues) (s : Setting) (sound : IsSound s) (all : List ℕ) (vars : List TypeTree) (scope : List Variable) (fit : Fits vars scope) (wide : PortsWide s.datas all scope) (scoped : AreTermTypes s [] vars) where
   -- the values of a signal are as wide as its part
   payload_width : (d a t u : TypeTree) (k : Kind) (w : ℕ) → HasKind s [] t k → SameTypes t u → SameTypes (signal d a) u → HasParts s.datas Circuit t (w ∷ []) → HasWidth s.datas a w
   payload_width d a t u k w kind same gives has =
-      let part = signal_part (parts_kept keep law s sound t (signal d a) (w ∷ []) (record { kind = k; has = kind; same = same_through same (same_turned gives) }) has) in
+      let part = signal_part (parts_kept facts keep law s sound t (signal d a) (w ∷ []) (record { kind = k; has = kind; same = facts.same.same_through same (facts.same.same_turned gives) }) has) in
       let are : w ∷ [] ≡ part.0 ∷ [] = part.2 in
       let is : part.0 ≡ w = cc in
       subst (HasWidth s.datas a) is part.1
@@ -104,9 +98,9 @@ module _ (keep : FieldsKeepSame) (law : SameKeepsMeasure) (values : SameValues) 
   pub pure_long : (d a : TypeTree) (c : TermTree) (t u : TypeTree) (k : Kind) (w : ℕ) (bits : List Bool) → HasType s [] vars (applied (prim Pure) (types_then (d ∷ a ∷ []) (c ∷ []))) u → HasKind s [] t k → SameTypes t u → HasParts s.datas Circuit t (w ∷ []) → HasBits s.datas a c bits → length bits ≡ w
   unfolding sub
   pure_long d a c t u k w bits typed kind same has b =
-      let args = prim_at_arguments s [] vars Pure (Dom ∷ Val ∷ []) (ty_var 0 ∷ []) (signal (ty_var 1) (ty_var 0)) (d ∷ a ∷ []) (c ∷ []) u sound scoped refl refl refl typed in
+      let args = facts.terms.prim_at_arguments s [] vars Pure (Dom ∷ Val ∷ []) (ty_var 0 ∷ []) (signal (ty_var 1) (ty_var 0)) (d ∷ a ∷ []) (c ∷ []) u sound scoped refl refl refl typed in
       let gives : SameTypes (signal d a) u = args.gives in
-      bits_long b (payload_width d a t u k w kind same gives has)
+      bits_long facts b (payload_width d a t u k w kind same gives has)
 
   second_kind : {t u : TypeTree} {ts : TypeTrees} {j k : Kind} {ks : List Kind} → KindsOf s.datas s.domains [] (type_and t (type_and u ts)) (j ∷ k ∷ ks) → HasKind s [] u k
   second_kind (kind_and j (kind_and k more)) = k
@@ -118,11 +112,11 @@ module _ (keep : FieldsKeepSame) (law : SameKeepsMeasure) (values : SameValues) 
       → (length bits ≡ w) × AreWide all (wires_at scope x) (present (w ∷ []))
   unfolding sub
   register_fits d a c x t u k w bits typed kind same has b =
-      let args = prim_at_arguments s [] vars Register (Dom ∷ Val ∷ []) (ty_var 0 ∷ signal (ty_var 1) (ty_var 0) ∷ []) (signal (ty_var 1) (ty_var 0)) (d ∷ a ∷ []) (c ∷ var x ∷ []) u sound scoped refl refl refl typed in
+      let args = facts.terms.prim_at_arguments s [] vars Register (Dom ∷ Val ∷ []) (ty_var 0 ∷ signal (ty_var 1) (ty_var 0) ∷ []) (signal (ty_var 1) (ty_var 0)) (d ∷ a ∷ []) (c ∷ var x ∷ []) u sound scoped refl refl refl typed in
       let gives : SameTypes (signal d a) u = args.gives in
       let given : HasTypeUpTo s [] vars (var x) (signal d a) = args.args_given.1.0 in
       let width = payload_width d a t u k w kind same gives has in
-      (bits_long b width, signal_wide keep law prim_at_arguments s sound all vars scope fit wide scoped x d a a Val (w ∷ []) given (second_kind args.have) (same_self a) (value_part width))
+      (bits_long facts b width, signal_wide facts keep law facts.terms.prim_at_arguments s sound all vars scope fit wide scoped x d a a Val (w ∷ []) given (second_kind args.have) (facts.same.same_self a) (value_part width))
 
   -- a variable that is a signal of words
   record WordSignal (x : ℕ) (k : TypeTree) : Type 0 where
@@ -139,8 +133,8 @@ module _ (keep : FieldsKeepSame) (law : SameKeepsMeasure) (values : SameValues) 
 
   signal_wires : (x : ℕ) (d a : TypeTree) → HasTypeUpTo s [] vars (var x) (signal d a) → SignalWires x a
   signal_wires x d a given =
-      let at = found vars scope x given.type fit (var_at given.has) in
-      let form = as_signal (same_through given.same at.same) in
+      let at = found facts vars scope x given.type fit (var_at given.has) in
+      let form = facts.same.as_signal (facts.same.same_through given.same at.same) in
       let it = wide x at.it at.is in
       let part = signal_part (subst (λ t. HasParts s.datas Circuit t it.parts) form.2 it.have) in
       record {
@@ -155,18 +149,18 @@ module _ (keep : FieldsKeepSame) (law : SameKeepsMeasure) (values : SameValues) 
   word_signal : (x : ℕ) (d k : TypeTree) → HasTypeUpTo s [] vars (var x) (signal d (scalar U k)) → WordSignal x k
   word_signal x d k given =
       let it = signal_wires x d (scalar U k) given in
-      let form = as_scalar it.same in
+      let form = facts.same.as_scalar it.same in
       let has : HasWidth s.datas (scalar U form.0) it.width = subst (λ t. HasWidth s.datas t it.width) form.1 it.has in
-      let number : closed_value k ≡ closed_value form.0 = same_number values form.2 in
-      let width : it.width ≡ closed_value k = scalar_width has ∙ sym number in
-      let within = scalar_within has in
+      let number : closed_value k ≡ closed_value form.0 = facts.same_layout.same_number values form.2 in
+      let width : it.width ≡ closed_value k = facts.widths.scalar_width has ∙ sym number in
+      let within = scalar_within facts has in
       record { wires = subst (λ w. AreWide all (wires_at scope x) (present (w ∷ []))) width it.wires; small = omega (arith, number, within) }
 
   pub memory_fits : (d m k a : TypeTree) (c : TermTree) (x y : ℕ) (t u : TypeTree) (j : Kind) (w v : ℕ) (words : List (List Bool)) → HasType s [] vars (applied (prim BlockRam) (types_then (d ∷ m ∷ k ∷ a ∷ []) (c ∷ var x ∷ var y ∷ []))) u → HasKind s [] t j → SameTypes t u → HasParts s.datas Circuit t (w ∷ [])
       → HasWidth s.datas (vector (nat_sum m (nat_lit 1)) a) v → HasWords s.datas a c words → MemoryFits all (wires_at scope x) (wires_at scope y) k w words
   unfolding sub
   memory_fits d m k a c x y t u j w v words typed kind same has content h =
-      let args = prim_at_arguments s [] vars BlockRam (Dom ∷ Nat ∷ Nat ∷ Val ∷ []) (vector (nat_sum (ty_var 2) (nat_lit 1)) (ty_var 0) ∷ signal (ty_var 3) (scalar U (ty_var 1)) ∷ signal (ty_var 3) (maybe (pair (scalar U (ty_var 1)) (ty_var 0))) ∷ []) (signal (ty_var 3) (ty_var 0)) (d ∷ m ∷ k ∷ a ∷ []) (c ∷ var x ∷ var y ∷ []) u sound scoped refl refl refl typed in
+      let args = facts.terms.prim_at_arguments s [] vars BlockRam (Dom ∷ Nat ∷ Nat ∷ Val ∷ []) (vector (nat_sum (ty_var 2) (nat_lit 1)) (ty_var 0) ∷ signal (ty_var 3) (scalar U (ty_var 1)) ∷ signal (ty_var 3) (maybe (pair (scalar U (ty_var 1)) (ty_var 0))) ∷ []) (signal (ty_var 3) (ty_var 0)) (d ∷ m ∷ k ∷ a ∷ []) (c ∷ var x ∷ var y ∷ []) u sound scoped refl refl refl typed in
       let gives : SameTypes (signal d a) u = args.gives in
       let constant : HasTypeUpTo s [] vars c (vector (nat_sum m (nat_lit 1)) a) = args.args_given.0 in
       let reading : HasTypeUpTo s [] vars (var x) (signal d (scalar U k)) = args.args_given.1.0 in
@@ -174,10 +168,10 @@ module _ (keep : FieldsKeepSame) (law : SameKeepsMeasure) (values : SameValues) 
       let width = payload_width d a t u j w kind same gives has in
       let read = word_signal x d k reading in
       let write = signal_wires y d (maybe (pair (scalar U k) a)) writing in
-      let long : write.width ≡ suc (closed_value k + w) = write_width law values s sound k a write.type w write.width (fourth_kind args.have) width write.same write.has in
-      let fitting = words_fit s.datas a w h.values words width h.encode in
-      let limit : closed_value (nat_sum m (nat_lit 1)) ≤ VECTOR_LENGTH = vector_within content in
-      let many = values_counted values (nat_sum m (nat_lit 1)) a limit h.denotes constant.has constant.same in
+      let long : write.width ≡ suc (closed_value k + w) = write_width facts law values s sound k a write.type w write.width (fourth_kind args.have) width write.same write.has in
+      let fitting = words_fit facts s.datas a w h.values words width h.encode in
+      let limit : closed_value (nat_sum m (nat_lit 1)) ≤ VECTOR_LENGTH = vector_within facts content in
+      let many = values_counted facts values (nat_sum m (nat_lit 1)) a limit h.denotes constant.has constant.same in
       let size = fitting.0 in
       let one = sum_some m in
       record {

@@ -8,7 +8,6 @@ use Rattle.chw_base.specs.declared.index.DomId.{DomId}
 use Rattle.chw_base.specs.declared.index.WireId.{WireId}
 use Rattle.chw_base.specs.declared.limits.TheConstants.{ADDRESS_BITS, RAM_WORDS}
 use Rattle.chw_bits.specs.Bits.{bits_of}
-use Rattle.chw_bits.proofs.Numbers.{length-bits_of}
 use Rattle.netlist.specs.Sound.{HasWidth}
 use Rattle.netlist.specs.declared.net.Cell.TheVariants.{Const, Join, Cut, Ram}
 use Rattle.netlist.specs.declared.net.Module.{Module}
@@ -16,6 +15,7 @@ use Rattle.net_rules.specs.WellFormed.{HasFewWords}
 use Rattle.net_built.specs.Memories.{past_all, address, address_wire, filled_up, narrowed, memory}
 use Rattle.net_built.specs.Wires.{wire, new_wires, present, Piece, nothing, one, ◌▸◌, after, last_wire}
 use Rattle.net_built.specs.Words.{zeros, only}
+use Rattle.net_means.proofs.Lists.{length-bits_of}
 use Rattle.net_means.specs.NetFits.Widths.{AreWide, StandFrom}
 use Rattle.net_means.proofs.NetFits.Reading.{all_append}
 use Rattle.net_means.proofs.NetFits.Wide.{Ends, ends_alone, ends_then, stand_parts, wide_from}

@@ -26,7 +26,7 @@ use Rattle.net_built.specs.Built.{Built, ground_of}
 use Rattle.net_built.specs.Modules.{IsModuleOf, made_in}
 use Rattle.net_built.specs.Terms.{wires_at}
 use Rattle.net_built.specs.Wires.{Piece}
-use Rattle.net_built.proofs.NoLoops.{normal_free}
+use Rattle.net_grounds.specs.Facts.{Facts}
 use Rattle.net_means.specs.NetFits.Widths.{StandFrom}
 use Rattle.net_means.proofs.NetFits.Drivers.{module_at}
 use Rattle.net_means.proofs.NetFits.Reading.{Under, IsPlain, ReadsWires}
@@ -67,23 +67,23 @@ record BodyKept (earlier : List Module) (all inputs : List ℕ) (p : Piece) : Ty
   pub ins : Small inputs
   pub few : AllByRecursion HasFewWords p.cells
 
-module _ (keep : FieldsKeepSame) (law : SameKeepsMeasure) (values : SameValues) (con_args : ConAtArguments) (saturated : ConIsSaturated) (prim_args : PrimAtArguments) (typed_origins : StatesHaveTypedOrigins) (p : Program) (state : List Made) (net : Net) (of : Built p state net) (typed : IsTypedState p state) (normal : IsNormal p state) where
+module _ (facts : Facts) (keep : FieldsKeepSame) (law : SameKeepsMeasure) (values : SameValues) (con_args : ConAtArguments) (saturated : ConIsSaturated) (prim_args : PrimAtArguments) (typed_origins : StatesHaveTypedOrigins) (p : Program) (state : List Made) (net : Net) (of : Built p state net) (typed : IsTypedState p state) (normal : IsNormal p state) where
   by_sort : (i : ℕ) → i ≤ length of.order → (m : ℕ) (it : Made) (built : Module) (sort : Sort) → slice_get state m ≡ Some it → AllBefore p.datas state of.order i (made_in it.body) → (made_of : IsModuleOf (ground_of p of.order) it built) → it.sort ≡ sort → BodyKept (take i net.modules) built.widths made_of.inputs made_of.cells
   by_sort i l m it built Value is before made_of value =
       let o : Origins = origins_in p state in
       let s : Setting = setting_at o in
       let body = normal.bodies m it is in
       let sound = (typed_origins p state typed).sound in
-      let free = normal_free p state normal m it is value in
+      let free = facts.built.normal_free p state normal m it is value in
       let form = subst (λ (sort : Sort). HasForm o sort body.vars body.inner) value body.form in
       let built_so : BodyBuilt (ground_of p of.order) Value [] 0 it.body made_of.inputs made_of.cells built.outputs =
       subst (λ (sort : Sort). BodyBuilt (ground_of p of.order) sort [] 0 it.body made_of.inputs made_of.cells built.outputs) value made_of.body in
       let stand : StandFrom built.widths 0 (made_of.inputs ++ made_of.cells.widths) = subst (StandFrom built.widths 0) made_of.are_widths (all_stand built.widths) in
-      let kept = value_body_kept law values con_args saturated o of.order sound (take i net.modules) built.widths (λ m. BeforePlace p.datas state of.order i m) (value_uses keep law prim_args typed_origins p state net of typed normal i l built.widths) built_so body.under form before body.typed.has (record { same = tt }) tt stand (none_wide p.datas built.widths) free in
+      let kept = value_body_kept facts law values con_args saturated o of.order sound (take i net.modules) built.widths (λ m. BeforePlace p.datas state of.order i m) (value_uses facts keep law prim_args typed_origins p state net of typed normal i l built.widths) built_so body.under form before body.typed.has (record { same = tt }) tt stand (none_wide facts p.datas built.widths) free in
       let total : ℕ = length made_of.inputs + length made_of.cells.widths in
       let room : 0 + length made_of.inputs + length made_of.cells.widths ≤ total = omega arith in
       let calls : ValueCalls o of.order HasFewWords (λ m. BeforePlace p.datas state of.order i m) = λ vars scope e m n w t u k it known value head types variables has kind same wide fit sized before some. tt in
-      let reads = body_reads law o of.order sound HasFewWords plain_few (λ m. BeforePlace p.datas state of.order i m) calls total built_so body.under form before body.typed.has (record { same = tt }) (none_sized s) room (λ l y. nowhere total y) free in
+      let reads = body_reads facts law o of.order sound HasFewWords plain_few (λ m. BeforePlace p.datas state of.order i m) calls total built_so body.under form before body.typed.has (record { same = tt }) (none_sized s) room (λ l y. nowhere total y) free in
       record { agree = kept.0.agree.cells; widths = kept.0.small; ins = kept.1; few = each_few total made_of.cells.cells reads.0.cells }
   by_sort i l m it built Circuit is before made_of circuit =
       let o : Origins = origins_in p state in
@@ -93,7 +93,7 @@ module _ (keep : FieldsKeepSame) (law : SameKeepsMeasure) (values : SameValues) 
       let built_so : BodyBuilt (ground_of p of.order) Circuit [] 0 it.body made_of.inputs made_of.cells built.outputs =
       subst (λ (sort : Sort). BodyBuilt (ground_of p of.order) sort [] 0 it.body made_of.inputs made_of.cells built.outputs) circuit made_of.body in
       let stand : StandFrom built.widths 0 (made_of.inputs ++ made_of.cells.widths) = subst (StandFrom built.widths 0) made_of.are_widths (all_stand built.widths) in
-      let kept = circuit_body_kept keep law values con_args saturated o of.order sound (take i net.modules) built.widths (λ m. BeforePlace p.datas state of.order i m) (lifted_uses keep law prim_args typed_origins p state net of typed normal i l built.widths) (circuit_uses keep law prim_args typed_origins p state net of typed normal i l built.widths) built_so body.under form before body.typed.has (record { same = tt }) (no_ports p.datas built.widths) tt stand in
+      let kept = circuit_body_kept facts keep law values con_args saturated o of.order sound (take i net.modules) built.widths (λ m. BeforePlace p.datas state of.order i m) (lifted_uses facts keep law prim_args typed_origins p state net of typed normal i l built.widths) (circuit_uses facts keep law prim_args typed_origins p state net of typed normal i l built.widths) built_so body.under form before body.typed.has (record { same = tt }) (no_ports p.datas built.widths) tt stand in
       record { agree = kept.0.kept.agree.cells; widths = kept.0.kept.small; ins = kept.1; few = kept.0.few.cells }
 
   -- each module that is built

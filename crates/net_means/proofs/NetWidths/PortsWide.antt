@@ -7,14 +7,12 @@ use Rattle.chw_types.specs.declared.declarations.Data.{Data}
 use Rattle.chw_types.specs.declared.kind.Kind.{Kind}
 use Rattle.chw_types.specs.SameTypes.{SameTypes}
 use Rattle.chw_types.specs.TypeTree.{TypeTree}
-use Rattle.chw_types.proofs.SameLaws.{same_through}
 use Rattle.type_laws.specs.SameKept.{FieldsKeepSame}
 use Rattle.chw_terms.specs.declared.scene.Sort.TheVariants.{Circuit}
 use Rattle.chw_terms.specs.TermTree.{TermTree, var, Group}
 use Rattle.chw_typing.specs.Programs.{IsSound}
 use Rattle.chw_typing.specs.Scopes.{Setting, HasKind}
 use Rattle.chw_typing.specs.Typing.{HasType}
-use Rattle.chw_typing.proofs.Lists.{turned_onto}
 use Rattle.chw_layout.specs.Measured.{closed_value}
 use Rattle.layout_laws.specs.SameLayout.{SameKeepsMeasure}
 use Rattle.netlist.specs.declared.net.Cell.{Cell}
@@ -26,7 +24,8 @@ use Rattle.net_built.specs.Memories.{address, address_wire, memory}
 use Rattle.net_built.specs.Terms.{Variable, variable, wires_at}
 use Rattle.net_built.specs.Wires.{wire, new_wires, present, Piece, nothing, one, ◌▸◌, after, last_wire, last_wires}
 use Rattle.net_built.specs.Words.{only}
-use Rattle.net_built.proofs.Parts.{parts_once}
+use Rattle.net_grounds.specs.Facts.{Facts}
+use Rattle.net_means.proofs.Lists.{turned_onto}
 use Rattle.net_means.specs.NetFits.Widths.{AreWide, StandFrom}
 use Rattle.net_means.proofs.NetFits.CircuitDrivers.{PortsHeld}
 use Rattle.net_means.proofs.NetFits.Ports.{parts_kept}
@@ -115,10 +114,10 @@ bound_wide all {ground} {n = n} (group_and {bound = bound} {t = t} {p = p} {q = 
     wide_and ground.datas all (variable t (last_wires n p widths)) bound (record { parts = widths; have = parts; wide = ends_wide all n widths p stands.0 (circuit_ends cells) }) (bound_wide all more stands.1)
 
 -- a typed variable has wires as wide as the parts of a type that is the same up to naturals
-pub port_wide : FieldsKeepSame → SameKeepsMeasure → (s : Setting) → IsSound s → (all : List ℕ) (vars : List TypeTree) (scope : List Variable) (x : ℕ) (t u : TypeTree) (k : Kind) (ws : List ℕ) → Fits vars scope → PortsWide s.datas all scope → HasType s [] vars (var x) u → HasKind s [] t k → SameTypes t u → HasParts s.datas Circuit t ws
+pub port_wide : Facts → FieldsKeepSame → SameKeepsMeasure → (s : Setting) → IsSound s → (all : List ℕ) (vars : List TypeTree) (scope : List Variable) (x : ℕ) (t u : TypeTree) (k : Kind) (ws : List ℕ) → Fits vars scope → PortsWide s.datas all scope → HasType s [] vars (var x) u → HasKind s [] t k → SameTypes t u → HasParts s.datas Circuit t ws
     → AreWide all (wires_at scope x) (present ws)
-port_wide keep law s sound all vars scope x t u k ws fit wide typed kind same has =
-    let at = found vars scope x u fit (var_at typed) in
+port_wide facts keep law s sound all vars scope x t u k ws fit wide typed kind same has =
+    let at = found facts vars scope x u fit (var_at typed) in
     let it = wide x at.it at.is in
-    let kept = parts_kept keep law s sound t at.it.ty ws (record { kind = k; has = kind; same = same_through same at.same }) has in
-    subst (λ ws. AreWide all (wires_at scope x) (present ws)) (parts_once it.have kept) (subst (λ (wires : List WireId). AreWide all wires (present it.parts)) (sym (wires_there scope x at.it at.is)) it.wide)
+    let kept = parts_kept facts keep law s sound t at.it.ty ws (record { kind = k; has = kind; same = facts.same.same_through same at.same }) has in
+    subst (λ ws. AreWide all (wires_at scope x) (present ws)) (facts.built.parts_once it.have kept) (subst (λ (wires : List WireId). AreWide all wires (present it.parts)) (sym (wires_there scope x at.it at.is)) it.wide)

@@ -29,6 +29,7 @@ use Rattle.net_built.specs.Data.{HaveWidths, port_parts}
 use Rattle.net_built.specs.Modules.{IsModuleOf}
 use Rattle.net_built.specs.Terms.{result_of}
 use Rattle.net_built.specs.Wires.{present}
+use Rattle.net_grounds.specs.Facts.{Facts}
 use Rattle.net_means.specs.NetFits.Laws.{BeginsWithTop}
 use Rattle.net_means.specs.NetFits.Widths.{AreWide}
 use Rattle.net_means.proofs.NetFits.Calls.{ParamParts, no_params, param_and, body_params}
@@ -72,7 +73,7 @@ last_there [] m (suc i) n l e = absurd (omega (arith, l))
 last_there (k ∷ below) m zero n l e = absurd (omega (arith, l))
 last_there (k ∷ below) m (suc i) n l e = last_there below m i n (omega (arith, l)) e
 
-module _ (keep : FieldsKeepSame) (law : SameKeepsMeasure) (con_args : ConAtArguments) (saturated : ConIsSaturated) (prim_args : PrimAtArguments) (typed_origins : StatesHaveTypedOrigins) (p : Program) (state : List Made) (net : Net) (of : Built p state net) (typed : IsTypedState p state) (normal : IsNormal p state) (begins : BeginsWithTop p state) (rules : PortsHold net.ports) where
+module _ (facts : Facts) (keep : FieldsKeepSame) (law : SameKeepsMeasure) (con_args : ConAtArguments) (saturated : ConIsSaturated) (prim_args : PrimAtArguments) (typed_origins : StatesHaveTypedOrigins) (p : Program) (state : List Made) (net : Net) (of : Built p state net) (typed : IsTypedState p state) (normal : IsNormal p state) (begins : BeginsWithTop p state) (rules : PortsHold net.ports) where
   -- the module of the first made definition
   top_outputs : (it : Made) (built : Module) → slice_get state 0 ≡ Some it → IsModuleOf (ground_of p of.order) it built → Together (λ (port : Port) (w : WireId). HasWidth built.widths w port.width) net.ports.outputs built.outputs
   top_outputs it built is made_of =
@@ -84,9 +85,9 @@ module _ (keep : FieldsKeepSame) (law : SameKeepsMeasure) (con_args : ConAtArgum
       let type = begins.type it ports.it is ports.top.held in
       let outs = port_widths ports.outputs in
       let params : ParamParts p.datas Circuit it.ty made_of.inputs (result_of it.ty) =
-      subst (λ sort. ParamParts p.datas sort it.ty made_of.inputs (result_of it.ty)) circuit (body_params keep law s sound made_of.body body.under body.typed.has body.typed.same) in
+      subst (λ sort. ParamParts p.datas sort it.ty made_of.inputs (result_of it.ty)) circuit (body_params facts keep law s sound made_of.body body.under body.typed.has body.typed.same) in
       let led : Leaves p.datas (result_of it.ty) ports.outs = result_led params (subst (λ t. LeadsFrom p.datas t ports.ins ports.outs) (sym type) ports.top.leads) in
-      let wide = outputs_wide keep law prim_args typed_origins p state net of typed normal Circuit 0 it built outs.widths is circuit made_of (port_parts led outs.have) in
+      let wide = outputs_wide facts keep law prim_args typed_origins p state net of typed normal Circuit 0 it built outs.widths is circuit made_of (port_parts led outs.have) in
       together_ports built.widths net.ports.outputs built.outputs (subst (AreWide built.widths built.outputs) outs.are wide)
 
   pub top_widths : (i : ℕ) (built : Module) → slice_get net.modules i ≡ Some built → i + 1 ≡ length net.modules → TopWidthsHold net.ports built
@@ -99,6 +100,6 @@ module _ (keep : FieldsKeepSame) (law : SameKeepsMeasure) (con_args : ConAtArgum
       let end : i ≡ length below = omega (arith, last, many, longer, size) in
       let number : 0 ≡ at.number = last_there below 0 i at.number end (subst (λ l. slice_get l i ≡ Some at.number) of.is_order.whole at.here) in
       record {
-        inputs = (last_kept keep law con_args saturated prim_args typed_origins p state net of typed normal begins rules i built here last).inputs;
+        inputs = (last_kept facts keep law con_args saturated prim_args typed_origins p state net of typed normal begins rules i built here last).inputs;
         outputs = top_outputs at.it built (subst (λ n. slice_get state n ≡ Some at.it) (sym number) at.is) at.made_of;
       }

@@ -16,21 +16,15 @@ use Rattle.chw_terms.specs.declared.term.Pattern.TheVariants.{OfCon, OfLit, Defa
 use Rattle.chw_terms.specs.TermTree.{TermTree, Alts, no_alts, alt}
 use Rattle.chw_typing.specs.Alternatives.{HidesNone, NoneHidden}
 use Rattle.chw_typing.specs.HeadTypes.{PatternOf, of_con, of_lit, of_any, widest}
-use Rattle.chw_typing.proofs.Heads.{is_constructor}
 use Rattle.chw_layout.specs.Encodes.{first_constructor}
 use Rattle.chw_layout.specs.Measured.{tag_width, HasWidth}
-use Rattle.chw_layout.proofs.Fitting.{scalar_width, cons_width}
-use Rattle.chw_layout.proofs.Measures.{data_measured}
-use Rattle.chw_layout.proofs.Tags.{tag_suffices}
-use Rattle.layout_laws.proofs.SameLayout.{same_number}
 use Rattle.chw_meaning.specs.Eval.{looks, choice, is_only, by_fields, same_bits}
 use Rattle.chw_meaning.specs.Zeros.{IsWide}
-use Rattle.chw_meaning.proofs.Once.{same_some}
 use Rattle.carrying.specs.DataLaws.{has_tag, is_for, Taken, AreFor, taken}
-use Rattle.carrying.proofs.Cases.{same_itself}
-use Rattle.carrying.proofs.Widths.{bits_length}
 use Rattle.net_built.specs.Data.{Tested, tested_of, word_of, words_of, constructor_count}
 use Rattle.cell_bits.specs.ChoiceLaws.{AreWide, IsTaken}
+use Rattle.net_grounds.specs.Facts.{Facts}
+use Rattle.net_means.proofs.Lists.{same_some, length-bits_of}
 use Rattle.net_means.specs.SideBits.Cases.{alts_count, IsFirst, first_here, first_later}
 
 are_same : (a b : List Bool) → same_bits a b ≡ true → a ≡ b
@@ -76,21 +70,21 @@ record Told (datas : List Data) (x tested : List Bool) (tag first : ℕ) (q : Pa
   wide : length (word_of tag first q) ≡ tag
   tells : is_for datas x q ≡ same_bits tested (word_of tag first q)
 
-module _ (values : SameValues) (datas : List Data) (whole n : ℕ) (wires : List WireId) where
+module _ (facts : Facts) (values : SameValues) (datas : List Data) (whole n : ℕ) (wires : List WireId) where
   literal_width : (s : Scalar) (w : TypeTree) (bits : List Bool) → length bits ≤ widest → SameTypes w (nat_lit (length bits)) → HasWidth datas (scalar s w) whole → length bits ≡ whole
   unfolding natural_value
   literal_width s w bits l e has =
-      let width = scalar_width has in
-      let number = same_number values e in
+      let width = facts.widths.scalar_width has in
+      let number = facts.same_layout.same_number values e in
       omega (arith, width, number, l)
 
   told : {u : TypeTree} {q : Pattern} {fields : List TypeTree} (x : List Bool) → PatternOf datas u q fields → IsNoDefault q → HasWidth datas u whole → length x ≡ whole → Told datas x (take (tested_of datas u whole n wires).bits x) (tested_of datas u whole n wires).bits (tested_of datas u whole n wires).first q
   told x (of_con {d = d} {n = k} {c = c} {ts = ts} it at of count) free has size =
-      let place = is_constructor datas c.number it at in
+      let place = facts.constructors.is_constructor datas c.number it at in
       let here : slice_get datas d ≡ Some it.it = subst (λ d. slice_get datas d ≡ Some it.it) of place.data_type in
       let many : constructor_count datas d ≡ length it.it.cons = ap (λ o. unwrap_or (option_map (λ (it : Data). length it.cons) o) 0) here in
       record {
-        wide = bits_length (tag_width (constructor_count datas d)) (c.number - first_constructor datas d);
+        wide = length-bits_of (tag_width (constructor_count datas d)) (c.number - first_constructor datas d);
         tells = ap (λ o. has_tag datas c.number o x) at
             ∙ (λ i. same_bits (take (tag_width (sym many i)) x) (bits_of (tag_width (sym many i)) (c.number - first_constructor datas (of i))));
       }
@@ -131,42 +125,42 @@ module _ (values : SameValues) (datas : List Data) (whole n : ℕ) (wires : List
           → (i : ℕ) → i < suc k → ¬ (slice_get (words_of on.bits on.first (alt q e (alt r f more))) i ≡ Some (take on.bits x))
       before on tells others zero l g =
           let word : word_of on.bits on.first q ≡ take on.bits x = cc in
-          let holds : is_for datas x q ≡ true = tells ∙ ap (λ w. same_bits (take on.bits x) w) word ∙ same_itself (take on.bits x) in
+          let holds : is_for datas x q ≡ true = tells ∙ ap (λ w. same_bits (take on.bits x) w) word ∙ facts.cases.same_itself (take on.bits x) in
           let wrong : true ≡ false = sym holds ∙ fails in
           cc
       before on tells others (suc i) l g = others i (omega (arith, l)) g
 
 -- what is tested is no wider than the whole
-pub tested_within : (datas : List Data) (u : TypeTree) (whole n : ℕ) (wires : List WireId) → HasWidth datas u whole → (tested_of datas u whole n wires).bits ≤ whole
-tested_within datas (data_of d ts) whole n wires has =
-    let of = data_measured has in
+pub tested_within : Facts → (datas : List Data) (u : TypeTree) (whole n : ℕ) (wires : List WireId) → HasWidth datas u whole → (tested_of datas u whole n wires).bits ≤ whole
+tested_within facts datas (data_of d ts) whole n wires has =
+    let of = facts.measures.data_measured has in
     let many : constructor_count datas d ≡ length of.it.cons = ap (λ o. unwrap_or (option_map (λ (it : Data). length it.cons) o) 0) of.known in
-    let parts = cons_width of.it of.known has in
+    let parts = facts.widths.cons_width of.it of.known has in
     let is = parts.is in
     let tag = ap tag_width many in
     omega (arith, is, tag)
-tested_within datas _ whole n wires has = omega arith
+tested_within facts datas _ whole n wires has = omega arith
 
 some_con : (cs : List ConDecl) (i : ℕ) (c : ConDecl) → slice_get cs i ≡ Some c → 0 < length cs
 some_con [] i c e = absurd cc
 some_con (x ∷ cs) i c e = omega arith
 
 -- a case looks at bits only where there are some
-module _ (values : SameValues) (datas : List Data) where
+module _ (facts : Facts) (values : SameValues) (datas : List Data) where
   con_wide : {u : TypeTree} {fields : List TypeTree} (c : ConId) (k : ℕ) → PatternOf datas u (OfCon c k) fields → HasWidth datas u 0 → is_only (con_at datas c.number) ≡ true
   con_wide c k (of_con {d = d} {ts = ts} it at of count) has =
-      let place = is_constructor datas c.number it at in
+      let place = facts.constructors.is_constructor datas c.number it at in
       let here : slice_get datas d ≡ Some it.it = subst (λ d. slice_get datas d ≡ Some it.it) of place.data_type in
-      let parts = cons_width it.it here has in
+      let parts = facts.widths.cons_width it.it here has in
       let is = parts.is in
       let bare : tag_width (length it.it.cons) ≡ 0 = omega (arith, is) in
-      let few : length it.it.cons ≤ 2 ^ 0 = subst (λ t. length it.it.cons ≤ 2 ^ t) bare (tag_suffices (length it.it.cons)) in
+      let few : length it.it.cons ≤ 2 ^ 0 = subst (λ t. length it.it.cons ≤ 2 ^ t) bare (facts.encodings.tag_suffices (length it.it.cons)) in
       let some = some_con it.it.cons place.place it.decl place.decl in
       let one : length it.it.cons ≡ 1 = omega (arith, few, some) in
       ap is_only at ∙ ap (λ n. n == 1) one
 
   literal_wide : {u : TypeTree} {fields : List TypeTree} {s : Scalar} {bit : Bool} {bits : List Bool} → PatternOf datas u (OfLit s (bit ∷ bits)) fields → HasWidth datas u 0 → ⊥
-  literal_wide {s = s} {bit = bit} {bits = bits} (of_lit {w = w} l e) has = let long = literal_width values datas 0 0 [] s w (bit ∷ bits) l e has in omega (arith, long)
+  literal_wide {s = s} {bit = bit} {bits = bits} (of_lit {w = w} l e) has = let long = literal_width facts values datas 0 0 [] s w (bit ∷ bits) l e has in omega (arith, long)
 
   pub looks_wide : {u : TypeTree} (whole : ℕ) (alts : Alts) → AreFor datas u alts → NoneHidden alts → HasWidth datas u whole → 0 < alts_count alts → choice datas alts ≡ looks → IsWide datas u
   looks_wide (suc w) alts are none has some is = (w, has)

@@ -14,7 +14,6 @@ use Rattle.chw_types.specs.SamePromises.{SameValues, natural_value}
 use Rattle.chw_types.specs.SameTypes.{SameTypes, same_vector}
 use Rattle.chw_types.specs.TypeMoves.{sub}
 use Rattle.chw_types.specs.TypeTree.{TypeTree, TypeTrees, type_and, ty_var, nat_lit, nat_sum, scalar, vector}
-use Rattle.chw_types.proofs.SameLaws.{same_self, same_turned, same_through}
 use Rattle.type_laws.specs.SameKept.{FieldsKeepSame}
 use Rattle.chw_prims.specs.declared.prim.Primitive.{Primitive as Prim}
 use Rattle.chw_prims.specs.declared.prim.Primitive.TheVariants.{VGet, VAt}
@@ -24,24 +23,13 @@ use Rattle.chw_terms.specs.TermTree.{TermTree, var, prim}
 use Rattle.chw_typing.specs.Programs.{IsSound}
 use Rattle.chw_typing.specs.Scopes.{Setting, AreTermTypes}
 use Rattle.chw_typing.specs.Typing.{HasType, HasTypeUpTo}
-use Rattle.chw_typing.proofs.EvaluatedTypes.{same_evaluated}
-use Rattle.chw_typing.proofs.PutAgreeing.{closed_put}
-use Rattle.chw_typing.proofs.Saturated.{prim_at_arguments}
 use Rattle.rewriting.specs.Origins.{Origins, setting_at}
 use Rattle.normal_forms.specs.Values.{on_names}
 use Rattle.chw_layout.specs.Measured.{closed_value, HasWidth}
-use Rattle.chw_layout.proofs.Fitting.{element_width}
-use Rattle.layout_laws.proofs.SameLayout.{same_number}
 use Rattle.chw_meaning.specs.Values.{History, Thunk, closed, Thunks, closed_type, type_at}
 use Rattle.chw_meaning.specs.Steps.{at_index}
 use Rattle.chw_meaning.specs.Eval.{Runs, f_closed, r_goes_to}
-use Rattle.chw_meaning.proofs.Widths.{width_once}
-use Rattle.chw_meaning.proofs.ZerosEncoded.{no_bits}
 use Rattle.carrying.specs.Carrying.{Shows}
-use Rattle.carrying.proofs.Spines.{prim_whole}
-use Rattle.carrying.proofs.Terms.{shows_through}
-use Rattle.carrying.proofs.Vectors.{element_shows, vget_shows, vat_shows}
-use Rattle.carrying.proofs.Widths.{shown_length}
 use Rattle.netlist.specs.declared.net.Net.{Net}
 use Rattle.net_built.specs.Bodies.{ValueCells, value_primitive, value_element, value_element_at}
 use Rattle.net_built.specs.Circuits.{Ground as Built}
@@ -52,7 +40,8 @@ use Rattle.net_built.specs.Wires.{Piece, ◌▸◌, after, last_wires}
 use Rattle.cell_bits.specs.Bearing.{HasCells, Bears, bears_nothing}
 use Rattle.cell_bits.specs.ChoiceLaws.{AreWide}
 use Rattle.cell_bits.specs.DataLaws.{joined}
-use Rattle.cell_bits.proofs.DataElements.{elements_bear, indexed_element_bears}
+use Rattle.net_grounds.specs.Facts.{Facts}
+use Rattle.net_means.proofs.Lists.{no_bits}
 use Rattle.net_means.specs.SideBits.Sides.{types_in, IsIdle, index_of_one, at_operand, SideGiven, SideHas}
 use Rattle.net_means.proofs.SideBits.Heads.{names, idle_head}
 use Rattle.net_means.proofs.SideBits.Operands.{Ground, OperandHas, operand_has}
@@ -136,10 +125,10 @@ first_kind (kind_and k more) = k
 second_kind : {datas : List Data} {domains : ℕ} {t u : TypeTree} {ts : TypeTrees} {j k : Kind} {ks : List Kind} → KindsOf datas domains [] (type_and t (type_and u ts)) (j ∷ k ∷ ks) → KindOf datas domains [] u k
 second_kind (kind_and j (kind_and k more)) = k
 
-get_typed : (s : Setting) (vars : List TypeTree) (i m a : TypeTree) (x : ℕ) (t : TypeTree) → IsSound s → AreTermTypes s [] vars → HasType s [] vars (on_names (prim VGet) (i ∷ m ∷ a ∷ []) (x ∷ [])) t → GetTyped s vars i m a x t
+get_typed : Facts → (s : Setting) (vars : List TypeTree) (i m a : TypeTree) (x : ℕ) (t : TypeTree) → IsSound s → AreTermTypes s [] vars → HasType s [] vars (on_names (prim VGet) (i ∷ m ∷ a ∷ []) (x ∷ [])) t → GetTyped s vars i m a x t
 unfolding sub
-get_typed s vars i m a x t sound scoped typed =
-    let at = prim_at_arguments s [] vars VGet (Nat ∷ Nat ∷ Val ∷ []) (vector (nat_sum (nat_sum (ty_var 2) (nat_lit 1)) (ty_var 1)) (ty_var 0) ∷ []) (ty_var 0) (i ∷ m ∷ a ∷ []) (names (x ∷ [])) t sound scoped refl refl refl typed in
+get_typed facts s vars i m a x t sound scoped typed =
+    let at = facts.terms.prim_at_arguments s [] vars VGet (Nat ∷ Nat ∷ Val ∷ []) (vector (nat_sum (nat_sum (ty_var 2) (nat_lit 1)) (ty_var 1)) (ty_var 0) ∷ []) (ty_var 0) (i ∷ m ∷ a ∷ []) (names (x ∷ [])) t sound scoped refl refl refl typed in
     record { vec = at.args_given.0; same = at.gives; first = first_kind at.have }
 
 record AtTyped (s : Setting) (vars : List TypeTree) (m k a : TypeTree) (x y : ℕ) (t : TypeTree) : Type 0 where
@@ -149,47 +138,47 @@ record AtTyped (s : Setting) (vars : List TypeTree) (m k a : TypeTree) (x y : �
   first : KindOf s.datas s.domains [] m Nat
   second : KindOf s.datas s.domains [] k Nat
 
-at_typed : (s : Setting) (vars : List TypeTree) (m k a : TypeTree) (x y : ℕ) (t : TypeTree) → IsSound s → AreTermTypes s [] vars → HasType s [] vars (on_names (prim VAt) (m ∷ k ∷ a ∷ []) (x ∷ y ∷ [])) t → AtTyped s vars m k a x y t
+at_typed : Facts → (s : Setting) (vars : List TypeTree) (m k a : TypeTree) (x y : ℕ) (t : TypeTree) → IsSound s → AreTermTypes s [] vars → HasType s [] vars (on_names (prim VAt) (m ∷ k ∷ a ∷ []) (x ∷ y ∷ [])) t → AtTyped s vars m k a x y t
 unfolding sub
-at_typed s vars m k a x y t sound scoped typed =
-    let at = prim_at_arguments s [] vars VAt (Nat ∷ Nat ∷ Val ∷ []) (vector (nat_sum (ty_var 2) (nat_lit 1)) (ty_var 0) ∷ scalar U (ty_var 1) ∷ []) (ty_var 0) (m ∷ k ∷ a ∷ []) (names (x ∷ y ∷ [])) t sound scoped refl refl refl typed in
+at_typed facts s vars m k a x y t sound scoped typed =
+    let at = facts.terms.prim_at_arguments s [] vars VAt (Nat ∷ Nat ∷ Val ∷ []) (vector (nat_sum (ty_var 2) (nat_lit 1)) (ty_var 0) ∷ scalar U (ty_var 1) ∷ []) (ty_var 0) (m ∷ k ∷ a ∷ []) (names (x ∷ y ∷ [])) t sound scoped refl refl refl typed in
     record { vec = at.args_given.0; index = at.args_given.1.0; same = at.gives; first = first_kind at.have; second = second_kind at.have }
 
 -- what is shown of a vector is as long as its elements together
-vector_long : {p : Program} {n t : TypeTree} {th : Thunk} {k : History} {b : List Bool} {w : ℕ} → Shows p (vector n t) th k b → HasWidth p.datas t w → (length b ≡ closed_value n * w) × (closed_value n ≤ VECTOR_LENGTH)
-vector_long {n = n} shown has =
+vector_long : Facts → {p : Program} {n t : TypeTree} {th : Thunk} {k : History} {b : List Bool} {w : ℕ} → Shows p (vector n t) th k b → HasWidth p.datas t w → (length b ≡ closed_value n * w) × (closed_value n ≤ VECTOR_LENGTH)
+vector_long facts {n = n} shown has =
     let at = shown_has shown in
-    let parts = element_width at.1 in
-    (shown_length shown at.1 ∙ parts.is ∙ ap (λ a. closed_value n * a) (width_once parts.element has), vector_within at.1)
+    let parts = facts.widths.element_width at.1 in
+    (facts.shows.shown_length shown at.1 ∙ parts.is ∙ ap (λ a. closed_value n * a) (facts.widths.width_once parts.element has), vector_within facts at.1)
 
 -- `vat` on one element shows it, whatever the index
-vat_first : (p : Program) (n t m k a : TypeTree) (w x y : ℕ) (γ : Thunks) (δ : TypeTrees) (h : History) (b : List Bool) → SameValues → HasWidth p.datas t w → closed_value (closed_type m δ) ≡ 0 → closed_value n ≡ 1 → Shows p (vector n t) (closed (var x) γ δ) h b
+vat_first : Facts → (p : Program) (n t m k a : TypeTree) (w x y : ℕ) (γ : Thunks) (δ : TypeTrees) (h : History) (b : List Bool) → SameValues → HasWidth p.datas t w → closed_value (closed_type m δ) ≡ 0 → closed_value n ≡ 1 → Shows p (vector n t) (closed (var x) γ δ) h b
     → Shows p t (closed (on_names (prim VAt) (m ∷ k ∷ a ∷ []) (x ∷ y ∷ [])) γ δ) h (take w (drop (0 * w) b))
-vat_first p n t m k a w x y γ δ h b values has is many shown =
-    let number : 0 ≡ closed_value (evaluated (closed_type m δ)) = sym (sym (same_number values (same_evaluated (closed_type m δ))) ∙ is) in
+vat_first facts p n t m k a w x y γ δ h b values has is many shown =
+    let number : 0 ≡ closed_value (evaluated (closed_type m δ)) = sym (sym (facts.same_layout.same_number values (facts.same.same_evaluated (closed_type m δ))) ∙ is) in
     let below : 0 < closed_value n = omega (arith, many) in
-    shows_through
+    facts.shows.shows_through
     (λ r z f.
     let step = subst (λ n. Runs p r (at_index n (closed_value (evaluated (closed_type k δ))) (closed (var x) γ δ) (closed (var y) γ δ)) h z) number (r_goes_to f) in
-    let d = prim_whole p VAt γ δ h (m ∷ k ∷ a ∷ []) (names (x ∷ y ∷ [])) refl refl r z step in
+    let d = facts.prims.prim_whole p VAt γ δ h (m ∷ k ∷ a ∷ []) (names (x ∷ y ∷ [])) refl refl r z step in
     (d.0, f_closed d.1))
-    (element_shows p n t w 0 (closed (var x) γ δ) h b has below shown)
+    (facts.vectors.element_shows p n t w 0 (closed (var x) γ δ) h b has below shown)
 
-module _ (o : Origins) (order : List ℕ) (scope : List Variable) (γ : Thunks) (δ : TypeTrees) (net : Net) (path : List ℕ) (h : List Event) (values : SameValues) (keep : FieldsKeepSame) where
+module _ (facts : Facts) (o : Origins) (order : List ℕ) (scope : List Variable) (γ : Thunks) (δ : TypeTrees) (net : Net) (path : List ℕ) (h : List Event) (values : SameValues) (keep : FieldsKeepSame) where
   pub get_side : (n w : ℕ) (t : TypeTree) (piece : Piece) (i m a : TypeTree) (x : ℕ) → SideGiven o order scope γ net path h n w t (on_names (prim VGet) (i ∷ m ∷ a ∷ []) (x ∷ [])) piece → SideHas o.program γ δ net path h t (on_names (prim VGet) (i ∷ m ∷ a ∷ []) (x ∷ [])) (last_wires n piece (w ∷ []))
   get_side n w t piece i m a x g =
       let p : Program = o.program in
       let ground : Ground o = record { values = values; keep = keep; sound = g.sound } in
-      let typed = get_typed (setting_at o) (types_in scope) i m a x g.typed.type g.sound g.scoped g.typed.has in
+      let typed = get_typed facts (setting_at o) (types_in scope) i m a x g.typed.type g.sound g.scoped g.typed.has in
       let c : TypeTree = nat_sum (nat_sum i (nat_lit 1)) m in
       let v : OperandHas p γ δ net path h scope x (vector c t) =
-      operand_has o ground scope g.scoped γ δ net path h x (vector c a) (vector c t) typed.vec (same_vector (same_self c) (same_through typed.same (same_turned g.typed.same)))
+      operand_has facts o ground scope g.scoped γ δ net path h x (vector c a) (vector c t) typed.vec (same_vector (facts.same.same_self c) (facts.same.same_through typed.same (facts.same.same_turned g.typed.same)))
       (λ it e. g.variables x it (at_operand 0 refl (get_busy (i ∷ m ∷ a ∷ []) 0)) e) in
       let b : List Bool = v.bits in
-      let long = vector_long (v.carries []) g.wide in
+      let long = vector_long facts (v.carries []) g.wide in
       let count : closed_value c ≡ suc (closed_value i + closed_value m) = get_count i m long.1 in
       let below : closed_value i < closed_value c = omega (arith, count) in
-      let number : closed_value (closed_type i δ) ≡ closed_value i = ap closed_value (closed_put typed.first (type_at δ)) in
+      let number : closed_value (closed_type i δ) ≡ closed_value i = ap closed_value (facts.kinds.closed_put typed.first (type_at δ)) in
       let all : List (List Bool) = chunks w (closed_value c) b in
       let one : List Bool = take w (drop (closed_value i * w) b) in
       let is : piece ≡ element w (closed_value m) n (wires_at scope x) = get_piece g.built in
@@ -197,9 +186,9 @@ module _ (o : Origins) (order : List ℕ) (scope : List Variable) (γ : Thunks) 
       let whole : Bears net path h (wires_at scope x) (joined all) = subst (λ b. Bears net path h (wires_at scope x) b) (sym (chunks_joined w (closed_value c) b long.0)) v.bears in
       record {
         bits = one;
-        carries = λ k. vget_shows p c t i m a w (closed_value i) (var x) γ δ k b (λ t u same. same_number values same) g.wide number below (v.carries k);
+        carries = λ k. facts.vectors.vget_shows p c t i m a w (closed_value i) (var x) γ δ k b g.wide number below (v.carries k);
         bears = subst (λ (q : Piece). Bears net path h (last_wires n q (w ∷ [])) one) (sym is)
-            (elements_bear net path h w n (closed_value i) (closed_value m) (wires_at scope x) all one whole (chunks_wide w (closed_value c) b long.0) (chunk_at w (closed_value c) (closed_value i) b below) (chunks_count w (closed_value c) b ∙ count) cells);
+            (facts.data_cells.elements_bear net path h w n (closed_value i) (closed_value m) (wires_at scope x) all one whole (chunks_wide w (closed_value c) b long.0) (chunk_at w (closed_value c) (closed_value i) b below) (chunks_count w (closed_value c) b ∙ count) cells);
       }
 
   pub at_side : (n w : ℕ) (t : TypeTree) (piece : Piece) (m k a : TypeTree) (x y : ℕ) → SideGiven o order scope γ net path h n w t (on_names (prim VAt) (m ∷ k ∷ a ∷ []) (x ∷ y ∷ [])) piece → SideHas o.program γ δ net path h t (on_names (prim VAt) (m ∷ k ∷ a ∷ []) (x ∷ y ∷ [])) (last_wires n piece (w ∷ []))
@@ -212,20 +201,20 @@ module _ (o : Origins) (order : List ℕ) (scope : List Variable) (γ : Thunks) 
       ground = record { values = values; keep = keep; sound = g.sound }
 
       typed : AtTyped (setting_at o) (types_in scope) m k a x y g.typed.type
-      typed = at_typed (setting_at o) (types_in scope) m k a x y g.typed.type g.sound g.scoped g.typed.has
+      typed = at_typed facts (setting_at o) (types_in scope) m k a x y g.typed.type g.sound g.scoped g.typed.has
 
       c : TypeTree
       c = nat_sum m (nat_lit 1)
 
       v : OperandHas p γ δ net path h scope x (vector c t)
-      v = operand_has o ground scope g.scoped γ δ net path h x (vector c a) (vector c t) typed.vec (same_vector (same_self c) (same_through typed.same (same_turned g.typed.same)))
+      v = operand_has facts o ground scope g.scoped γ δ net path h x (vector c a) (vector c t) typed.vec (same_vector (facts.same.same_self c) (facts.same.same_through typed.same (facts.same.same_turned g.typed.same)))
           (λ it e. g.variables x it (at_operand 0 refl (λ idle. let place = idle_place idle in absurd (omega (arith, place)))) e)
 
       all : List (List Bool)
       all = chunks w (closed_value c) v.bits
 
       long : (length v.bits ≡ closed_value c * w) × (closed_value c ≤ VECTOR_LENGTH)
-      long = vector_long (v.carries []) g.wide
+      long = vector_long facts (v.carries []) g.wide
 
       count : closed_value c ≡ suc (closed_value m)
       count = at_count m long.1
@@ -237,7 +226,7 @@ module _ (o : Origins) (order : List ℕ) (scope : List Variable) (γ : Thunks) 
       wide = chunks_wide w (closed_value c) v.bits long.0
 
       numbers : closed_value (closed_type m δ) ≡ closed_value m
-      numbers = ap closed_value (closed_put typed.first (type_at δ))
+      numbers = ap closed_value (facts.kinds.closed_put typed.first (type_at δ))
 
       by : (last : ℕ) → closed_value m ≡ last → SideHas o.program γ δ net path h t (on_names (prim VAt) (m ∷ k ∷ a ∷ []) (x ∷ y ∷ [])) (last_wires n piece (w ∷ []))
       by zero none =
@@ -249,25 +238,25 @@ module _ (o : Origins) (order : List ℕ) (scope : List Variable) (γ : Thunks) 
           let cells = subst (λ (q : Piece). HasCells net path q.cells) is g.cells in
           record {
             bits = one;
-            carries = λ z. vat_first p c t m k a w x y γ δ z v.bits values g.wide (numbers ∙ none) some (v.carries z);
+            carries = λ z. vat_first facts p c t m k a w x y γ δ z v.bits values g.wide (numbers ∙ none) some (v.carries z);
             bears = subst (λ (q : Piece). Bears net path h (last_wires n q (w ∷ [])) one) (sym is)
-                (indexed_element_bears net path h w 0 0 n (wires_at scope x) [] all [] one whole wide (chunks_count w (closed_value c) v.bits ∙ some) bears_nothing refl (chunk_at w (closed_value c) 0 v.bits below) cells);
+                (facts.data_cells.indexed_element_bears net path h w 0 0 n (wires_at scope x) [] all [] one whole wide (chunks_count w (closed_value c) v.bits ∙ some) bears_nothing refl (chunk_at w (closed_value c) 0 v.bits below) cells);
           }
       by (suc l) more =
           let j : OperandHas p γ δ net path h scope y (scalar U k) =
-          operand_has o ground scope g.scoped γ δ net path h y (scalar U k) (scalar U k) typed.index (same_self (scalar U k))
+          operand_has facts o ground scope g.scoped γ δ net path h y (scalar U k) (scalar U k) typed.index (facts.same.same_self (scalar U k))
           (λ it e. g.variables y it (at_operand 1 refl (λ idle. let none = idle_count idle in absurd (omega (arith, none, more)))) e) in
           let last : ℕ = closed_value m in
-          let size = (word_fits (j.carries [])).0 in
+          let size = (word_fits facts (j.carries [])).0 in
           let place : ℕ = min (number_of j.bits) last in
           let one : List Bool = take w (drop (place * w) v.bits) in
           let below : place < closed_value c = omega (arith, count) in
           let is : piece ≡ element_at w last (closed_value k) n (wires_at scope x) (wires_at scope y) = at_piece g.built in
           let cells = subst (λ (q : Piece). HasCells net path q.cells) is g.cells in
-          let width : closed_value (closed_type k δ) ≡ length j.bits = ap closed_value (closed_put typed.second (type_at δ)) ∙ sym size in
+          let width : closed_value (closed_type k δ) ≡ length j.bits = ap closed_value (facts.kinds.closed_put typed.second (type_at δ)) ∙ sym size in
           record {
             bits = one;
-            carries = λ z. vat_shows p c t m k a U k w last (var x) (var y) γ δ z v.bits j.bits (λ t u same. same_number values same) g.wide numbers count (v.carries z) width (j.carries z);
+            carries = λ z. facts.vectors.vat_shows p c t m k a U k w last (var x) (var y) γ δ z v.bits j.bits g.wide numbers count (v.carries z) width (j.carries z);
             bears = subst (λ (q : Piece). Bears net path h (last_wires n q (w ∷ [])) one) (sym is)
-                (indexed_element_bears net path h w last (closed_value k) n (wires_at scope x) (wires_at scope y) all j.bits one whole wide (chunks_count w (closed_value c) v.bits ∙ count) j.bears size (chunk_at w (closed_value c) place v.bits below) cells);
+                (facts.data_cells.indexed_element_bears net path h w last (closed_value k) n (wires_at scope x) (wires_at scope y) all j.bits one whole wide (chunks_count w (closed_value c) v.bits ∙ count) j.bears size (chunk_at w (closed_value c) place v.bits below) cells);
           }

@@ -4,14 +4,12 @@ use Rattle.std.proofs.lemmas.List.{append-nil}
 use Rattle.chw_types.specs.SameTypes.{SameTypes}
 use Rattle.chw_types.specs.TypeTree.{TypeTree}
 use Rattle.chw_types.specs.declared.declarations.Data.{Data}
-use Rattle.type_laws.proofs.SameForms.{as_scalar, as_vector, as_data}
 use Rattle.chw_prims.specs.declared.prim.Primitive.{Primitive as Prim}
 use Rattle.chw_prims.specs.declared.prim.Primitive.TheVariants.{VAt}
 use Rattle.chw_terms.specs.declared.term.Arg.{Arg}
 use Rattle.chw_terms.specs.declared.term.Arg.TheVariants.{OfTerm, OfType}
 use Rattle.chw_terms.specs.TermTree.{TermTree, var, app, ty_app, con, prim}
 use Rattle.chw_terms.specs.TermView.{applied}
-use Rattle.chw_typing.proofs.Lists.{found_in_map}
 use Rattle.chw_typing.specs.Given.{types_then, AsksForNone}
 use Rattle.normal_forms.specs.Values.{on_names}
 use Rattle.chw_layout.specs.Measured.{Measure, Measured, measured_scalar, measured_vector, measured_data}
@@ -19,6 +17,8 @@ use Rattle.net_built.specs.Bodies.{ValueCells}
 use Rattle.net_built.specs.Circuits.{Ground}
 use Rattle.net_built.specs.Terms.{head_of, types_of, operands_of, Variable}
 use Rattle.net_built.specs.Wires.{Piece}
+use Rattle.net_grounds.specs.Facts.{Facts}
+use Rattle.net_means.proofs.Lists.{found_in_map}
 use Rattle.net_means.specs.SideBits.Sides.{IsIdle, index_of_one, LooksAt, at_operand}
 
 -- the variables of these numbers
@@ -109,7 +109,7 @@ all_counted [] (e ∷ es) = let k = all_counted [] es in omega (arith, k)
 all_counted (t ∷ types) es = let k = all_counted types es in omega (arith, k)
 
 -- what has a width asks for nothing
-pub wide_asks : {datas : List Data} {t u : TypeTree} {m : Measure} → Measured datas t m → SameTypes t u → AsksForNone u
-wide_asks measured_scalar same = let at = as_scalar same in subst AsksForNone (sym at.1) tt
-wide_asks (measured_vector a) same = let at = as_vector same in subst AsksForNone (sym at.2) tt
-wide_asks (measured_data known many a) same = let at = as_data same in subst AsksForNone (sym at.1) tt
+pub wide_asks : Facts → {datas : List Data} {t u : TypeTree} {m : Measure} → Measured datas t m → SameTypes t u → AsksForNone u
+wide_asks facts measured_scalar same = let at = facts.same.as_scalar same in subst AsksForNone (sym at.1) tt
+wide_asks facts (measured_vector a) same = let at = facts.same.as_vector same in subst AsksForNone (sym at.2) tt
+wide_asks facts (measured_data known many a) same = let at = facts.same.as_data same in subst AsksForNone (sym at.1) tt

@@ -13,7 +13,6 @@ use Rattle.chw_types.specs.SameTypes.{SameTypes, same_none}
 use Rattle.chw_types.specs.TypeMoves.{Substitution, sub}
 use Rattle.chw_types.specs.TypeTree.{TypeTree, TypeTrees, no_types, nat_sum, scalar, data_of}
 use Rattle.chw_types.specs.TypeView.{trees_of}
-use Rattle.type_laws.proofs.SameForms.{as_scalar, as_data}
 use Rattle.chw_types.specs.SameTypes.{SameAll}
 use Rattle.chw_prims.specs.declared.row.Row.{Row}
 use Rattle.chw_prims.specs.declared.row.Row.TheVariants.{Binary, WideSum, WideProduct, Unary, Shift, Compare, Extend, Truncate, Cut, Joined, Reduce, Packed, Unpacked}
@@ -21,11 +20,8 @@ use Rattle.chw_prims.specs.Schemas.{bool}
 use Rattle.prim_bits.specs.Widths.{argument_widths, result_width}
 use Rattle.rewriting.specs.Spots.{IsRowOnWords}
 use Rattle.chw_layout.specs.Measured.{closed_value, HasWidth}
-use Rattle.chw_layout.proofs.Fitting.{scalar_width}
-use Rattle.layout_laws.proofs.SameLayout.{same_number}
-use Rattle.chw_meaning.proofs.Widths.{width_once}
 use Rattle.carrying.specs.WordLaws.{is_test}
-use Rattle.carrying.proofs.Truths.{bool_width}
+use Rattle.net_grounds.specs.Facts.{Facts}
 use Rattle.net_means.proofs.WordRows.{scalar_within, kinds_of, params_of, result_of, one_type, two_types, three_types}
 
 -- words of types of scalars, each as wide as its type
@@ -102,21 +98,21 @@ params_some row on types = scalars_some row on (length-map (params_of row) (λ p
     scalars_some row on e = let l = some row on in omega (arith, e, l)
 
 -- the result's type, and each type that is the same and has a width
-module _ (values : SameValues) (datas others : List Data) (begins : datas ≡ built_in ++ others) where
+module _ (facts : Facts) (values : SameValues) (datas others : List Data) (begins : datas ≡ built_in ++ others) where
   word_outcome : (row : Row) (s : Scalar) (n t : TypeTree) (w : ℕ) → is_test row ≡ false → SameTypes (scalar s n) t → HasWidth datas t w → Outcome row t × ((closed_value n ≡ w) × (w ≤ SCALAR_BITS))
   word_outcome row s n t w plain same has =
-      let at = as_scalar same in
+      let at = facts.same.as_scalar same in
       let wide : HasWidth datas (scalar s at.0) w = subst (λ t. HasWidth datas t w) at.1 has in
-      let number = same_number values at.2 in
-      let width = scalar_width wide in
-      let within = scalar_within wide in
+      let number = facts.same_layout.same_number values at.2 in
+      let width = facts.widths.scalar_width wide in
+      let within = scalar_within facts wide in
       (subst (Outcome row) (sym at.1) (gives_word plain), (number ∙ sym width, omega (arith, width, within)))
 
   truth_outcome : (row : Row) (t : TypeTree) (w : ℕ) → is_test row ≡ true → SameTypes bool t → HasWidth datas t w → Outcome row t × (w ≡ 1)
   truth_outcome row t w test same has =
-      let at = as_data same in
+      let at = facts.same.as_data same in
       let is : t ≡ bool = at.1 ∙ ap (data_of 0) (none_alone at.2) in
-      (subst (Outcome row) (sym is) (gives_truth test), width_once (subst (λ t. HasWidth datas t w) is has) (bool_width datas others begins))
+      (subst (Outcome row) (sym is) (gives_truth test), facts.widths.width_once (subst (λ t. HasWidth datas t w) is has) (facts.prims.bool_width datas others begins))
     where
       none_alone : {us : TypeTrees} → SameAll no_types us → us ≡ no_types
       none_alone same_none = refl

@@ -13,7 +13,6 @@ use Rattle.chw_terms.specs.TermTree.{TermTree, var, prim}
 use Rattle.chw_typing.specs.Programs.{IsSound}
 use Rattle.chw_typing.specs.Scopes.{Setting, AreTermTypes}
 use Rattle.chw_typing.specs.Typing.{HasType, HasTypeUpTo}
-use Rattle.chw_typing.proofs.Saturated.{prim_at_arguments}
 use Rattle.rewriting.specs.Origins.{Origins, setting_at}
 use Rattle.normal_forms.specs.Values.{on_names}
 use Rattle.chw_layout.specs.Measured.{closed_value}
@@ -27,6 +26,7 @@ use Rattle.net_built.specs.Vectors.{element, elements, element_wires, words_from
 use Rattle.net_built.specs.Wires.{wire, Piece, ◌▸◌, after, last_wire, last_wires}
 use Rattle.net_built.specs.Words.{only}
 use Rattle.cell_bits.specs.Bearing.{HasCells}
+use Rattle.net_grounds.specs.Facts.{Facts}
 use Rattle.net_means.specs.SideBits.Sides.{types_in, LooksAt, IsIdle, index_of_one}
 use Rattle.net_means.proofs.SideBits.Heads.{names, IsHead, built_at}
 use Rattle.net_means.specs.WireOrder.Awaits.{AllSettle, by_more}
@@ -45,10 +45,10 @@ at_piece (value_primitive k) = absurd k
 at_piece value_element_at = refl
 
 -- the index of `vat` is a word
-index_typed : (s : Setting) (vars : List TypeTree) (m k a : TypeTree) (x y : ℕ) (t : TypeTree) → IsSound s → AreTermTypes s [] vars → HasType s [] vars (on_names (prim VAt) (m ∷ k ∷ a ∷ []) (x ∷ y ∷ [])) t → HasTypeUpTo s [] vars (var y) (scalar U k)
+index_typed : Facts → (s : Setting) (vars : List TypeTree) (m k a : TypeTree) (x y : ℕ) (t : TypeTree) → IsSound s → AreTermTypes s [] vars → HasType s [] vars (on_names (prim VAt) (m ∷ k ∷ a ∷ []) (x ∷ y ∷ [])) t → HasTypeUpTo s [] vars (var y) (scalar U k)
 unfolding sub
-index_typed s vars m k a x y t sound scoped typed =
-    (prim_at_arguments s [] vars VAt (Nat ∷ Nat ∷ Val ∷ []) (vector (nat_sum (ty_var 2) (nat_lit 1)) (ty_var 0) ∷ scalar U (ty_var 1) ∷ []) (ty_var 0) (m ∷ k ∷ a ∷ []) (names (x ∷ y ∷ [])) t sound scoped refl refl refl typed).args_given.1.0
+index_typed facts s vars m k a x y t sound scoped typed =
+    (facts.terms.prim_at_arguments s [] vars VAt (Nat ∷ Nat ∷ Val ∷ []) (vector (nat_sum (ty_var 2) (nat_lit 1)) (ty_var 0) ∷ scalar U (ty_var 1) ∷ []) (ty_var 0) (m ∷ k ∷ a ∷ []) (names (x ∷ y ∷ [])) t sound scoped refl refl refl typed).args_given.1.0
 
 module _ (net : Net) (path : List ℕ) where
   element_ends : (width count at u j : ℕ) (v : List WireId) (r : WireId) → 0 < width → Held v u → slice_get v j ≡ Some r → HasCells net path (element width count at v).cells → Ends net path at (element width count at v) r
@@ -129,7 +129,7 @@ module _ (net : Net) (path : List ℕ) where
   tests_some : (n k : ℕ) → 0 < n → 0 < length (words_from k 0 (min n (2 ^ k)))
   tests_some n k l = let some : 0 < 2 ^ k = pow_pos k in some_word k 0 (min n (2 ^ k)) (omega (arith, l, some))
 
-module _ (values : SameValues) (o : Origins) (order : List ℕ) (scope : List Variable) (net : Net) (path : List ℕ) (n w : ℕ) (t : TypeTree) (piece : Piece) where
+module _ (facts : Facts) (values : SameValues) (o : Origins) (order : List ℕ) (scope : List Variable) (net : Net) (path : List ℕ) (n w : ℕ) (t : TypeTree) (piece : Piece) where
   pub get_settles : (i m a : TypeTree) (y x : ℕ) (it : Variable) → SideLaid o order scope net path n w t (on_names (prim VGet) (i ∷ m ∷ a ∷ []) (y ∷ [])) piece → LooksAt (on_names (prim VGet) (i ∷ m ∷ a ∷ []) (y ∷ [])) x → slice_get scope x ≡ Some it
       → AllSettle net path (last_wires n piece (w ∷ [])) path it.wires
   get_settles i m a y x it g looks known = by at.i at.at
@@ -194,8 +194,8 @@ module _ (values : SameValues) (o : Origins) (order : List ℕ) (scope : List Va
       by (suc zero) e busy =
           let same : z ≡ x = cc in
           let wires : wires_at scope z ≡ it.wires = ap (λ x. wires_at scope x) same ∙ wires_there scope x it known in
-          let typed = index_typed (setting_at o) (types_in scope) m k a y z g.typed.type g.sound g.scoped g.typed.has in
-          let width : its.width ≡ closed_value k = word_width values (setting_at o) scope x its.width it U k (subst (λ z. HasTypeUpTo (setting_at o) [] (types_in scope) (var z) (scalar U k)) same typed) known its.has in
+          let typed = index_typed facts (setting_at o) (types_in scope) m k a y z g.typed.type g.sound g.scoped g.typed.has in
+          let width : its.width ≡ closed_value k = word_width facts values (setting_at o) scope x its.width it U k (subst (λ z. HasTypeUpTo (setting_at o) [] (types_in scope) (var z) (scalar U k)) same typed) known its.has in
           let held : Held (wires_at scope z) (closed_value k) = subst (λ u. Held (wires_at scope z) u) width (subst (λ ws. Held ws its.width) (sym wires) its.many) in
           subst (λ (q : Piece). AllSettle net path (last_wires n q (w ∷ [])) path it.wires) (sym is)
           (last_settle net path n w (cells_are (wires_at scope y) (wires_at scope z)) it.wires

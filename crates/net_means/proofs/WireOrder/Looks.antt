@@ -7,11 +7,11 @@ use Rattle.chw_base.specs.declared.index.WireId.{WireId}
 use Rattle.chw_types.specs.TypeTree.{TypeTree}
 use Rattle.chw_terms.specs.TermTree.{TermTree, var, app, ty_app, vec_lit, Terms}
 use Rattle.chw_terms.specs.TermView.{applied}
-use Rattle.chw_typing.proofs.Lists.{found_before_map, found_in_map}
 use Rattle.chw_typing.specs.Given.{types_then}
 use Rattle.normal_forms.specs.Values.{on_names}
 use Rattle.net_built.specs.Bodies.{operand_at}
 use Rattle.net_built.specs.Terms.{head_of, types_of, operands_of, list_of, Variable, wires_at, wires_of, wires_of_all}
+use Rattle.net_means.proofs.Lists.{found_before_map, found_in_map}
 use Rattle.net_means.specs.SideBits.Sides.{IsIdle, LooksAt, at_itself, at_element, at_operand}
 use Rattle.net_means.proofs.SideBits.Heads.{names, IsHead, the_head}
 use Rattle.net_means.proofs.WireOrder.Reached.{in_front, behind}

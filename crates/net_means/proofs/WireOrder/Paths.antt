@@ -5,13 +5,13 @@ use Rattle.std.proofs.lemmas.Option.{get_or_from_slice_get}
 use Rattle.chw_base.specs.declared.index.WireId.{WireId}
 use Rattle.net_flat.specs.Flattened.{IsInstance, wires_before}
 use Rattle.net_flat.specs.Flattened as flattened
-use Rattle.net_flat.proofs.Within.{stands_at}
 use Rattle.netlist.specs.declared.net.Cell.{Cell}
 use Rattle.netlist.specs.declared.net.Cell.TheVariants.{Use}
 use Rattle.netlist.specs.declared.net.Module.{Module}
 use Rattle.netlist.specs.declared.net.Net.{Net}
 use Rattle.use_laws.specs.ValueIn.{HasUseAt, IsModuleAt}
 use Rattle.use_laws.specs.ValueIn.IsModuleAt.{top, used}
+use Rattle.net_grounds.specs.Facts.{Facts}
 
 abbrev no_module : Module
 no_module = record { inputs = 0; widths = []; outputs = []; cells = [] }
@@ -51,14 +51,14 @@ pub record InstanceOf (net : Net) (base : ℕ) (m : Module) : Type 0 where
   pub stands : IsInstance net base i
   pub found : slice_get net.modules i ≡ Some m
 
-pub instance_of : (net : Net) (path : List ℕ) (m : Module) → IsModuleAt net path m → InstanceOf net (base_at net path) m
-instance_of net _ _ (top i m t) = record { i = i; stands = flattened.top i t.last; found = t.stands }
-instance_of net _ _ (used path place m inner k reads drives at stands found) =
-    let outer = instance_of net path m at in
+pub instance_of : Facts → (net : Net) (path : List ℕ) (m : Module) → IsModuleAt net path m → InstanceOf net (base_at net path) m
+instance_of facts net _ _ (top i m t) = record { i = i; stands = flattened.top i t.last; found = t.stands }
+instance_of facts net _ _ (used path place m inner k reads drives at stands found) =
+    let outer = instance_of facts net path m at in
     record {
       i = k.number;
       stands = subst (λ n. IsInstance net n k.number) (base_inside net path place m at)
-          (flattened.used (base_at net path) outer.i m (take place m.cells) k reads drives outer.stands outer.found (stands_at m place k reads drives stands));
+          (flattened.used (base_at net path) outer.i m (take place m.cells) k reads drives outer.stands outer.found (facts.flat.stands_at m place k reads drives stands));
       found = found;
     }
 

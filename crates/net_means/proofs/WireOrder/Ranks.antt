@@ -16,8 +16,8 @@ use Rattle.netlist.specs.declared.net.Cell.TheVariants.{Copy, Reg, Ram, Use}
 use Rattle.netlist.specs.declared.net.Flat.{Flat}
 use Rattle.netlist.specs.declared.net.Module.{Module}
 use Rattle.netlist.specs.declared.net.Net.{Net}
-use Rattle.netlist.proofs.Driven.{driven_wire, target_in_order}
 use Rattle.use_laws.specs.ValueIn.{HasCellAt, HasUseAt, IsModuleAt}
+use Rattle.net_grounds.specs.Facts.{Facts}
 use Rattle.net_means.specs.WireOrder.Awaits.{Settles, by_cell, by_input, by_output, by_more, Ranked}
 use Rattle.net_means.proofs.WireOrder.FlatCells.{target_moved, read_by_moved, keeps_moved, flat_wire, own_cell, input_cell, output_cell}
 use Rattle.net_means.proofs.WireOrder.Paths.{base_at}
@@ -40,7 +40,7 @@ waits_for_read (Ram w domain words inputs) keeps = absurd keeps
 waits_for_read (Use m reads drives) keeps = absurd keeps
 waits_for_read _ keeps = refl
 
-module _ (inputs : ℕ) (cells : List Cell) (places : List ℕ) (drives : DrivesFrom inputs cells) (ordered : OrdersCells cells places) where
+module _ (facts : Facts) (inputs : ℕ) (cells : List Cell) (places : List ℕ) (drives : DrivesFrom inputs cells) (ordered : OrdersCells cells places) where
   -- of a cell in the order, what it drives comes behind what it waits for
   behind_read : (place k j v : ℕ) → j < length places → slice_index places j ≡ place → awaited_at cells place k ≡ Some v → flat_rank inputs places v < suc j
   behind_read place k j v l at e = elim (cases_lt v inputs) [
@@ -54,7 +54,7 @@ module _ (inputs : ℕ) (cells : List Cell) (places : List ℕ) (drives : Drives
           let there = counted_at places (v - inputs) i f in
           let inside : v - inputs < length cells = subst (λ p. p < length cells) there.1 (ordered.within i there.0) in
           let number : inputs + (v - inputs) ≡ v = omega (arith, h) in
-          let driver : target_at cells (v - inputs) ≡ Some v = target_in_order inputs cells drives (v - inputs) inside ∙ ap (λ n. Some n) number in
+          let driver : target_at cells (v - inputs) ≡ Some v = facts.flat.target_in_order inputs cells drives (v - inputs) inside ∙ ap (λ n. Some n) number in
           let waits : awaited_at cells (slice_index places j) k ≡ Some v = ap (λ p. awaited_at cells p k) at ∙ e in
           let before = ordered.after j k v (v - inputs) l waits driver in
           let early = before.1 in
@@ -64,7 +64,7 @@ module _ (inputs : ℕ) (cells : List Cell) (places : List ℕ) (drives : Drives
 
   pub flat_falls : (place k w v : ℕ) → target_at cells place ≡ Some w → place < length cells → awaited_at cells place k ≡ Some v → flat_rank inputs places v < flat_rank inputs places w
   flat_falls place k w v t inside e =
-      let number = driven_wire inputs cells drives place w t in
+      let number = facts.flat.driven_wire inputs cells drives place w t in
       let there = ordered.all place inside in
       let is : flat_rank inputs places w ≡ counted places (w - inputs) = rank_of_driven inputs places w (omega (arith, number)) in
       let less : w - inputs ≡ place = omega (arith, number) in
@@ -94,28 +94,28 @@ moved_read base k [] v e = absurd cc
 moved_read base zero (w ∷ wires) v e = let same : w ≡ v = cc in ap (λ x. Some (wire_from base x)) same
 moved_read base (suc k) (w ∷ wires) v e = moved_read base k wires v e
 
-module _ (net : Net) (flat : Flat) (places : List ℕ) (f : IsFlatOf net flat) (ordered : IsOrder flat places) where
+module _ (facts : Facts) (net : Net) (flat : Flat) (places : List ℕ) (f : IsFlatOf net flat) (ordered : IsOrder flat places) where
   abbrev rank : List ℕ → ℕ → ℕ
   rank path w = flat_rank f.m.inputs places (base_at net path + w)
 
   flat_cell_falls : (cell : Cell) (k w : ℕ) (v : WireId) → HasCell flat cell → KeepsNothing cell → target cell ≡ Some w → slice_get (read_by cell) k ≡ Some v → flat_rank f.m.inputs places v.number < flat_rank f.m.inputs places w
-  flat_cell_falls cell k w v has keeps t e = cell_falls f.m.inputs flat.cells places f.in_order ordered has.0 cell k w v has.1 keeps t e
+  flat_cell_falls cell k w v has keeps t e = cell_falls facts f.m.inputs flat.cells places f.in_order ordered has.0 cell k w v has.1 keeps t e
 
   falls_by_cell : (path : List ℕ) (cell : Cell) (w k : ℕ) (v : WireId) → HasCellAt net path cell → KeepsNothing cell → target cell ≡ Some w → slice_get (read_by cell) k ≡ Some v → rank path v.number < rank path w
   falls_by_cell path cell w k v has keeps t e =
       let base = base_at net path in
       let read : slice_get (read_by (moved base cell)) k ≡ Some (wire_from base v) = ap (λ (ws : List WireId). slice_get ws k) (read_by_moved base cell) ∙ moved_read base k (read_by cell) v e in
-      flat_cell_falls (moved base cell) k (base + w) (wire_from base v) (own_cell net flat f path cell has keeps) (keeps_moved base cell keeps) (target_moved base cell w t) read
+      flat_cell_falls (moved base cell) k (base + w) (wire_from base v) (own_cell facts net flat f path cell has keeps) (keeps_moved base cell keeps) (target_moved base cell w t) read
 
   falls_by_input : (path : List ℕ) (place j : ℕ) (reads drives : List WireId) (r : WireId) → HasUseAt net path place reads drives → slice_get reads j ≡ Some r → rank path r.number < rank (place ∷ path) j
   falls_by_input path place j reads drives r u e =
       flat_cell_falls (Copy (flat_wire (base_at net (place ∷ path) + j)) (wire_from (base_at net path) r)) 0 (base_at net (place ∷ path) + j) (wire_from (base_at net path) r)
-      (input_cell net flat f path place j reads drives r u e) tt refl refl
+      (input_cell facts net flat f path place j reads drives r u e) tt refl refl
 
   falls_by_output : (path : List ℕ) (place j : ℕ) (reads drives : List WireId) (inner : Module) (w o : WireId) → HasUseAt net path place reads drives → IsModuleAt net (place ∷ path) inner → slice_get drives j ≡ Some w → slice_get inner.outputs j ≡ Some o → rank (place ∷ path) o.number < rank path w.number
   falls_by_output path place j reads drives inner w o u at d e =
       flat_cell_falls (Copy (wire_from (base_at net path) w) (wire_from (base_at net (place ∷ path)) o)) 0 (base_at net path + w.number) (wire_from (base_at net (place ∷ path)) o)
-      (output_cell net flat f path place j reads drives inner w o u at d e) tt refl refl
+      (output_cell facts net flat f path place j reads drives inner w o u at d e) tt refl refl
 
   all_fall : (p q : List ℕ) (w v : ℕ) → Settles net p w q v → rank q v < rank p w
   all_fall _ _ _ _ (by_cell {path = path} {cell = cell} {w = w} {v = v} k has keeps t e) = falls_by_cell path cell w k v has keeps t e

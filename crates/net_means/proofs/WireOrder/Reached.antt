@@ -9,7 +9,7 @@ use Rattle.netlist.specs.declared.net.Net.{Net}
 use Rattle.net_built.specs.Wires.{wire, Piece, one, ◌▸◌, after, last_wires, wire_count}
 use Rattle.net_built.specs.Words.{only}
 use Rattle.cell_bits.specs.Bearing.{HasCells}
-use Rattle.cell_bits.proofs.Settling.{has_first, has_second}
+use Rattle.net_means.proofs.Pieces.{has_first, has_second}
 use Rattle.net_means.specs.WireOrder.Awaits.{AllSettle, Settles, by_cell}
 
 -- there are as many wires as this width asks for

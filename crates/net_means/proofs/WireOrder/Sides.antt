@@ -14,6 +14,7 @@ use Rattle.net_built.specs.Bodies.{ValueCells, value_primitive, value_element, v
 use Rattle.net_built.specs.Circuits.{Ground as Built}
 use Rattle.net_built.specs.Terms.{head_of, Variable}
 use Rattle.net_built.specs.Wires.{Piece, last_wires}
+use Rattle.net_grounds.specs.Facts.{Facts}
 use Rattle.net_means.specs.SideBits.Sides.{types_in, LooksAt}
 use Rattle.net_means.proofs.SideBits.Heads.{names, the_head, built_at}
 use Rattle.net_means.specs.WireOrder.Awaits.{AllSettle}
@@ -45,20 +46,20 @@ two_names (x ∷ []) v i e = absurd cc
 two_names (x ∷ y ∷ []) v i e = (x, y, refl)
 two_names (x ∷ y ∷ z ∷ xs) v i e = absurd cc
 
-module _ (values : SameValues) (o : Origins) (order : List ℕ) (scope : List Variable) (net : Net) (path : List ℕ) (n w : ℕ) (t : TypeTree) (piece : Piece) (x : ℕ) (it : Variable) (known : slice_get scope x ≡ Some it) where
+module _ (facts : Facts) (values : SameValues) (o : Origins) (order : List ℕ) (scope : List Variable) (net : Net) (path : List ℕ) (n w : ℕ) (t : TypeTree) (piece : Piece) (x : ℕ) (it : Variable) (known : slice_get scope x ≡ Some it) where
   abbrev Settle : TermTree → Type 0
   Settle e = SideLaid o order scope net path n w t e piece → LooksAt e x → AllSettle net path (last_wires n piece (w ∷ [])) path it.wires
 
   prim_settles : (q : Prim) (types : List TypeTree) (xs : List ℕ) → length types + length xs ≡ asked_for (schema_type q) → Form q types (names xs) → Settle (on_names (prim q) types xs)
-  prim_settles q types xs count (on_words on) = λ g l. word_settles values o order scope net path n w t piece q types xs x it on count g l known
+  prim_settles q types xs count (on_words on) = λ g l. word_settles facts values o order scope net path n w t piece q types xs x it on count g l known
   prim_settles q types xs count (by_number i m a v is_get are es) =
       let y = one_name xs v es in
-      let get : Settle (on_names (prim VGet) (i ∷ m ∷ a ∷ []) (y.0 ∷ [])) = λ g l. get_settles values o order scope net path n w t piece i m a y.0 x it g l known in
+      let get : Settle (on_names (prim VGet) (i ∷ m ∷ a ∷ []) (y.0 ∷ [])) = λ g l. get_settles facts values o order scope net path n w t piece i m a y.0 x it g l known in
       subst (λ q. Settle (on_names (prim q) types xs)) (sym is_get)
       (subst (λ types. Settle (on_names (prim VGet) types xs)) (sym are) (subst (λ xs. Settle (on_names (prim VGet) (i ∷ m ∷ a ∷ []) xs)) (sym y.1) get))
   prim_settles q types xs count (by_index m k a v i is_at are es) =
       let y = two_names xs v i es in
-      let at : Settle (on_names (prim VAt) (m ∷ k ∷ a ∷ []) (y.0 ∷ y.1 ∷ [])) = λ g l. at_settles values o order scope net path n w t piece m k a y.0 y.1 x it g l known in
+      let at : Settle (on_names (prim VAt) (m ∷ k ∷ a ∷ []) (y.0 ∷ y.1 ∷ [])) = λ g l. at_settles facts values o order scope net path n w t piece m k a y.0 y.1 x it g l known in
       subst (λ q. Settle (on_names (prim q) types xs)) (sym is_at)
       (subst (λ types. Settle (on_names (prim VAt) types xs)) (sym are) (subst (λ xs. Settle (on_names (prim VAt) (m ∷ k ∷ a ∷ []) xs)) (sym y.2) at))
 

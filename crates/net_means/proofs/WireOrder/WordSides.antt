@@ -10,8 +10,6 @@ use Rattle.chw_types.specs.SamePromises.{SameValues}
 use Rattle.chw_types.specs.TypeMoves.{sub}
 use Rattle.chw_types.specs.TypeTree.{TypeTree, scalar}
 use Rattle.chw_types.specs.TypeView.{trees_of}
-use Rattle.chw_types.proofs.SameLaws.{same_turned, same_through}
-use Rattle.type_laws.proofs.SameForms.{as_scalar}
 use Rattle.chw_prims.specs.declared.prim.Primitive.{Primitive as Prim}
 use Rattle.chw_prims.specs.declared.row.Row.{Row}
 use Rattle.chw_prims.specs.declared.row.Row.TheVariants.{Binary, WideSum, WideProduct, Unary, Shift, Compare, Extend, Truncate, Cut, Joined, Reduce, Packed, Unpacked}
@@ -19,15 +17,11 @@ use Rattle.chw_prims.specs.Schemas.{row_of, schema_type}
 use Rattle.chw_terms.specs.TermTree.{TermTree, var, prim}
 use Rattle.chw_typing.specs.Scopes.{Setting}
 use Rattle.chw_typing.specs.Typing.{HasTypeUpTo}
-use Rattle.chw_typing.proofs.Lists.{found_before_map}
 use Rattle.chw_typing.specs.Given.{AreGiven}
 use Rattle.rewriting.specs.Origins.{Origins, setting_at}
 use Rattle.rewriting.specs.Spots.{asked_for, IsOnWords, IsRowOnWords}
 use Rattle.normal_forms.specs.Values.{on_names}
 use Rattle.chw_layout.specs.Measured.{closed_value, HasWidth}
-use Rattle.chw_layout.proofs.Fitting.{scalar_width}
-use Rattle.layout_laws.proofs.SameLayout.{same_number}
-use Rattle.chw_meaning.proofs.Once.{same_some}
 use Rattle.netlist.specs.declared.net.Net.{Net}
 use Rattle.net_built.specs.Bodies.{ValueCells, value_primitive, value_element, value_element_at, operand_at}
 use Rattle.net_built.specs.Circuits.{Ground as Built}
@@ -35,6 +29,8 @@ use Rattle.net_built.specs.Terms.{Variable}
 use Rattle.net_built.specs.Wires.{Piece, last_wires}
 use Rattle.net_built.specs.Words.{word_cells}
 use Rattle.cell_bits.specs.Bearing.{HasCells}
+use Rattle.net_grounds.specs.Facts.{Facts}
+use Rattle.net_means.proofs.Lists.{found_before_map, same_some}
 use Rattle.net_means.specs.SideBits.Sides.{types_in, LooksAt}
 use Rattle.net_means.proofs.SideBits.Heads.{names, IsHead, built_at, wide_asks}
 use Rattle.net_means.proofs.SideBits.Operands.{var_at}
@@ -71,20 +67,20 @@ three_types P f (l ∷ n ∷ u ∷ []) e = f l n u
 three_types P f (l ∷ n ∷ u ∷ k ∷ r) e = absurd (omega (arith, e))
 
 -- a variable that is used as a word is as wide as the word
-pub word_width : (values : SameValues) (s : Setting) (scope : List Variable) (x u : ℕ) (it : Variable) (r : Scalar) (n : TypeTree) → HasTypeUpTo s [] (types_in scope) (var x) (scalar r n) → slice_get scope x ≡ Some it → HasWidth s.datas it.ty u → u ≡ closed_value n
-word_width values s scope x u it r n typed known has =
+pub word_width : Facts → (values : SameValues) (s : Setting) (scope : List Variable) (x u : ℕ) (it : Variable) (r : Scalar) (n : TypeTree) → HasTypeUpTo s [] (types_in scope) (var x) (scalar r n) → slice_get scope x ≡ Some it → HasWidth s.datas it.ty u → u ≡ closed_value n
+word_width facts values s scope x u it r n typed known has =
     let v = found_before_map (λ (v : Variable). v.ty) scope x typed.type (var_at typed.has) in
     let same : v.0 ≡ it = same_some v.1 known in
     let own : it.ty ≡ typed.type = ap (λ (v : Variable). v.ty) (sym same) ∙ v.2 in
-    let form = as_scalar typed.same in
+    let form = facts.same.as_scalar typed.same in
     let wide : HasWidth s.datas (scalar r form.0) u = subst (λ t. HasWidth s.datas t u) (own ∙ form.1) has in
-    scalar_width wide ∙ sym (same_number values form.2)
+    facts.widths.scalar_width wide ∙ sym (facts.same_layout.same_number values form.2)
 
-module _ (values : SameValues) (s : Setting) (scope : List Variable) (i x u w : ℕ) (it : Variable) (known : slice_get scope x ≡ Some it) (has : HasWidth s.datas it.ty u) where
+module _ (facts : Facts) (values : SameValues) (s : Setting) (scope : List Variable) (i x u w : ℕ) (it : Variable) (known : slice_get scope x ≡ Some it) (has : HasWidth s.datas it.ty u) where
   word_at : (y : ℕ) (r : Scalar) (n : TypeTree) → Some y ≡ Some x → HasTypeUpTo s [] (types_in scope) (var y) (scalar r n) → u ≡ closed_value n
   word_at y r n e typed =
       let is : y ≡ x = same_some refl e in
-      word_width values s scope x u it r n (subst (λ z. HasTypeUpTo s [] (types_in scope) (var z) (scalar r n)) is typed) known has
+      word_width facts values s scope x u it r n (subst (λ z. HasTypeUpTo s [] (types_in scope) (var z) (scalar r n)) is typed) known has
 
   -- of one word, and of two
   one_word : (j : ℕ) (r : Scalar) (n : TypeTree) (xs : List ℕ) → AreGiven s [] (types_in scope) (scalar r n ∷ []) (names xs) → slice_get xs j ≡ Some x → (j ≡ 0) × (u ≡ closed_value n)
@@ -136,7 +132,7 @@ word_piece on (value_primitive k) = refl
 word_piece on value_element = absurd on
 word_piece on value_element_at = absurd on
 
-module _ (values : SameValues) (o : Origins) (order : List ℕ) (scope : List Variable) (net : Net) (path : List ℕ) (at w : ℕ) (t : TypeTree) (piece : Piece) where
+module _ (facts : Facts) (values : SameValues) (o : Origins) (order : List ℕ) (scope : List Variable) (net : Net) (path : List ℕ) (at w : ℕ) (t : TypeTree) (piece : Piece) where
   -- the cells read the operand of this number
   operand_ends : (q : Prim) → IsOnWords q → (n m u i : ℕ) (a b wires : List WireId) → OperandOf (row_of q) n m w u i → 0 < w → (i ≡ 0 → a ≡ wires) → (i ≡ 1 → b ≡ wires) → Held wires u → HasCells net path (word_cells q n m at a b).cells
       → (j : ℕ) (v : WireId) → slice_get wires j ≡ Some v → Ends net path at (word_cells q n m at a b) v
@@ -152,14 +148,14 @@ module _ (values : SameValues) (o : Origins) (order : List ℕ) (scope : List Va
       let row : Row = row_of q in
       let head : IsHead (prim q) = record { head = refl; types = refl; operands = refl } in
       let line = row_is row on in
-      let all = prim_saturated (setting_at o) (types_in scope) q (kinds_of row) (params_of row) (result_of row) types xs g.typed.type g.sound g.scoped line.0 (count ∙ line.1) g.typed.has (wide_asks g.wide g.typed.same) in
+      let all = prim_saturated facts (setting_at o) (types_in scope) q (kinds_of row) (params_of row) (result_of row) types xs g.typed.type g.sound g.scoped line.0 (count ∙ line.1) g.typed.has (wide_asks facts g.wide g.typed.same) in
       let sat = all.1 in
-      let ends = outcome values datas g.sound.begins.0 g.sound.begins.1 row on (arguments (trees_of types)) t w (same_through sat.gives (same_turned g.typed.same)) g.wide in
+      let ends = outcome facts values datas g.sound.begins.0 g.sound.begins.1 row on (arguments (trees_of types)) t w (facts.same.same_through sat.gives (facts.same.same_turned g.typed.same)) g.wide in
       let at_operand : Looked (prim q) types xs x = looked head ((λ y e. absurd cc), (λ t es e. absurd cc)) types xs x looks in
       let its : HasItsWires datas it.ty it.wires = g.held x it looks known in
       let n : ℕ = slice_index (map closed_value types) 0 in
       let m : ℕ = slice_index (map closed_value types) 1 in
-      let operand = operand_of values (setting_at o) scope at_operand.i x its.width w it known its.has row on types all.0 xs sat.args_given ends.1 at_operand.at in
+      let operand = operand_of facts values (setting_at o) scope at_operand.i x its.width w it known its.has row on types all.0 xs sat.args_given ends.1 at_operand.at in
       let a : List WireId = operand_at scope (names xs) 0 in
       let b : List WireId = operand_at scope (names xs) 1 in
       let is : piece ≡ word_cells q n m at a b = word_piece on (built_at head types xs g.built) in

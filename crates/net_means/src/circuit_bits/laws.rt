@@ -5,9 +5,9 @@ ghost use Rattle.net_means.specs.CircuitBits.Memories.{MemoriesHave};
 ghost use Rattle.net_means.specs.CircuitBits.Instances.{BodiesAreBlocks};
 ghost use Rattle.net_means.specs.CircuitBits.Uses.{VariablesFollow, GroupsFollow, MembersFollow, CallsFollow, LiftsFollow, FollowersHave, WholesCall, WholesLift, UsesAreThere, PartsEnter, CallsHave, LiftsHave, SamplesHave};
 
-use chw_bits::laws::number_of_made_bits;
 use chw_types::laws::same_values;
 use layout_laws::laws::zero_exists;
+use net_grounds::laws::facts;
 use type_laws::laws::fields_keep_same;
 
 /// A variable has the leaf of the variable that it names, and a signal from another domain that of the signal.
@@ -15,6 +15,7 @@ pub fn copies_have()
     ensures name { NamesHave }
     ensures crossing { CrossingsHave }
 {
+    facts();
     same_values();
     fields_keep_same();
 }
@@ -24,6 +25,7 @@ pub fn delays_have()
     ensures constant { ConstantsHave }
     ensures register { RegistersHave }
 {
+    facts();
     same_values();
     fields_keep_same();
 }
@@ -33,6 +35,7 @@ pub fn products_have()
     ensures product { ProductsHave }
     ensures projection { ProjectionsHave }
 {
+    facts();
     same_values();
     fields_keep_same();
 }
@@ -40,7 +43,9 @@ pub fn products_have()
 /// Each leaf of a product is a leaf of one of its fields.
 pub fn leaves_have_fields()
     ensures { LeavesHaveFields }
-{}
+{
+    facts();
+}
 
 /// Variables, groups, members of groups, calls and lifted functions have all that what they go on with has.
 pub fn thunks_follow()
@@ -49,12 +54,15 @@ pub fn thunks_follow()
     ensures member { MembersFollow }
     ensures call { CallsFollow }
     ensures lift { LiftsFollow }
-{}
+{
+    facts();
+}
 
 /// What has all that another thunk has, has its leaves.
 pub fn followers_have()
     ensures { FollowersHave }
 {
+    facts();
     same_values();
     fields_keep_same();
 }
@@ -76,6 +84,7 @@ pub fn uses_have()
     ensures call { CallsHave }
     ensures lift { LiftsHave }
 {
+    facts();
     same_values();
     fields_keep_same();
 }
@@ -83,7 +92,9 @@ pub fn uses_have()
 /// A leaf without bits has none on each thunk and on any wires.
 pub fn empty_leaves_have()
     ensures { EmptyLeavesHave }
-{}
+{
+    facts();
+}
 
 /// What is built of the body of a function is built of its block, with its parameters in scope.
 pub fn bodies_are_blocks()
@@ -100,6 +111,7 @@ pub fn bodies_stand()
 pub fn samples_have()
     ensures { SamplesHave }
 {
+    facts();
     same_values();
     fields_keep_same();
 }
@@ -108,8 +120,8 @@ pub fn samples_have()
 pub fn memories_have()
     ensures { MemoriesHave }
 {
+    facts();
     same_values();
     fields_keep_same();
-    number_of_made_bits();
     zero_exists();
 }

@@ -16,6 +16,7 @@ use cell_bits::data_laws::cases_bear_results;
 use chw_types::laws::same_values;
 use chw_typing::spine_laws::saturated_spines;
 use layout_laws::laws::{numbers_of_constructors, same_types_keep_layout};
+use net_grounds::laws::facts;
 use netlist::laws::{a_wire_has_one_value, an_order_excludes_loops, every_wire_has_a_value};
 use type_laws::laws::fields_keep_same;
 use use_laws::laws::bits_through_uses;
@@ -24,6 +25,7 @@ use use_laws::laws::bits_through_uses;
 pub fn circuits_stay()
     ensures { CircuitsStay }
 {
+    facts();
     same_types_keep_layout();
 }
 
@@ -31,6 +33,7 @@ pub fn circuits_stay()
 pub fn all_have_bits()
     ensures { AllHaveBits }
 {
+    facts();
     same_values();
     fields_keep_same();
     same_types_keep_layout();

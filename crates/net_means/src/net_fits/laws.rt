@@ -7,6 +7,7 @@ ghost use Rattle.net_means.specs.NetFits.WidthLaws.{ConstructorsAgree};
 use chw_types::laws::same_values;
 use chw_typing::spine_laws::{saturated_spines, spines_are_saturated};
 use layout_laws::laws::same_types_keep_layout;
+use net_grounds::laws::facts;
 use rule_types::laws::steps_keep;
 use type_laws::laws::fields_keep_same;
 
@@ -14,6 +15,7 @@ use type_laws::laws::fields_keep_same;
 pub fn value_bodies_drive_in_order()
     ensures { ValueBodiesDriveInOrder }
 {
+    facts();
     same_types_keep_layout();
 }
 
@@ -21,6 +23,7 @@ pub fn value_bodies_drive_in_order()
 pub fn circuit_bodies_drive_in_order()
     ensures { CircuitBodiesDriveInOrder }
 {
+    facts();
     fields_keep_same();
     same_types_keep_layout();
     saturated_spines();
@@ -31,6 +34,7 @@ pub fn circuit_bodies_drive_in_order()
 pub fn drivers_are_kept()
     ensures { DriversAreKept }
 {
+    facts();
     fields_keep_same();
     same_types_keep_layout();
     saturated_spines();
@@ -47,6 +51,7 @@ pub fn modules_are_there()
 pub fn names_are_there()
     ensures { NamesAreThere }
 {
+    facts();
     fields_keep_same();
     same_types_keep_layout();
     saturated_spines();
@@ -60,6 +65,7 @@ pub fn outputs_are_wide()
     ensures values { ValueOutputsAreWide }
     ensures wires { WiresAreThere }
 {
+    facts();
     fields_keep_same();
     same_types_keep_layout();
     saturated_spines();
@@ -72,6 +78,7 @@ pub fn outputs_are_wide()
 pub fn word_sides_agree()
     ensures { WordSidesAgree }
 {
+    facts();
     same_values();
     same_types_keep_layout();
 }
@@ -82,6 +89,7 @@ pub fn simple_sides_agree()
     ensures literal { LiteralsAgree }
     ensures vector { VectorsAgree }
 {
+    facts();
     same_values();
     same_types_keep_layout();
 }
@@ -91,6 +99,7 @@ pub fn element_sides_agree()
     ensures number { ElementsAgree }
     ensures index { IndexedAgree }
 {
+    facts();
     same_values();
     same_types_keep_layout();
 }
@@ -99,6 +108,7 @@ pub fn element_sides_agree()
 pub fn constructor_sides_agree()
     ensures { ConstructorsAgree }
 {
+    facts();
     same_types_keep_layout();
     saturated_spines();
     spines_are_saturated();
@@ -113,6 +123,7 @@ pub fn runs_begin_with_top()
 pub fn tops_are_kept()
     ensures { TopsAreKept }
 {
+    facts();
     fields_keep_same();
     same_types_keep_layout();
     saturated_spines();
@@ -124,6 +135,7 @@ pub fn tops_are_kept()
 pub fn ports_are_kept()
     ensures { PortsAreKept }
 {
+    facts();
     steps_keep();
 }
 
@@ -133,6 +145,7 @@ pub fn built_is_well_formed()
     ensures states { BuiltIsWellFormed }
     ensures runs { RunsBuildWellFormed }
 {
+    facts();
     fields_keep_same();
     same_types_keep_layout();
     saturated_spines();

@@ -5,6 +5,7 @@ use crate::net_fits::laws::{built_is_well_formed, runs_begin_with_top};
 use chw_types::laws::same_values;
 use chw_typing::spine_laws::{saturated_spines, spines_are_saturated};
 use layout_laws::laws::same_types_keep_layout;
+use net_grounds::laws::facts;
 use rule_types::laws::steps_keep;
 use type_laws::laws::fields_keep_same;
 
@@ -12,6 +13,7 @@ use type_laws::laws::fields_keep_same;
 pub fn widths_are_kept()
     ensures { WidthsAreKept }
 {
+    facts();
     same_values();
     fields_keep_same();
     same_types_keep_layout();
@@ -23,12 +25,15 @@ pub fn widths_are_kept()
 /// There are at most as many modules as made definitions.
 pub fn modules_are_few()
     ensures { ModulesAreFew }
-{}
+{
+    facts();
+}
 
 /// Each module that is built keeps the rule on limits.
 pub fn limits_are_kept()
     ensures { LimitsAreKept }
 {
+    facts();
     same_values();
     fields_keep_same();
     same_types_keep_layout();

@@ -2,8 +2,8 @@
 ghost use Rattle.net_means.specs.SideBits.Cases.{CasesBear, FieldsHaveBits, FirstIsChosen, FirstIsTaken, TakenIsFirst};
 ghost use Rattle.net_means.specs.SideBits.Laws.{ConstructorsBear, ElementsBear, IndexedBear, LiteralsBear, NamesBear, PrimitivesBear, SidesBear, SidesHoldNoMade, VectorsBear};
 
-use chw_bits::laws::number_of_made_bits;
 use chw_types::laws::same_values;
+use net_grounds::laws::facts;
 use type_laws::laws::fields_keep_same;
 
 /// A variable and a literal have bits, on their thunks and on their wires.
@@ -11,6 +11,7 @@ pub fn simple_sides_bear()
     ensures name { NamesBear }
     ensures literal { LiteralsBear }
 {
+    facts();
     same_values();
     fields_keep_same();
 }
@@ -20,6 +21,7 @@ pub fn data_sides_bear()
     ensures vector { VectorsBear }
     ensures constructor { ConstructorsBear }
 {
+    facts();
     same_values();
     fields_keep_same();
 }
@@ -28,6 +30,7 @@ pub fn data_sides_bear()
 pub fn primitive_sides_bear()
     ensures { PrimitivesBear }
 {
+    facts();
     same_values();
     fields_keep_same();
 }
@@ -37,6 +40,7 @@ pub fn element_sides_bear()
     ensures number { ElementsBear }
     ensures index { IndexedBear }
 {
+    facts();
     same_values();
     fields_keep_same();
 }
@@ -45,6 +49,7 @@ pub fn element_sides_bear()
 pub fn sides_bear()
     ensures { SidesBear }
 {
+    facts();
     same_values();
     fields_keep_same();
 }
@@ -60,6 +65,7 @@ pub fn first_alternatives_are_taken()
     ensures back { TakenIsFirst }
     ensures cells { FirstIsChosen }
 {
+    facts();
     same_values();
 }
 
@@ -67,11 +73,13 @@ pub fn first_alternatives_are_taken()
 pub fn cases_bear()
     ensures { CasesBear }
 {
-    number_of_made_bits();
+    facts();
     same_values();
 }
 
 /// In an alternative the variables of the fields have bits, and so has each variable from outside that has bits there.
 pub fn variables_of_alternatives_bear()
     ensures { FieldsHaveBits }
-{}
+{
+    facts();
+}

@@ -4,12 +4,15 @@ ghost use Rattle.net_means.specs.WireOrder.Laws.{OneResult, ResultsSettle, Teste
 ghost use Rattle.net_means.specs.WireOrder.Laws.{CopiesSettle, CrossingsSettle, ProductsSettle, ProjectedParts, ProjectionsSettle};
 
 use chw_types::laws::same_values;
+use net_grounds::laws::facts;
 use type_laws::laws::fields_keep_same;
 
 /// Where the flat net has an order, the wires of instances have ranks that fall to those by which they settle.
 pub fn settled_in_order()
     ensures { SettledInOrder }
-{}
+{
+    facts();
+}
 
 /// The last wire of a variable, a vector or a constructor settles by its operands, and a literal has none.
 pub fn data_sides_settle()
@@ -23,6 +26,7 @@ pub fn data_sides_settle()
 pub fn primitive_sides_settle()
     ensures { PrimitivesSettle }
 {
+    facts();
     same_values();
 }
 
@@ -31,6 +35,7 @@ pub fn element_sides_settle()
     ensures number { ElementsSettle }
     ensures index { IndexedSettle }
 {
+    facts();
     same_values();
 }
 
@@ -38,6 +43,7 @@ pub fn element_sides_settle()
 pub fn sides_settle()
     ensures { SidesSettle }
 {
+    facts();
     same_values();
 }
 
@@ -49,7 +55,9 @@ pub fn cases_settle()
     ensures tested { TestedSettle }
     ensures looks { LooksSettle }
     ensures several { LooksHaveSeveral }
-{}
+{
+    facts();
+}
 
 /// The wires of fields settle by those of the variable from which they are cut.
 pub fn fields_settle()
@@ -73,6 +81,7 @@ pub fn copies_settle()
     ensures parts { ProjectedParts }
     ensures projection { ProjectionsSettle }
 {
+    facts();
     same_values();
     fields_keep_same();
 }

@@ -5,8 +5,8 @@ use Rattle.net_means.proofs.circuit_bits.laws.thunks_follow.Goals as goal
 pub returns : goal.returns
 returns c = record {
   variable = λ p h x th γ δ there. variable_has_all there;
-  group = group_follows;
-  member = member_follows;
-  call = call_follows;
-  lift = lift_follows;
+  group = group_follows c.facts.ensures;
+  member = member_follows c.facts.ensures;
+  call = call_follows c.facts.ensures;
+  lift = lift_follows c.facts.ensures;
 }

@@ -42,7 +42,7 @@ returns c = λ d flat places inputs path last h b g scope γ good of sound order
       uses_order = c.uses_settle.ensures.output;
       inputs_order = c.uses_settle.ensures.input;
     } in
-    all_have
+    all_have c.facts.ensures
     (record {
       laws = laws;
       d = d;
@@ -52,7 +52,7 @@ returns c = λ d flat places inputs path last h b g scope γ good of sound order
       last = last;
       given = given;
       top = inputs_there d inputs last h past fits given;
-      have = λ k is. wires_have c.bits_through_uses.ensures c.an_order_excludes_loops.ensures c.every_wire_has_a_value.ensures c.a_wire_has_one_value.ensures d.net flat places good of sound ordered k is;
-      once = λ k is. wires_once c.bits_through_uses.ensures c.an_order_excludes_loops.ensures c.every_wire_has_a_value.ensures c.a_wire_has_one_value.ensures d.net flat places good of sound ordered k is;
+      have = λ k is. wires_have c.facts.ensures c.bits_through_uses.ensures c.an_order_excludes_loops.ensures c.every_wire_has_a_value.ensures c.a_wire_has_one_value.ensures d.net flat places good of sound ordered k is;
+      once = λ k is. wires_once c.facts.ensures c.bits_through_uses.ensures c.an_order_excludes_loops.ensures c.every_wire_has_a_value.ensures c.a_wire_has_one_value.ensures d.net flat places good of sound ordered k is;
     })
     h past fits path b g scope γ at inside

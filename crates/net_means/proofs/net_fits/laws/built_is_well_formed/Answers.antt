@@ -8,7 +8,7 @@ pub returns : goal.returns
 returns c =
     let states : BuiltIsWellFormed =
     λ p state net typed normal of begins rest.
-    well_formed c.fields_keep_same.ensures c.same_types_keep_layout.ensures.measure c.saturated_spines.ensures.con c.spines_are_saturated.ensures.con c.saturated_spines.ensures.prim c.steps_keep.ensures.origins p state net of typed normal begins (ports_hold c.steps_keep.ensures.origins p state net.ports typed of.ports) rest in
+    well_formed c.facts.ensures c.fields_keep_same.ensures c.same_types_keep_layout.ensures.measure c.saturated_spines.ensures.con c.spines_are_saturated.ensures.con c.saturated_spines.ensures.prim c.steps_keep.ensures.origins p state net of typed normal begins (ports_hold c.facts.ensures c.steps_keep.ensures.origins p state net.ports typed of.ports) rest in
     record {
       states = states;
       runs = λ rules p n steps state net run typed normal of rest. states p state net typed normal of (runs_begin rules p n steps state run) rest;

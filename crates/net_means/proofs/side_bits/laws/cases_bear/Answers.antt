@@ -2,4 +2,4 @@ use Rattle.net_means.proofs.SideBits.Cases.{case_bears}
 use Rattle.net_means.proofs.side_bits.laws.cases_bear.Goals as goal
 
 pub returns : goal.returns
-returns c = λ p scope γ δ net path h n w t x alts on piece results g. case_bears c.same_values.ensures c.number_of_made_bits.ensures.whole p scope γ δ net path h n w t x alts on piece results g
+returns c = λ p scope γ δ net path h n w t x alts on piece results g. case_bears c.facts.ensures c.same_values.ensures p scope γ δ net path h n w t x alts on piece results g

@@ -6,5 +6,5 @@ pub returns : goal.returns
 returns c = record {
   meaning = λ datas x alts k a first. first_taken first;
   back = taken_first;
-  cells = λ datas u whole n wires on alts x k a are size is first. chosen_first c.same_values.ensures datas u whole n wires on alts x k a are size is first;
+  cells = λ datas u whole n wires on alts x k a are size is first. chosen_first c.facts.ensures c.same_values.ensures datas u whole n wires on alts x k a are size is first;
 }

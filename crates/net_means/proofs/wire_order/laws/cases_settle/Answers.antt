@@ -13,7 +13,7 @@ pub returns-clause-tested : goal.returns-clause-tested
 returns-clause-tested c = λ net path datas u whole wires on alts w n p results is h has several count some. tested_settle net path datas u whole wires on alts w n p results is h has several count some
 
 pub returns-clause-looks : goal.returns-clause-looks
-returns-clause-looks c = λ net path datas u whole wires on alts w n p results tested look is h has several count. looks_settle net path datas u whole wires on alts w n p results tested look is h has several count
+returns-clause-looks c = λ net path datas u whole wires on alts w n p results tested look is h has several count. looks_settle c.facts.ensures net path datas u whole wires on alts w n p results tested look is h has several count
 
 pub returns-clause-several : goal.returns-clause-several
-returns-clause-several c = λ datas alts covered is. looks_have_several datas alts covered is
+returns-clause-several c = λ datas alts covered is. looks_have_several c.facts.ensures datas alts covered is

@@ -2,4 +2,4 @@ use Rattle.net_means.proofs.WireOrder.Ranks.{ranked}
 use Rattle.net_means.proofs.wire_order.laws.settled_in_order.Goals as goal
 
 pub returns : goal.returns
-returns c = λ net flat places f ordered. ranked net flat places f ordered
+returns c = λ net flat places f ordered. ranked c.facts.ensures net flat places f ordered
