@@ -1,4 +1,4 @@
-use Rattle.std.proofs.Common.{refl, subst}
+use Rattle.std.proofs.Common.{subst}
 use Rattle.chw_norm.specs.Bounds.{AreBounds}
 use Rattle.chw_norm.proofs.Between.{between_first}
 use Rattle.chw_norm.proofs.progress.Progress.begin.Goals as goal
