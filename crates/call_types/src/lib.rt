@@ -4,4 +4,4 @@
 mod calls;
 mod typed;
 
-pub use typed::type_of_typed;
+pub use typed::type_at;

@@ -9,7 +9,6 @@ pub mod Loops
 pub mod Passed
 pub mod Refused
 pub mod Shown
-pub mod Sides
 pub mod Spines
 pub mod Still
 pub mod Tested

@@ -8,15 +8,14 @@ use Rattle.chw_prims.specs.Schemas.{row_of}
 use Rattle.chw_terms.specs.declared.term.Alt.{Alt}
 use Rattle.chw_terms.specs.declared.term.Arg.{Arg}
 use Rattle.chw_terms.specs.declared.term.Arg.TheVariants.{OfTerm, OfType}
-use Rattle.chw_terms.specs.declared.term.Binding.{Binding}
 use Rattle.chw_terms.specs.declared.term.Head.{Head}
 use Rattle.chw_terms.specs.declared.term.Head.TheVariants.{Var, Made, Con, PrimOf, Lit}
-use Rattle.chw_terms.specs.declared.term.Head.TheVariants.{LetRec, VecLit, Case}
+use Rattle.chw_terms.specs.declared.term.Head.TheVariants.{VecLit, Case}
 use Rattle.chw_terms.specs.TermTree.{TermTree}
 use Rattle.chw_terms.specs.TermView.{alts_of}
 use Rattle.rewriting.specs.Shapes.{IsVariable, IsMade}
 use Rattle.quiet_sides.specs.Quiet.{IsWritten, IsPlainArgument, IsPlainRow, IsLifted}
-use Rattle.quiet_sides.specs.Quiet.{IsProjection, IsOfMany, IsQuiet}
+use Rattle.quiet_sides.specs.Quiet.{IsProjection, IsOfMany}
 
 -- this holds of each item, by its number
 abbrev pub EachItem : {X : Type 0} → (ℕ → X → Type 0) → List X → Type 0
@@ -84,12 +83,3 @@ QuietHead (VecLit t es) args = (args ≡ []) × EachVariable es.items
 QuietHead (Case e alts) args =
     (args ≡ []) × (IsVariable e.value × QuietAlternatives alts.items)
 QuietHead _ args = ⊥
-
--- the right side of the binding of this number is quiet
-abbrev pub HasQuietBinding : List Binding → ℕ → Type 0
-HasQuietBinding bs i = (b : Binding) × ((slice_get bs i ≡ Some b) × IsQuiet b.body)
-
--- so of a letrec
-abbrev pub HasQuietSide : Head → List Arg → ℕ → Type 0
-HasQuietSide (LetRec bs e) args i = (args ≡ []) × HasQuietBinding bs.items i
-HasQuietSide _ args i = ⊥

@@ -7,10 +7,8 @@ mod choices;
 pub mod laws;
 mod lifted;
 mod names;
-mod places;
 mod prims;
 mod quiet;
 mod written;
 
-pub use places::{is_quiet_at, is_quiet_side};
 pub use quiet::is_quiet;

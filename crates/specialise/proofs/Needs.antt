@@ -1,21 +1,15 @@
 -- Which terms need names.
-use Rattle.std.proofs.Common.{◌≡◌, ◌∙◌, ◌<◌, ◌≤◌, ◌+◌, inl, inr, ℕ, zero, suc, List, [], length, ap, sym}
-use Rattle.std.proofs.Common.{Contains}
+use Rattle.std.proofs.Common.{◌≡◌, ◌∙◌, ◌<◌, ◌≤◌, ◌+◌, inl, inr, ℕ, List, [], length, ap, sym, refl, Some}
 use Rattle.std.proofs.Common.{get_or, arith, subst, Bool, IsTrue, ◌↔◌, Result, Ok, Err}
 use Rattle.std.specs.Prelude.{IfOk}
 use Rattle.std.proofs.lemmas.Bool.{cases_order}
 use Rattle.std.proofs.lemmas.List.{get_or_default}
+use Rattle.std.proofs.lemmas.Option.{slice_get_read}
 use Rattle.chw_types.specs.declared.declarations.Data.{Data}
-use Rattle.chw_types.specs.declared.kind.Kind.{Kind}
 use Rattle.chw_types.specs.TypeTree.{TypeTree}
 use Rattle.chw_terms.specs.declared.term.Arg.{Arg}
 use Rattle.chw_terms.specs.declared.term.Arg.TheVariants.{OfTerm}
 use Rattle.chw_terms.specs.TermTree.{TermTree}
-use Rattle.chw_terms.specs.TermView.{applied}
-use Rattle.chw_typing.specs.Scopes.{Setting}
-use Rattle.chw_typing.specs.TypedSpines.{AtArguments, at_none, at_term, at_type}
-use Rattle.chw_typing.specs.Typing.{HasType}
-use Rattle.chw_typing.proofs.TypedSpines.{head_typed}
 use Rattle.chw_typing.specs.Laws.{OneType, TypesAreTermTypes}
 use Rattle.chw_typing.specs.Finding.{Finds}
 use Rattle.chw_typing.specs.FoundLaws.{FoundIsType}
@@ -27,7 +21,8 @@ use Rattle.rewriting.specs.Spots.{Spot}
 use Rattle.rewriting.specs.Operands.{NeedsName}
 use Rattle.rewriting.specs.Shapes.{IsVariable}
 use Rattle.rule_parts.specs.Cores.{HasTypeAt}
-use Rattle.specialise.specs.Calls.{HaveTypesAt, NoneNeedsName}
+use Rattle.call_types.specs.Arguments.{AllTyped}
+use Rattle.specialise.specs.Calls.{NoneNeedsName}
 
 -- one that is no variable does where the type that is found is named
 pub needs_found : {o : Origins} {at : Spot} (x : TermTree) (t : TypeTree) → FoundIsType
@@ -112,30 +107,9 @@ of_term o at arg a (Ok b) q h = (λ y. (a, q, h.0 y), back)
         let same : n.0 ≡ a = cc in
         h.1 (subst (NeedsName o at) same n.2)
 
-contained_typed : {s : Setting} {kinds : List Kind} {vars : List TypeTree} {u t : TypeTree}
-    {args : List Arg} → AtArguments s kinds vars u args t → (a : TermTree)
-    → Contains args (OfTerm a) → (v : TypeTree) × HasType s kinds vars a v
-contained_typed at_none a there = let l = there.1 in absurd (omega (arith, l))
-contained_typed {s} {kinds} {vars} (at_term {c = v} {a = b} typed same more) a (zero, l, is) =
-    let first : b ≡ a = cc in (v, subst (λ x. HasType s kinds vars x v) first typed)
-contained_typed (at_term typed same more) a (suc i, l, is) =
-    contained_typed more a (i, omega (arith, l), is)
-contained_typed (at_type has same kind more) a (zero, l, is) = absurd cc
-contained_typed (at_type has same kind more) a (suc i, l, is) =
-    contained_typed more a (i, omega (arith, l), is)
-
--- the arguments of a typed spine are typed
-pub arguments_typed : (o : Origins) (at : Spot) (f e : TermTree) (args : List Arg)
-    → applied f args ≡ e → HasTypeAt o at e → HaveTypesAt o at args
-arguments_typed o at f e args is typed a there =
-    let s = setting_at o in
-    let whole = subst (λ e. HasType s [] at.vars e typed.0) (sym is) typed.1 in
-    let spine = head_typed s [] at.vars f args typed.0 whole in
-    contained_typed spine.2 a there
-
--- so the one of a number, where it is a term
+-- the argument of a number has a type, where it is a term
 pub argument_typed : (o : Origins) (at : Spot) (args : List Arg) (n : ℕ) (arg : Arg)
-    → n < length args → arg ≡ get_or args n arg → HaveTypesAt o at args → (a : TermTree)
+    → n < length args → arg ≡ get_or args n arg → AllTyped o at args → (a : TermTree)
     → arg ≡ OfTerm a → HasTypeAt o at a
 argument_typed o at args n arg l q typed a is =
-    typed a (n, l, get_or_default args n (OfTerm a) arg l ∙ sym q ∙ is)
+    typed n a (slice_get_read args (length args) n arg refl l q ∙ ap Some is)

@@ -10,7 +10,6 @@ use Rattle.rewriting.specs.Named.{IsNamed}
 use Rattle.rewriting.specs.Origins.{Origins}
 use Rattle.rewriting.specs.Spots.{Spot}
 use Rattle.rewriting.specs.Operands.{NeedsName}
-use Rattle.rule_parts.specs.Cores.{HasTypeAt}
 
 -- the name of a definition on arguments
 abbrev pub IsOnGlobal : TermTree → Type 0
@@ -41,7 +40,3 @@ NoneNeedsName o at args = (a : TermTree) → Contains args (OfTerm a) → NeedsN
 abbrev pub IsPlain : Origins → Spot → TermTree → Type 0
 IsPlain o at e =
     (d : ℕ) × (args : List Arg) × (e ≡ applied (global d) args) × NoneNeedsName o at args
-
--- each argument that is a term has a type there
-abbrev pub HaveTypesAt : Origins → Spot → List Arg → Type 0
-HaveTypesAt o at args = (a : TermTree) → Contains args (OfTerm a) → HasTypeAt o at a

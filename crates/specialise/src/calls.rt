@@ -19,13 +19,14 @@ ghost use Rattle.rewriting.specs.Runs.{sort_at};
 ghost use Rattle.rule_parts.specs.Cores.{HasTypeAt};
 ghost use Rattle.term_types.specs.Answers.{IsReady};
 ghost use Rattle.term_types.specs.Signatures.{IsSignature};
-ghost use Rattle.specialise.specs.Calls.{HasNamedType, AnswersTypes, HaveTypesAt, IsPlain, NoneNeedsName};
+ghost use Rattle.call_types.specs.Arguments.{AllTyped};
+ghost use Rattle.specialise.specs.Calls.{HasNamedType, AnswersTypes, IsPlain, NoneNeedsName};
 ghost use Rattle.specialise.specs.Closed.{numbers};
 ghost use Rattle.specialise.specs.Seeds.{AnswersCall};
 
 use crate::closing::close;
 use crate::numbers::Seed;
-use call_types::type_of_typed;
+use call_types::type_at;
 use chw_base::{NoMemory, VarIx};
 use chw_terms::{Arg, Head, Mode, Place, Scene, Sort, Term};
 use chw_types::Ty;
@@ -81,24 +82,6 @@ fn is_variable(term: &Term) -> bool
     }
 }
 
-// The type that is found for a term that has one at the place.
-fn type_found(
-    alloc: Global,
-    scene: &Scene,
-    signature: &Signature,
-    place: &Place,
-    term: &Term,
-) -> Result<Ty, NoMemory>
-    requires ready { IsReady (setting_in scene.now) [] (reverse place.now.vars) }
-    requires table { IsSignature scene.now.program.now signature.now }
-    requires typed { HasTypeAt (origins_of scene.now) (spot_of place.now) term.now }
-    ensures { IfOk result (λ t. Finds (setting_at (origins_of scene.now)) [] (reverse place.now.vars) term.now t) }
-{
-    settings_of_scenes();
-    let vars = place.vars.as_slice();
-    type_of_typed(alloc, scene, signature, vars, term)
-}
-
 // Whether the term needs a name at the place: it is no variable, and its type is named there.
 fn needs_name(
     alloc: Global,
@@ -116,7 +99,7 @@ fn needs_name(
     if is_variable(term) {
         return Ok(false);
     }
-    let ty = type_found(alloc, scene, signature, place, term)?;
+    let ty = type_at(alloc, scene, signature, place, term)?;
     settings_of_scenes();
     found_is_type();
     one_type();
@@ -155,7 +138,7 @@ fn none_needs_name(
     requires order { HasNoCycle scene.now.program.now.datas }
     requires ready { IsReady (setting_in scene.now) [] (reverse place.now.vars) }
     requires table { IsSignature scene.now.program.now signature.now }
-    requires typed { HaveTypesAt (origins_of scene.now) (spot_of place.now) args.now }
+    requires typed { AllTyped (origins_of scene.now) (spot_of place.now) args.now }
     ensures { IfOk result (λ yes. IsTrue yes ↔ NoneNeedsName (origins_of scene.now) (spot_of place.now) args.now) }
 {
     for arg in args {
@@ -227,7 +210,7 @@ fn named_result(
         × IsNamed scene.now.program.now.datas place.now.mode t)) }
 {
     one_found();
-    let gives = type_found(alloc, scene, signature, place, at)?;
+    let gives = type_at(alloc, scene, signature, place, at)?;
     if is_named(alloc, scene.program.datas.as_slice(), place.mode, &gives)? {
         Ok(Some(gives))
     } else {

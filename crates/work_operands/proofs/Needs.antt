@@ -1,10 +1,8 @@
 -- Which terms need names.
-use Rattle.std.proofs.Common.{◌≡◌, List, [], sym, subst, Result}
-use Rattle.std.specs.Prelude.{IfOk}
+use Rattle.std.proofs.Common.{[]}
 use Rattle.chw_types.specs.TypeTree.{TypeTree}
 use Rattle.chw_terms.specs.TermTree.{TermTree}
 use Rattle.chw_typing.specs.Laws.{OneType, TypesAreTermTypes}
-use Rattle.chw_typing.specs.Scopes.{Setting}
 use Rattle.chw_typing.specs.Finding.{Finds}
 use Rattle.chw_typing.specs.FoundLaws.{FoundIsType}
 use Rattle.term_types.specs.Answers.{IsReady}
@@ -15,15 +13,6 @@ use Rattle.rewriting.specs.Spots.{Spot}
 use Rattle.rewriting.specs.Operands.{NeedsName}
 use Rattle.rewriting.specs.Shapes.{IsVariable}
 use Rattle.work_operands.specs.Firsts.{NeedsNameOf}
-
--- the type that is found for a term at a place, over what is the setting there and among what are
--- the variables
-pub found_there : {E : Type 0} (o : Origins) (at : Spot) (s : Setting) (vars : List TypeTree)
-    (x : TermTree) (r : Result TypeTree E) → setting_at o ≡ s → vars ≡ at.vars
-    → IfOk r (λ t. Finds s [] vars x t) → IfOk r (λ t. Finds (setting_at o) [] at.vars x t)
-found_there o at s vars x r q p found =
-    subst (λ s. IfOk r (λ t. Finds s [] at.vars x t)) (sym q)
-    (subst (λ vars. IfOk r (λ t. Finds s [] vars x t)) p found)
 
 -- one that is no variable does where the type that is found is named
 pub needs_found : {o : Origins} {at : Spot} (x : TermTree) (t : TypeTree) → FoundIsType

@@ -3,42 +3,18 @@ use Rattle.std.proofs.Common.{◌≡◌, sym, subst, ℕ, zero, suc, List, [], �
 use Rattle.std.specs.List.{slice_get}
 use Rattle.chw_types.specs.TypeTree.{TypeTree}
 use Rattle.chw_terms.specs.declared.term.Arg.{Arg}
-use Rattle.chw_terms.specs.declared.term.Arg.TheVariants.{OfTerm, OfType}
-use Rattle.chw_terms.specs.TermTree.{TermTree, app, ty_app, vec_lit, case_of, Terms, Alts}
-use Rattle.chw_terms.specs.TermView.{applied, terms_of}
+use Rattle.chw_terms.specs.declared.term.Arg.TheVariants.{OfTerm}
+use Rattle.chw_terms.specs.TermTree.{TermTree, vec_lit, case_of, Terms, Alts}
+use Rattle.chw_terms.specs.TermView.{terms_of}
 use Rattle.chw_typing.specs.Scopes.{Setting}
-use Rattle.chw_typing.specs.Typing.{HasType, h_app, h_case, h_vec, AllHave, have_and}
-use Rattle.chw_typing.proofs.TypedSpines.{head_typed}
+use Rattle.chw_typing.specs.Typing.{HasType, h_case, h_vec, AllHave, have_and}
 use Rattle.rewriting.specs.Origins.{Origins, setting_at}
 use Rattle.rewriting.specs.Spots.{Spot}
 use Rattle.rule_parts.specs.Cores.{HasTypeAt}
-use Rattle.work_operands.specs.Firsts.{AllTyped, AllElementsTyped}
+use Rattle.call_types.specs.Arguments.{AllTyped}
+use Rattle.work_operands.specs.Firsts.{AllElementsTyped}
 
--- the head of a spine
-pub core_typed : (o : Origins) (at : Spot) (e : TermTree) (args : List Arg)
-    → HasTypeAt o at (applied e args) → HasTypeAt o at e
-core_typed o at e args typed =
-    let head = head_typed (setting_at o) [] at.vars e args typed.0 typed.1 in
-    (head.0, head.1)
-
--- the arguments of a spine
-argument_of : {s : Setting} {vars : List TypeTree} {t : TypeTree} {e a : TermTree}
-    → HasType s [] vars (app e a) t → (u : TypeTree) × HasType s [] vars a u
-argument_of (h_app {c = c} f a x) = (c, a)
-
-pub arguments_typed : (o : Origins) (at : Spot) (e : TermTree) (args : List Arg)
-    → HasTypeAt o at (applied e args) → AllTyped o at args
-arguments_typed o at e [] typed i x is = absurd cc
-arguments_typed o at e (OfTerm a ∷ args) typed zero x is =
-    let same : a ≡ x = cc in
-    subst (HasTypeAt o at) same (argument_of (core_typed o at (app e a) args typed).1)
-arguments_typed o at e (OfType t ∷ args) typed zero x is = absurd cc
-arguments_typed o at e (OfTerm a ∷ args) typed (suc i) x is =
-    arguments_typed o at (app e a) args typed i x is
-arguments_typed o at e (OfType t ∷ args) typed (suc i) x is =
-    arguments_typed o at (ty_app e t) args typed i x is
-
--- the first ones of them
+-- the first ones of the arguments
 found_in_front : (given rest : List Arg) (i : ℕ) (a : Arg) → slice_get given i ≡ Some a
     → slice_get (given ++ rest) i ≡ Some a
 found_in_front [] rest i a is = absurd cc

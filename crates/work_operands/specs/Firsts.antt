@@ -30,12 +30,7 @@ IsAmong (OfPrim p) i = IsOnWords p ⊎ (TakesElement p ⊎ IsSignal p i)
 abbrev pub NeedsNameOf : Origins → Spot → TermTree → TypeTree → Type 0
 NeedsNameOf o at x t = NeedsName o at x × Finds (setting_at o) [] at.vars x t
 
--- each of the arguments that is a term has a type at the place
-abbrev pub AllTyped : Origins → Spot → List Arg → Type 0
-AllTyped o at args =
-    (i : ℕ) (x : TermTree) → slice_get args i ≡ Some (OfTerm x) → HasTypeAt o at x
-
--- the same of the elements of a vector
+-- each of the elements of a vector has a type at the place
 abbrev pub AllElementsTyped : Origins → Spot → List TermTree → Type 0
 AllElementsTyped o at es = (i : ℕ) (x : TermTree) → slice_get es i ≡ Some x → HasTypeAt o at x
 

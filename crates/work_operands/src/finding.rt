@@ -3,18 +3,18 @@ ghost use Rattle.std.specs.Prelude.{◌≡◌, ◌↔◌, [], reverse, length, I
 ghost use Rattle.chw_types.specs.References.{HasNoCycle};
 ghost use Rattle.chw_terms.specs.declared.term.Arg.TheVariants.{OfTerm};
 ghost use Rattle.chw_terms.specs.TermTree.{TermTree};
-ghost use Rattle.chw_typing.specs.Finding.{Finds};
 ghost use Rattle.chw_typing.specs.Scopes.{setting_in};
-ghost use Rattle.rewriting.specs.Origins.{origins_of, setting_at};
+ghost use Rattle.rewriting.specs.Origins.{origins_of};
 ghost use Rattle.rewriting.specs.Spots.{spot_of};
 ghost use Rattle.rewriting.specs.Shapes.{IsVariable, IsLet};
 ghost use Rattle.rule_parts.specs.Cores.{HasTypeAt};
 ghost use Rattle.term_types.specs.Answers.{IsReady};
 ghost use Rattle.term_types.specs.Signatures.{IsSignature};
-ghost use Rattle.work_operands.specs.Firsts.{AllTyped, AllElementsTyped, AnswersName, AnswersFirstArg, AnswersFirstElement, AnswersArg};
+ghost use Rattle.call_types.specs.Arguments.{AllTyped};
+ghost use Rattle.work_operands.specs.Firsts.{AllElementsTyped, AnswersName, AnswersFirstArg, AnswersFirstElement, AnswersArg};
 
 use crate::operands::{Operands, is_among};
-use call_types::type_of_typed;
+use call_types::type_at;
 use chw_base::NoMemory;
 use chw_terms::{Arg, Head, Place, Scene, Term};
 use chw_types::Ty;
@@ -53,23 +53,6 @@ pub(crate) fn is_let(term: &Term) -> bool
     }
 }
 
-/// The type that is found at a place for a term that has one there.
-pub(crate) fn found_at(
-    alloc: Global,
-    scene: &Scene,
-    signature: &Signature,
-    place: &Place,
-    term: &Term,
-) -> Result<Ty, NoMemory>
-    requires ready { IsReady (setting_in scene.now) [] (reverse place.now.vars) }
-    requires table { IsSignature scene.now.program.now signature.now }
-    requires typed { HasTypeAt (origins_of scene.now) (spot_of place.now) term.now }
-    ensures { IfOk result (λ t. Finds (setting_at (origins_of scene.now)) [] (spot_of place.now).vars term.now t) }
-{
-    settings_of_scenes();
-    type_of_typed(alloc, scene, signature, place.vars.as_slice(), term)
-}
-
 /// The type of the name that a term needs at a place, where it has a type, if it needs one: it is no variable, and its type is named there.
 pub(crate) fn name_needed(
     alloc: Global,
@@ -87,7 +70,7 @@ pub(crate) fn name_needed(
     if is_variable(term) {
         return Ok(None);
     }
-    let ty = found_at(alloc, scene, signature, place, term)?;
+    let ty = type_at(alloc, scene, signature, place, term)?;
     settings_of_scenes();
     found_is_type();
     one_type();

@@ -11,8 +11,9 @@ ghost use Rattle.term_types.specs.Signatures.{IsSignature};
 ghost use Rattle.work_operands.specs.Firsts.{AnswersWhole};
 
 use crate::arguments::new_name;
-use crate::finding::{found_at, is_let, is_variable};
+use crate::finding::{is_let, is_variable};
 use crate::operands::has_lets;
+use call_types::type_at;
 use chw_base::NoMemory;
 use chw_terms::{Place, Scene, Term};
 use rule_parts::copies::let_one;
@@ -49,6 +50,6 @@ pub(crate) fn name_result(
     if is_let(at) {
         return Ok(None);
     }
-    let ty = found_at(alloc, scene, signature, place, at)?;
+    let ty = type_at(alloc, scene, signature, place, at)?;
     Ok(Some(let_one(alloc, ty, at, new_name(alloc))?))
 }

@@ -1,10 +1,12 @@
 use Rattle.std.proofs.Common.{◌↔◌, IsTrue, subst, sym}
+use Rattle.rule_parts.specs.Cores.{HasTypeAt}
 use Rattle.term_types.proofs.Matched.{ok_more}
 use Rattle.rewriting.specs.Origins.{origins_of}
 use Rattle.rewriting.specs.Spots.{spot_of}
 use Rattle.chw_terms.specs.TermView.{tree_of}
-use Rattle.specialise.specs.Calls.{HaveTypesAt, NoneNeedsName}
-use Rattle.specialise.proofs.Needs.{arguments_typed}
+use Rattle.specialise.specs.Calls.{NoneNeedsName}
+use Rattle.call_types.specs.Arguments.{AllTyped}
+use Rattle.call_types.proofs.Arguments.{arguments_typed}
 use Rattle.specialise.specs.Calls.{IsPlain}
 use Rattle.specialise.proofs.Called.{not_plain, plain_there, plain_needs_none}
 use Rattle.specialise.proofs.calls.is_plain.Goals as goal
@@ -38,6 +40,6 @@ pub none_needs_name-requires-clause-typed : goal.none_needs_name-requires-clause
 none_needs_name-requires-clause-typed c =
     let o = origins_of c.args.scene.now in
     let at = spot_of c.args.place.now in
-    subst (HaveTypesAt o at) (sym c.deref.ensures.value)
-    (arguments_typed o at (tree_of c.at.inside.head) c.args.at.now c.at.inside.args.items
-    c.at.view_is c.requires.typed)
+    subst (AllTyped o at) (sym c.deref.ensures.value)
+    (arguments_typed o at (tree_of c.at.inside.head) c.at.inside.args.items
+    (subst (HasTypeAt o at) (sym c.at.view_is) c.requires.typed))

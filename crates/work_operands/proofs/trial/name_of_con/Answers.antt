@@ -6,7 +6,7 @@ use Rattle.rewriting.specs.Origins.{origins_of}
 use Rattle.rewriting.specs.Spots.{spot_of}
 use Rattle.term_types.proofs.Matched.{not_true}
 use Rattle.work_operands.proofs.Heads.{con_answers, con_stays}
-use Rattle.work_operands.proofs.Typed.{arguments_typed}
+use Rattle.call_types.proofs.Arguments.{arguments_typed}
 use Rattle.work_operands.proofs.trial.name_of_con.Goals as goal
 
 pub name_argument-requires-clause-typed : goal.name_argument-requires-clause-typed

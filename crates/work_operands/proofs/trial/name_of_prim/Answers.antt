@@ -2,7 +2,7 @@ use Rattle.chw_terms.specs.TermTree.{prim}
 use Rattle.rewriting.specs.Origins.{origins_of}
 use Rattle.rewriting.specs.Spots.{spot_of}
 use Rattle.work_operands.proofs.Heads.{prim_answers}
-use Rattle.work_operands.proofs.Typed.{arguments_typed}
+use Rattle.call_types.proofs.Arguments.{arguments_typed}
 use Rattle.work_operands.proofs.trial.name_of_prim.Goals as goal
 
 pub name_argument-requires-clause-typed : goal.name_argument-requires-clause-typed

@@ -11,7 +11,7 @@ use Rattle.rule_parts.specs.Cores.{HasTypeAt}
 use Rattle.work_operands.specs.Firsts.{AnswersOperand}
 use Rattle.work_operands.proofs.CasesAndVectors.{case_behind, vector_behind}
 use Rattle.work_operands.proofs.Spines.{HasNoOperands, other_needs_none}
-use Rattle.work_operands.proofs.Typed.{core_typed}
+use Rattle.call_types.proofs.Arguments.{core_typed}
 use Rattle.work_operands.proofs.trial.name_operand.Goals as goal
 
 pub name_of_prim-requires-clause-typed : goal.name_of_prim-requires-clause-typed

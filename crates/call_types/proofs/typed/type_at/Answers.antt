@@ -2,7 +2,7 @@ use Rattle.std.proofs.Common.{IfOk, [], reverse, sym, subst}
 use Rattle.chw_typing.specs.Finding.{Finds}
 use Rattle.chw_typing.specs.Scopes.{setting_in}
 use Rattle.chw_typing.specs.Typing.{HasType}
-use Rattle.specialise.proofs.calls.type_found.Goals as goal
+use Rattle.call_types.proofs.typed.type_at.Goals as goal
 
 pub type_of_typed-requires-clause-typed : goal.type_of_typed-requires-clause-typed
 type_of_typed-requires-clause-typed c =
