@@ -11,6 +11,7 @@ ghost use Rattle.chw_norm.specs.Seen.{LooksFrom};
 
 use crate::place::Found;
 use crate::state::next_from;
+use active_parts::SpareTypes;
 use chw_base::{MadeId, NoMemory};
 use chw_terms::Scene;
 use looks::Looks;
@@ -56,6 +57,7 @@ impl Finder {
         table: &Table,
         scene: &Scene,
         signature: &Signature,
+        spare: &mut SpareTypes,
         looks: &mut L,
     ) -> Result<Option<Found>, NoMemory>
         requires same { scene.now.made.now ≡ table.now }
@@ -66,7 +68,7 @@ impl Finder {
         ensures moves { Moves result self.old self.new }
         ensures looks { LooksFrom built scene.now.program.now scene.now.made.now self.old.made.number self.old.path.items (L.looks looks.old) (L.looks looks.new) }
     {
-        let Some(found) = next_from(alloc, table, scene, signature, self, looks)? else {
+        let Some(found) = next_from(alloc, table, scene, signature, self, spare, looks)? else {
             return Ok(None);
         };
         let path = found.at.path.clone()?;

@@ -13,7 +13,7 @@ ghost use Rattle.chw_norm.specs.SeenPaths.{LooksAtPaths};
 use crate::paths::begin_at_child;
 use crate::search::first_from;
 use crate::trail::{Trail, behind_child};
-use active_parts::{Ground, enter, mode_of};
+use active_parts::{Ground, SpareTypes, enter, mode_of};
 use chw_base::{NoMemory, Seq};
 use chw_terms::{Head, Made, Place, Term};
 use chw_types::{Ty, TyNode};
@@ -30,6 +30,7 @@ fn under_lambdas<L: Looks>(
     ty: &Ty,
     place: &mut Place,
     from: &[u32],
+    spare: &mut SpareTypes,
     looks: &mut L,
 ) -> Result<Option<Trail>, NoMemory>
     requires ground { IsGround ground.now }
@@ -40,7 +41,7 @@ fn under_lambdas<L: Looks>(
     ensures looks { LooksAtPaths built (origins_of ground.now.scene.now) (under_lambdas (origins_of ground.now.scene.now) place.old.mode (reverse place.old.vars) at.now ty.now) from.now (L.looks looks.old) (L.looks looks.new) }
 {
     let TyNode::Fun(_, to) = &ty.node else {
-        return first_from(alloc, table, ground, at, place, from, looks);
+        return first_from(alloc, table, ground, at, place, from, spare, looks);
     };
     let Head::Lam(of, body) = &at.head else {
         return Ok(None);
@@ -49,7 +50,7 @@ fn under_lambdas<L: Looks>(
         return Ok(None);
     };
     enter(alloc, place, vec![in alloc; of.copy(alloc)?]?)?;
-    let found = under_lambdas(alloc, table, ground, body, to, place, left, looks)?;
+    let found = under_lambdas(alloc, table, ground, body, to, place, left, spare, looks)?;
     behind_child(found, 0)
 }
 
@@ -60,6 +61,7 @@ pub(crate) fn in_made<L: Looks>(
     ground: &Ground,
     it: &Made,
     from: &[u32],
+    spare: &mut SpareTypes,
     looks: &mut L,
 ) -> Result<Option<Trail>, NoMemory>
     requires ground { IsGround ground.now }
@@ -74,6 +76,6 @@ pub(crate) fn in_made<L: Looks>(
         vars: Seq::from(Vec::new(alloc)),
     };
     under_lambdas(
-        alloc, table, ground, &it.body, &it.ty, &mut place, from, looks,
+        alloc, table, ground, &it.body, &it.ty, &mut place, from, spare, looks,
     )
 }

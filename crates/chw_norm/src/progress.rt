@@ -15,6 +15,7 @@ use crate::bodies::{bound_with, depths, exact_over_limit};
 use crate::finder::Finder;
 use crate::place::Found;
 use crate::running::RunFault;
+use active_parts::SpareTypes;
 use chw_base::limits::MADE_DEPTH;
 use chw_base::{NoMemory, Or, VarIx};
 use chw_terms::{Made, Program, Scene, Term, depth};
@@ -67,6 +68,7 @@ impl<'p> Progress<'p> {
         &self,
         alloc: Global,
         finder: &mut Finder,
+        spare: &mut SpareTypes,
         looks: &mut L,
     ) -> Result<Option<Found>, NoMemory>
         requires between { IsBetweenSteps self.now }
@@ -79,7 +81,7 @@ impl<'p> Progress<'p> {
             program: self.program,
             made: self.made.list(),
         };
-        let found = finder.next(alloc, &self.made, &scene, &self.signature, looks);
+        let found = finder.next(alloc, &self.made, &scene, &self.signature, spare, looks);
         let Scene {
             program: _,
             made: _,

@@ -8,6 +8,7 @@ ghost use Rattle.chw_norm.specs.Seen.{RunLooks};
 use crate::finder::Finder;
 use crate::laws::search_suits_next_state;
 use crate::progress::Progress;
+use active_parts::SpareTypes;
 use chw_base::Or;
 use chw_terms::Program;
 use looks::Looks;
@@ -50,13 +51,14 @@ pub fn run<L: Looks>(
     search_suits_next_state();
     let mut run = Progress::begin(alloc, program)?;
     let mut finder = Finder::open(alloc);
+    let mut spare = SpareTypes::new(alloc);
     for _ in 0..budget {
-        let Some(found) = run.next(alloc, &mut finder, looks)? else {
+        let Some(found) = run.next(alloc, &mut finder, &mut spare, looks)? else {
             return Ok(run.made);
         };
         run.advance(alloc, found, trace)?;
     }
-    match run.next(alloc, &mut finder, looks)? {
+    match run.next(alloc, &mut finder, &mut spare, looks)? {
         None => Ok(run.made),
         Some(_) => Err(Or::Fault(RunFault::Spent { steps: budget })),
     }

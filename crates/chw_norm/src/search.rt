@@ -15,7 +15,8 @@ use crate::passing::{first_sought, is_quiet_part};
 use crate::paths::begin_at;
 use crate::trail::{Trail, behind};
 use active_parts::{
-    Ground, Part, count_parts, enter, enter_group, group_around_parts, leave, part_at, path_to,
+    Ground, Part, SpareTypes, count_parts, enter, enter_group_again, group_around_parts, leave,
+    leave_with_spare, part_at, path_to,
 };
 use chw_base::NoMemory;
 use chw_terms::{Place, Term};
@@ -34,6 +35,7 @@ pub(crate) fn first_from<L: Looks>(
     at: &Term,
     place: &mut Place,
     from: &[u32],
+    spare: &mut SpareTypes,
     looks: &mut L,
 ) -> Result<Option<Trail>, NoMemory>
     requires ground { IsGround ground.now }
@@ -59,7 +61,7 @@ pub(crate) fn first_from<L: Looks>(
             definition: trial.definition,
         }));
     }
-    below(alloc, table, ground, at, place, from, looks)
+    below(alloc, table, ground, at, place, from, spare, looks)
 }
 
 // The first step below a place.
@@ -71,6 +73,7 @@ fn below<L: Looks>(
     at: &Term,
     place: &mut Place,
     from: &[u32],
+    spare: &mut SpareTypes,
     looks: &mut L,
 ) -> Result<Option<Trail>, NoMemory>
     requires ground { IsGround ground.now }
@@ -86,9 +89,11 @@ fn below<L: Looks>(
         return Ok(None);
     }
     let outside = place.vars.len();
-    enter_group(alloc, place, group_around_parts(at))?;
-    let found = first_part(alloc, table, ground, at, first, count, place, from, looks)?;
-    leave(alloc, place, outside);
+    enter_group_again(alloc, place, group_around_parts(at), spare)?;
+    let found = first_part(
+        alloc, table, ground, at, first, count, place, from, spare, looks,
+    )?;
+    leave_with_spare(alloc, place, outside, spare)?;
     Ok(found)
 }
 
@@ -104,6 +109,7 @@ fn first_part<L: Looks>(
     count: usize,
     place: &mut Place,
     from: &[u32],
+    spare: &mut SpareTypes,
     looks: &mut L,
 ) -> Result<Option<Trail>, NoMemory>
     requires ground { IsGround ground.now }
@@ -118,7 +124,7 @@ fn first_part<L: Looks>(
     ensures looks { LooksAtPaths built (origins_of ground.now.scene.now) (From (origins_of ground.now.scene.now) (Below (origins_of ground.now.scene.now) (around place.old at.now) at.now)) from.now (L.looks looks.old) (L.looks looks.new) }
 {
     for number in first..count {
-        let found = in_part(alloc, table, ground, at, number, place, from, looks)?;
+        let found = in_part(alloc, table, ground, at, number, place, from, spare, looks)?;
         if found.is_some() {
             return Ok(found);
         }
@@ -136,6 +142,7 @@ fn in_part<L: Looks>(
     number: usize,
     place: &mut Place,
     from: &[u32],
+    spare: &mut SpareTypes,
     looks: &mut L,
 ) -> Result<Option<Trail>, NoMemory>
     requires ground { IsGround ground.now }
@@ -157,7 +164,7 @@ fn in_part<L: Looks>(
     let Some(part) = part_at(alloc, ground, at, number, place)? else {
         return Ok(None);
     };
-    let found = first_at(alloc, table, ground, part, place, left, looks)?;
+    let found = first_at(alloc, table, ground, part, place, left, spare, looks)?;
     behind(found, path)
 }
 
@@ -170,6 +177,7 @@ fn first_at<L: Looks>(
     part: Part,
     place: &mut Place,
     from: &[u32],
+    spare: &mut SpareTypes,
     looks: &mut L,
 ) -> Result<Option<Trail>, NoMemory>
     requires ground { IsGround ground.now }
@@ -189,7 +197,7 @@ fn first_at<L: Looks>(
     let outer_mode = mem::replace(&mut place.mode, mode);
     let outer_result = mem::replace(&mut place.result, gives);
     enter(alloc, place, more)?;
-    let found = first_from(alloc, table, ground, term, place, from, looks)?;
+    let found = first_from(alloc, table, ground, term, place, from, spare, looks)?;
     leave(alloc, place, outside);
     place.mode = outer_mode;
     place.result = outer_result;

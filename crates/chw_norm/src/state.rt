@@ -13,7 +13,7 @@ use crate::finder::Finder;
 use crate::in_bodies::in_made;
 use crate::place::Found;
 use crate::trail::Trail;
-use active_parts::Ground;
+use active_parts::{Ground, SpareTypes};
 use chw_base::{MadeId, NoMemory, narrow};
 use chw_terms::{Made, Scene};
 use chw_typing::named_laws::data_types_in_order;
@@ -72,6 +72,7 @@ fn in_number<L: Looks>(
     number: usize,
     it: &Made,
     from: &Finder,
+    spare: &mut SpareTypes,
     looks: &mut L,
 ) -> Result<Option<Found>, NoMemory>
     requires ground { IsGround ground.now }
@@ -84,7 +85,10 @@ fn in_number<L: Looks>(
 {
     place_of_scene_is_typed();
     let path = begin_in(number, from);
-    found_in(number, in_made(alloc, table, ground, it, path, looks)?)
+    found_in(
+        number,
+        in_made(alloc, table, ground, it, path, spare, looks)?,
+    )
 }
 
 /// The first step of a state from a place on, how it changes the term there, and the made definition that it adds, if it adds one. The
@@ -94,7 +98,8 @@ fn in_number<L: Looks>(
 /// At each place at which it looks, each of the twenty-one rules is one look at most. It looks at active places of the state: at that
 /// place, above it, and after it, up to the place of the step.
 ///
-/// The scene is typed, its made definitions are those of the table, and the signature is that of its program.
+/// The scene is typed, its made definitions are those of the table, and the signature is that of its program. Types that an earlier search
+/// put into scope are kept as spare ones; they spare copies, and change no answer.
 /// Where a number would pass 32 bits, the answer is want of memory.
 pub fn next_from<L: Looks>(
     alloc: Global,
@@ -102,6 +107,7 @@ pub fn next_from<L: Looks>(
     scene: &Scene,
     signature: &Signature,
     from: &Finder,
+    spare: &mut SpareTypes,
     looks: &mut L,
 ) -> Result<Option<Found>, NoMemory>
     requires same { scene.now.made.now ≡ table.now }
@@ -115,7 +121,16 @@ pub fn next_from<L: Looks>(
     let ground = Ground { scene, signature };
     let made = scene.made;
     for number in from.made.number as usize..made.len() {
-        let found = in_number(alloc, table, &ground, number, &made[number], from, looks)?;
+        let found = in_number(
+            alloc,
+            table,
+            &ground,
+            number,
+            &made[number],
+            from,
+            spare,
+            looks,
+        )?;
         if found.is_some() {
             return Ok(found);
         }
@@ -141,5 +156,6 @@ pub fn next<L: Looks>(
     ensures { IfOk result (FindsNext built scene.now.program.now scene.now.made.now) }
 {
     let from = Finder::open(alloc);
-    next_from(alloc, table, scene, signature, &from, looks)
+    let mut spare = SpareTypes::new(alloc);
+    next_from(alloc, table, scene, signature, &from, &mut spare, looks)
 }

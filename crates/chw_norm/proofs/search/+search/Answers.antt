@@ -75,8 +75,8 @@ below-first_part-requires g t c κs h =
     let place = c.args.place.now in
     let e = c.args.at.now in
     let n = c.count_parts-count.result in
-    let entered : c.enter_group.new.place ≡ with_variables place (place.vars ++ declares e) =
-    c.in_ok-enter_group.ensures ∙ ap (λ ts. with_variables place (place.vars ++ ts)) c.group_around_parts.ensures in
+    let entered : c.enter_group_again.new.place ≡ with_variables place (place.vars ++ declares e) =
+    c.in_ok-enter_group_again.ensures ∙ ap (λ ts. with_variables place (place.vars ++ ts)) c.group_around_parts.ensures in
     let typed = subst (λ at. IsTypedAt s at e) (sym (around_inner place e)) c.requires.typed in (
       omega (arith, c.decreases),
       (
@@ -105,15 +105,15 @@ below-returns g t c =
     let o = origins_of c.args.ground.now.scene.now in
     let place = c.args.place.now in
     let e = c.args.at.now in
-    let entered : c.enter_group.new.place ≡ with_variables place (place.vars ++ declares e) =
-    c.in_ok-enter_group.ensures ∙ ap (λ ts. with_variables place (place.vars ++ ts)) c.group_around_parts.ensures in
+    let entered : c.enter_group_again.new.place ≡ with_variables place (place.vars ++ declares e) =
+    c.in_ok-enter_group_again.ensures ∙ ap (λ ts. with_variables place (place.vars ++ ts)) c.group_around_parts.ensures in
     let after : c.first_part.new.place ≡ with_variables place (place.vars ++ declares e) = c.in_ok-found.ensures.place ∙ entered in
     let outside : c.len-outside.result ≡ length place.vars = c.len-outside.ensures in
     record {
       first =
           subst (λ at. FindsFirst built o (adds_to c.args.ground.now.scene.now) (From o (Below o at e)) c.args.from.now c.in_ok-found.found)
           (ap (λ p. around p e) entered ∙ around_inner place e) c.in_ok-found.ensures.first;
-      place = c.leave.ensures ∙ (λ i. with_variables (after i) (take (outside i) (after i).vars)) ∙ left_again place (declares e);
+      place = c.in_ok-leave_with_spare.ensures ∙ (λ i. with_variables (after i) (take (outside i) (after i).vars)) ∙ left_again place (declares e);
       looks =
           subst (λ at. LooksAtPaths built o (From o (Below o at e)) c.args.from.now (g.L.Looks.looks c.args.looks.now) (g.L.Looks.looks c.first_part.new.looks))
           (ap (λ p. around p e) entered ∙ around_inner place e) c.first_part.ensures.looks;
@@ -384,8 +384,8 @@ below-returns-in_err-first-clause-looks g t c =
     let e = c.args.at.now in
     looked_nowhere built o (From o (Below o (spot_of c.args.place.now) e)) c.args.from.now (g.L.Looks.looks c.args.looks.now)
 
-pub below-returns-in_err-enter_group-clause-looks : goal.below-returns-in_err-enter_group-clause-looks
-below-returns-in_err-enter_group-clause-looks g t c =
+pub below-returns-in_err-enter_group_again-clause-looks : goal.below-returns-in_err-enter_group_again-clause-looks
+below-returns-in_err-enter_group_again-clause-looks g t c =
     let o = origins_of c.args.ground.now.scene.now in
     let e = c.args.at.now in
     looked_nowhere built o (From o (Below o (spot_of c.args.place.now) e)) c.args.from.now (g.L.Looks.looks c.args.looks.now)
@@ -395,8 +395,18 @@ below-returns-in_err-found-clause-looks g t c =
     let o = origins_of c.args.ground.now.scene.now in
     let e = c.args.at.now in
     let place = c.args.place.now in
-    let entered : c.enter_group.new.place ≡ with_variables place (place.vars ++ declares e) =
-    c.in_ok-enter_group.ensures ∙ ap (λ ts. with_variables place (place.vars ++ ts)) c.group_around_parts.ensures in
+    let entered : c.enter_group_again.new.place ≡ with_variables place (place.vars ++ declares e) =
+    c.in_ok-enter_group_again.ensures ∙ ap (λ ts. with_variables place (place.vars ++ ts)) c.group_around_parts.ensures in
+    subst (λ at. LooksAtPaths built o (From o (Below o at e)) c.args.from.now (g.L.Looks.looks c.args.looks.now) (g.L.Looks.looks c.first_part.new.looks))
+    (ap (λ p. around p e) entered ∙ around_inner place e) c.first_part.ensures.looks
+
+pub below-returns-in_err-leave_with_spare-clause-looks : goal.below-returns-in_err-leave_with_spare-clause-looks
+below-returns-in_err-leave_with_spare-clause-looks g t c =
+    let o = origins_of c.args.ground.now.scene.now in
+    let e = c.args.at.now in
+    let place = c.args.place.now in
+    let entered : c.enter_group_again.new.place ≡ with_variables place (place.vars ++ declares e) =
+    c.in_ok-enter_group_again.ensures ∙ ap (λ ts. with_variables place (place.vars ++ ts)) c.group_around_parts.ensures in
     subst (λ at. LooksAtPaths built o (From o (Below o at e)) c.args.from.now (g.L.Looks.looks c.args.looks.now) (g.L.Looks.looks c.first_part.new.looks))
     (ap (λ p. around p e) entered ∙ around_inner place e) c.first_part.ensures.looks
 
