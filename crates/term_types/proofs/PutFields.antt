@@ -41,6 +41,11 @@ pub put_none : (f : TypeTree) (args : List TypeTree) → args ≡ [] → f ≡ s
 put_none f args e =
     sym (ap (λ us. sub f (arguments (trees_of us))) e ∙ ap (sub f) (same (given []) ty_var (λ x. refl)) ∙ sub_ids f)
 
+-- the same of each of some fields
+pub each_put_none : (fs args : List TypeTree) → args ≡ [] → map (λ f. sub f (arguments (trees_of args))) fs ≡ fs
+each_put_none [] args e = refl
+each_put_none (f ∷ fs) args e = λ i. sym (put_none f args e) i ∷ each_put_none fs args e i
+
 each_turned : (ts : List TypeTree) → Each IsLinear ts → Each IsLinear (reverse ts)
 each_turned [] h = tt
 each_turned (t ∷ ts) h =

@@ -1,5 +1,5 @@
 -- The kinds of the variables in scope.
-use Rattle.std.proofs.Common.{◌≡◌, ℕ, suc, zero, ◌+◌, ◌<◌, ◌≤◌, Some, refl, sym, ap, ◌∙◌, subst, List, [], ◌∷◌, ◌++◌, map, length, reverse, take, get_or, arith}
+use Rattle.std.proofs.Common.{◌≡◌, ℕ, suc, zero, ◌+◌, ◌<◌, ◌≤◌, Some, refl, sym, ap, ◌∙◌, subst, List, [], ◌∷◌, ◌++◌, map, length, reverse, take, get_or}
 use Rattle.std.specs.List.{slice_get}
 use Rattle.std.proofs.lemmas.List.{map-append, take_all, reverse-reverse, append-nil}
 use Rattle.std.proofs.lemmas.Option.{same_Some}
@@ -13,6 +13,7 @@ use Rattle.chw_typing.specs.Scopes.{Setting, HasKind, AreTermTypes, under_binder
 use Rattle.chw_typing.proofs.Kinded.{typed_reverse}
 use Rattle.chw_typing.proofs.Lists.{reverse_cons}
 use Rattle.term_types.specs.Answers.{IsReady, IsSet}
+use Rattle.term_types.specs.FieldTypes.{kinds_by_form}
 use Rattle.term_types.specs.Groups.{AreKinded, IsGroup}
 use Rattle.term_types.specs.InScope.{InScope}
 use Rattle.term_types.specs.Kinding.{HaveKinds}
@@ -22,6 +23,7 @@ use Rattle.term_types.specs.declared.found.Kinded.{Kinded}
 use Rattle.term_types.specs.declared.groups.Group.{Group}
 use Rattle.term_types.proofs.EachItem.{next_taken}
 use Rattle.term_types.proofs.Lambdas.{lam_ready}
+use Rattle.term_types.proofs.PutFields.{kind_is_by_form}
 use Rattle.term_types.proofs.Ready.{ready_under, ready_more}
 use Rattle.term_types.proofs.VarsFound.{types_of}
 
@@ -94,16 +96,6 @@ kinded_next s kinds f xs i x d ks more k l is h e g m =
 pub kinded_all : {A : Type 0} (s : Setting) (kinds : List Kind) (f : A → TypeTree) (xs : List A) (i : ℕ) (ks : List Kinded) → length xs ≤ i → AreKinded s kinds (map f (take i xs)) ks → AreKinded s kinds (map f xs) ks
 kinded_all s kinds f xs i ks l h = subst (λ ys. AreKinded s kinds (map f ys) ks) (take_all i xs l) h
 
-pub map_itself : (ts : List TypeTree) → map (λ t. t) ts ≡ ts
-map_itself [] = refl
-map_itself (t ∷ ts) = ap (λ us. t ∷ us) (map_itself ts)
-
--- a type among types that terms have
-pub no_term_type_at : (s : Setting) (kinds : List Kind) (ts : List TypeTree) (i : ℕ) (t d : TypeTree) → i < length ts → t ≡ get_or ts i d → ((k : Kind) → HasKind s kinds t k → ⊥) → AreTermTypes s kinds ts → ⊥
-no_term_type_at s kinds [] i t d l is never h = absurd (omega arith)
-no_term_type_at s kinds (u ∷ ts) zero t d l is never h = never h.0.kind (subst (λ w. HasKind s kinds w h.0.kind) (sym is) h.0.has)
-no_term_type_at s kinds (u ∷ ts) (suc i) t d l is never h = no_term_type_at s kinds ts i t d (omega arith) is never h.1
-
 -- with the variable of a lambda
 pub lam_set : (s : Setting) (kinds : List Kind) (outer scope : InScope) (a : TypeTree) (j : Kind) → scope.vars ≡ a ∷ outer.vars → scope.kinds ≡ j ∷ outer.kinds → IsSet s kinds outer → HasKind s kinds a j × IsOfTerms j → IsSet s kinds scope
 lam_set s kinds outer scope a j e d h g = set_of s kinds scope (a ∷ outer.vars) (j ∷ outer.kinds) e d (lam_ready s kinds outer.vars a j h.0 g) (g.0, h.1)
@@ -126,16 +118,22 @@ pub fields_inside : (s : Setting) (kinds : List Kind) (bound : Bound) (outer sco
 fields_inside s kinds bound outer scope h typed all e d =
     record { vars = e; set = set_more s kinds outer scope (bound_types bound) (bound_kinds bound) e d h typed all }
 
--- with no variables but those from outside
-pub outside_inside : (s : Setting) (kinds : List Kind) (ts : List TypeTree) (ks slice : List Kinded) (none scope : InScope) → IsReady s kinds (reverse ts) → AreTermTypes s kinds ts → AreKinded s kinds ts ks → slice ≡ ks → none.vars ≡ [] → none.kinds ≡ [] → scope.vars ≡ with_more (written_types slice) none.vars → scope.kinds ≡ reverse (written_kinds slice) ++ none.kinds → Inside s kinds none scope ts
-outside_inside s kinds ts ks slice none scope h typed k is v w e d =
-    let empty : IsSet s kinds none = set_of s kinds none [] [] v w (h.0, tt) tt in
-    let vars = e ∙ ap (λ xs. with_more (written_types xs) none.vars) is ∙ ap (λ xs. with_more xs none.vars) (kinded_types s kinds ts ks k) in
-    record { vars = vars; set = set_more s kinds none scope ts (written_kinds ks) vars (d ∙ ap (λ xs. reverse (written_kinds xs) ++ none.kinds) is) empty typed (kinded_kinds s kinds ts ks k) }
-
 -- all of a list that is turned round
 pub typed_turned : (s : Setting) (kinds : List Kind) (ts : List TypeTree) → AreTermTypes s kinds (reverse ts) → AreTermTypes s kinds ts
 typed_turned s kinds ts h = subst (AreTermTypes s kinds) (reverse-reverse ts) (typed_reverse s kinds (reverse ts) h)
+
+-- types that terms have, with their kinds
+have_kinds_by_form : (s : Setting) (kinds : List Kind) (ts : List TypeTree) → AreTermTypes s kinds ts → HaveKinds s kinds ts (kinds_by_form s kinds ts)
+have_kinds_by_form s kinds [] h = tt
+have_kinds_by_form s kinds (t ∷ ts) h = (subst (HasKind s kinds t) (sym (kind_is_by_form h.0.has)) h.0.has, have_kinds_by_form s kinds ts h.1)
+
+-- with no variables but those from outside
+pub outside_inside : (s : Setting) (kinds : List Kind) (ts : List TypeTree) (bound : Bound) (none scope : InScope) → IsReady s kinds (reverse ts) → bound_types bound ≡ ts → bound_kinds bound ≡ kinds_by_form s kinds ts → none.vars ≡ [] → none.kinds ≡ [] → scope.vars ≡ with_more (bound_types bound) none.vars → scope.kinds ≡ reverse (bound_kinds bound) ++ none.kinds → Inside s kinds none scope ts
+outside_inside s kinds ts bound none scope h types ks v w e d =
+    let empty : IsSet s kinds none = set_of s kinds none [] [] v w (h.0, tt) tt in
+    let typed = typed_turned s kinds ts h.1 in
+    let vars = e ∙ ap (λ us. with_more us none.vars) types in
+    record { vars = vars; set = set_more s kinds none scope ts (kinds_by_form s kinds ts) vars (d ∙ ap (λ xs. reverse xs ++ none.kinds) ks) empty typed (have_kinds_by_form s kinds ts typed) }
 
 pub with_none : (ts vars : List TypeTree) → vars ≡ [] → with_more ts vars ≡ reverse ts
 with_none ts vars e = ap (with_more ts) e ∙ append-nil (reverse ts)

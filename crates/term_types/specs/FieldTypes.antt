@@ -10,6 +10,7 @@ use Rattle.chw_types.specs.TypeMoves.{sub}
 use Rattle.chw_types.specs.TypeTree.{TypeTree, ty_var, nat_lit, nat_sum, nat_product, domain}
 use Rattle.chw_types.specs.TypeTree.{scalar, vector, data_of, fun, signal, for_all}
 use Rattle.chw_types.specs.TypeView.{trees_of}
+use Rattle.chw_typing.specs.Scopes.{Setting}
 use Rattle.term_types.specs.declared.fields.Args.{Args}
 use Rattle.term_types.specs.declared.fields.Args.TheVariants.{Written, Made}
 use Rattle.term_types.specs.declared.fields.Fields.{Fields}
@@ -59,3 +60,7 @@ put_types p = map (λ f. put_type p f) p.types.now
 
 abbrev pub put_kinds : Fields → List Kind
 put_kinds p = map (λ f. put_kind p f) p.types.now
+
+-- the kinds of types that have kinds, with type variables of these kinds
+abbrev pub kinds_by_form : Setting → List Kind → List TypeTree → List Kind
+kinds_by_form s kinds ts = map (λ t. kind_by_form s.datas s.domains kinds t) ts

@@ -5,12 +5,15 @@ ghost use Rattle.chw_types.specs.Arguments.{arguments};
 ghost use Rattle.chw_types.specs.KindFound.{kind_found};
 ghost use Rattle.chw_types.specs.TypeMoves.{shift, sub};
 ghost use Rattle.chw_types.specs.TypeView.{trees_of};
-ghost use Rattle.term_types.specs.FieldTypes.{args_seen, kind_declared, kind_or_val, put_type, put_kind};
+ghost use Rattle.chw_typing.specs.Scopes.{setting_in};
+ghost use Rattle.term_types.specs.FieldTypes.{args_seen, kind_declared, kind_or_val, kinds_by_form, put_type, put_kind};
+ghost use Rattle.term_types.specs.VarsView.{bound_types, bound_kinds};
 
 use crate::closed::has_no_variables;
 use crate::found::Found;
 use crate::seen::{Seen, raised_on};
 use chw_base::{DataId, Name, NoMemory, TyIx};
+use chw_terms::Scene;
 use chw_types::{Data, Kind, Ty, TyNode, kind_of, put_arguments};
 use std::alloc::Global;
 
@@ -52,6 +55,23 @@ pub(crate) enum Bound<'f, 't> {
     OfFields(Fields<'f, 't>),
     /// Types that were made.
     Settled(Vec<Found<'t>>),
+}
+
+/// Types of variables from outside, the first one first, with type variables of these kinds, the outermost first.
+///
+/// They are as fields of a constructor without arguments are: the kind of one is found where its variable is used. So many variables may
+/// be in scope, and a term that names few of them takes time for these alone.
+pub(crate) fn outside<'t>(scene: &Scene<'t>, kinds: &'t [Kind], types: &'t [Ty]) -> Bound<'t, 't>
+    ensures types { bound_types result ≡ types.now }
+    ensures kinds { bound_kinds result ≡ kinds_by_form (setting_in scene.now) (reverse kinds.now) types.now }
+{
+    Bound::OfFields(Fields {
+        datas: scene.program.datas.as_slice(),
+        domains: scene.program.domains.as_slice(),
+        params: kinds,
+        types,
+        args: Args::Written(&types[..0]),
+    })
 }
 
 /// A field at the arguments, raised by so many type binders, with its kind.

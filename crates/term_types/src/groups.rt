@@ -1,12 +1,12 @@
 //! The types of variables that are bound together.
 ghost use Rattle.std.specs.Prelude.{◌≡◌, reverse, IfOk, MatchOption};
-ghost use Rattle.chw_typing.specs.Scopes.{AreTermTypes, setting_in};
-ghost use Rattle.term_types.specs.Groups.{NotAllOfTerms, IsGroup, AreKinded, together};
+ghost use Rattle.chw_typing.specs.Scopes.{setting_in};
+ghost use Rattle.term_types.specs.Groups.{NotAllOfTerms, IsGroup, together};
 
-use crate::found::{Kinded, kind_in, kind_of_terms};
+use crate::found::{Kinded, kind_of_terms};
 use chw_base::NoMemory;
 use chw_terms::{Binding, Scene};
-use chw_types::{Kind, Ty};
+use chw_types::Kind;
 use std::alloc::Global;
 
 /// The declared types of the bindings of a letrec with their kinds, and the kind that stands for them: a circuit where one of them is.
@@ -45,23 +45,4 @@ fn together(all: Kind, kind: Kind) -> Kind
         Kind::Cir => Kind::Cir,
         _ => all,
     }
-}
-
-/// These types with their kinds, where each has one.
-pub(crate) fn kinded<'t>(
-    alloc: Global,
-    scene: &Scene,
-    kinds: &[Kind],
-    types: &'t [Ty],
-) -> Result<Option<Vec<Kinded<'t>>>, NoMemory>
-    ensures { IfOk result (λ r. MatchOption r (AreTermTypes (setting_in scene.now) (reverse kinds.now) types.now → ⊥) (λ ks. AreKinded (setting_in scene.now) (reverse kinds.now) types.now ks.items)) }
-{
-    let mut all = Vec::new(alloc);
-    for ty in types {
-        let Some(kind) = kind_in(scene, kinds, ty) else {
-            return Ok(None);
-        };
-        all.push(Kinded { ty, kind })?;
-    }
-    Ok(Some(all))
 }

@@ -5,7 +5,7 @@ ghost use Rattle.chw_typing.specs.Finding.{Finds};
 ghost use Rattle.term_types.specs.Answers.{HasNoType, IsReady};
 ghost use Rattle.term_types.specs.Signatures.{IsSignature};
 
-use crate::groups::kinded;
+use crate::fields::outside;
 use crate::signature::Signature;
 use crate::vars::Vars;
 use crate::walk::infer;
@@ -38,7 +38,8 @@ pub fn type_of(
 /// The type of a term, with type variables of these kinds and variables of these types in scope, the outermost first, each type seen from
 /// the place of the term. Nothing comes exactly where the term has no type.
 ///
-/// The signature is that of the scene's program, which is made once for many terms. The rest is as at `type_of`.
+/// The signature is that of the scene's program, which is made once for many terms. Of variables that don't occur in the term nothing is
+/// found. The rest is as at `type_of`.
 pub fn type_of_in(
     alloc: Global,
     scene: &Scene,
@@ -52,12 +53,10 @@ pub fn type_of_in(
     ensures some { IfOk result (λ r. IfSome r (λ t. Finds (setting_in scene.now) (reverse kinds.now) (reverse vars.now) term.now t)) }
     ensures none { IfOk result (λ r. IfNone r (HasNoType (setting_in scene.now) (reverse kinds.now) (reverse vars.now) term.now)) }
 {
-    let Some(outside) = kinded(alloc, scene, kinds, vars)? else {
-        return Ok(None);
-    };
+    let bound = outside(scene, kinds, vars);
     let none = Vars::none();
-    let vars = none.with_group(outside.as_slice());
-    match infer(alloc, scene, signature, kinds, &vars, term)? {
+    let inner = none.with_bound(&bound);
+    match infer(alloc, scene, signature, kinds, &inner, term)? {
         Some(found) => Ok(Some(found.ty.into_ty(alloc)?)),
         None => Ok(None),
     }
