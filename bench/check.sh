@@ -9,6 +9,7 @@ top=$(cd "$(dirname "$0")/.." && pwd)
 form=${1:-definitions}
 work=$(mktemp -d)
 trap 'rm -rf "$work"' EXIT
+. "$top/bench/least.sh"
 # Builds the program where it isn't built. With no words it ends with status 2.
 "$top/chw" >/dev/null 2>"$work/log" || [ $? = 2 ] || { cat "$work/log" >&2; exit 1; }
 program=$top/crates/chw/out/chw
@@ -61,15 +62,6 @@ if [ "$form" = hard ]; then
   exit
 fi
 
-# The least of five times, in microseconds.
-least() {
-  for _ in 1 2 3 4 5; do
-    local from to
-    from=$(date +%s%N); "$@" >/dev/null 2>&1 || true; to=$(date +%s%N)
-    echo $(((to - from) / 1000))
-  done | sort -n | head -n 1
-}
-
 # The least of five times of Python's parser alone, in microseconds.
 python() {
   python3 - "$work/a.py" <<'PY'
@@ -86,7 +78,7 @@ for size in 65536 131072 262144 524288 1048576 2097152 4194304; do
   make "$size"
   bytes=$(stat -c %s "$work/a.chw")
   "$program" check "$work/a.chw" >/dev/null || { echo "check refuses the text of $size bytes" >&2; exit 1; }
-  chw=$(least "$program" check "$work/a.chw")
+  chw=$(least 5 "$program" check "$work/a.chw")
   parser=$(python)
   printf '%10s %12s %12s %12s %8s\n' "$bytes" "$chw" "$((chw * 1000 / bytes))" "$parser" "$(awk "BEGIN { printf \"%.2f\", $chw / $parser }")"
 done

@@ -10,6 +10,7 @@ top=$(cd "$(dirname "$0")/.." && pwd)
 form=${1:-sum}
 work=$(mktemp -d)
 trap 'rm -rf "$work"' EXIT
+. "$top/bench/least.sh"
 
 # A description of about this many bytes. The copies stand in reverse order, and end in a register, so that an order has to be looked for.
 make() {
@@ -39,28 +40,17 @@ print(head + "".join(out) + "}in " + last + ";top main(x)(o);", end="")
 PY
 }
 
-# The least of so many times, in microseconds.
-times=5
-least() {
-  for _ in $(seq "$times"); do
-    local from to
-    from=$(date +%s%N); "$@" >/dev/null 2>&1 || true; to=$(date +%s%N)
-    echo $(((to - from) / 1000))
-  done | sort -n | head -n 1
-}
-
 # The time of one step of net_speed on a net, in nanoseconds a wire: that of the program that goes as far as it, less that of the one that
 # goes as far as the step before.
 step() {
   local form=$1 wires=$2 before=$3 after=$4 first last
-  first=$(least "$program" "$form" "$wires" "$before")
-  last=$(least "$program" "$form" "$wires" "$after")
+  first=$(least 40 "$program" "$form" "$wires" "$before")
+  last=$(least 40 "$program" "$form" "$wires" "$after")
   echo $(((last - first) * 1000 / wires))
 }
 
 # Orders nets, beside tsort on the same graph as a text: each wire is read by the cell that drives the one before it.
 if [ "$form" = order ]; then
-  times=40
   "$top/tools/build-program" net_speed
   program=$top/crates/net_speed/out/net_speed
   printf '%10s %12s %12s %10s %12s %8s\n' wires 'net_speed us' 'ns a wire' 'to first' 'tsort us' ratio
@@ -68,8 +58,8 @@ if [ "$form" = order ]; then
   for wires in 25000 50000 100000 200000; do
     seq 1 $((wires - 1)) | awk -v n="$wires" '{ print ($1 + 1) % n, $1 }' >"$work/graph"
     [ "$("$program" chain "$wires" ordered)" = $((wires - 1)) ]
-    mine=$(least "$program" chain "$wires" ordered)
-    other=$(least tsort "$work/graph")
+    mine=$(least 40 "$program" chain "$wires" ordered)
+    other=$(least 40 tsort "$work/graph")
     each=$((mine * 1000 / wires))
     first=${first:-$each}
     printf '%10d %12d %12d %10s %12d %8s\n' "$wires" "$mine" "$each" "$(awk "BEGIN { printf \"%.2f\", $each / $first }")" "$other" "$(awk "BEGIN { printf \"%.2f\", $mine / $other }")"
@@ -79,7 +69,6 @@ fi
 
 # Judges, flattens, orders and prints nets of one module and of many.
 if [ "$form" = tower ]; then
-  times=40
   "$top/tools/build-program" net_speed
   program=$top/crates/net_speed/out/net_speed
   printf '%10s %8s %12s %12s %12s %12s\n' net wires 'judge ns' 'flatten ns' 'order ns' 'print ns'
@@ -101,10 +90,10 @@ for size in 65536 131072 262144 524288 1048000; do
   make "$size" >"$work/a.chw"
   bytes=$(stat -c %s "$work/a.chw")
   "$program" emit "$work/a.chw" --budget 10000000 >"$work/a.v" 2>"$work/line" || { printf '%10d %s\n' "$bytes" "$(cat "$work/line")"; continue; }
-  chw=$(least "$program" emit "$work/a.chw" --budget 10000000)
+  chw=$(least 5 "$program" emit "$work/a.chw" --budget 10000000)
   yosys=- ratio=-
   if command -v yosys >/dev/null; then
-    yosys=$(least yosys -q -p "read_verilog -sv $work/a.v")
+    yosys=$(least 5 yosys -q -p "read_verilog -sv $work/a.v")
     ratio=$(awk "BEGIN { printf \"%.2f\", $chw / $yosys }")
   fi
   printf '%10d %9d %12d %12d %12s %8s\n' "$bytes" "$(grep -c 'assign w\|always' "$work/a.v")" "$chw" "$((chw * 1000 / bytes))" "$yosys" "$ratio"

@@ -13,6 +13,8 @@ top=$(cd "$(dirname "$0")/.." && pwd)
 form=${1:-taps}
 work=$(mktemp -d)
 trap 'rm -rf "$work"' EXIT
+. "$top/bench/least.sh"
+lines_to=$work/lines
 # Builds the program where it isn't built. With no words it ends with status 2.
 "$top/chw" >/dev/null 2>"$work/log" || [ $? = 2 ] || { cat "$work/log" >&2; exit 1; }
 program=$top/crates/chw/out/chw
@@ -70,16 +72,6 @@ print("\n".join(lines + ["top main (x) (o);"]))
 PY
 }
 
-# The least of five times of a command in microseconds, or the first of them that is over two seconds. What it prints is left in a file.
-least() {
-  for _ in 1 2 3 4 5; do
-    local from to
-    from=$(date +%s%N); "$@" >"$work/lines" || { rm -f "$work/lines"; return; }; to=$(date +%s%N)
-    echo $(((to - from) / 1000))
-    [ $((to - from)) -lt 2000000000 ] || break
-  done | sort -n | head -n 1
-}
-
 case $form in
   taps) sizes='8 16 32 64' ;;
   lets) sizes='50 100 190' ;;
@@ -90,8 +82,8 @@ printf '%8s %8s %8s %12s %12s %14s\n' "$form" steps made 'chw us' 'us a step' 't
 first=
 for size in $sizes; do
   make "$size" >"$work/a.chw"
-  us=$(least "$program" normalise "$work/a.chw" --budget 10000000)
-  [ -f "$work/lines" ] || { echo "normalise refuses $size $form" >&2; exit 1; }
+  us=$(least 5 "$program" normalise "$work/a.chw" --budget 10000000)
+  [ -s "$work/lines" ] || { echo "normalise refuses $size $form" >&2; exit 1; }
   made=$(grep -c '^made' "$work/lines")
   steps=$(($(wc -l <"$work/lines") - made))
   first=${first:-$us}

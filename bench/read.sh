@@ -9,19 +9,9 @@ top=$(cd "$(dirname "$0")/.." && pwd)
 form=${1:-chain}
 work=$(mktemp -d)
 trap 'rm -rf "$work"' EXIT
+. "$top/bench/least.sh"
 "$top/tools/build-program" net_speed
 program=$top/crates/net_speed/out/net_speed
-
-# The least of so many times, in microseconds.
-least() {
-  local times=$1
-  shift
-  for _ in $(seq "$times"); do
-    local from to
-    from=$(date +%s%N); "$@" >/dev/null 2>&1 || true; to=$(date +%s%N)
-    echo $(((to - from) / 1000))
-  done | sort -n | head -n 1
-}
 
 # The time of a tool, or a sign where it isn't installed.
 beside() {

@@ -6,24 +6,16 @@ set -eu
 top=$(cd "$(dirname "$0")/.." && pwd)
 work=$(mktemp -d)
 trap 'rm -rf "$work"' EXIT
+. "$top/bench/least.sh"
 "$top/tools/build-program" rule_rows
 program=$top/crates/rule_rows/out/rule_rows
 times=2000000
-
-# The least of five times, in nanoseconds.
-least() {
-  for _ in 1 2 3 4 5; do
-    local from to
-    from=$(date +%s%N); "$@" >/dev/null; to=$(date +%s%N)
-    echo $((to - from))
-  done | sort -n | head -n 1
-}
 
 printf '%10s %10s\n' rule 'ns a trial'
 for rule in TYBETA BETA APPLET APPCASE CASECON CASELET CASECASE PROJ PRIMLET PRIMCASE FLAT; do
   echo "trials $rule 0" >"$work/none"
   echo "trials $rule $times" >"$work/all"
-  none=$(least "$program" "$work/none")
-  all=$(least "$program" "$work/all")
-  printf '%10s %10s\n' "$rule" "$(awk "BEGIN { printf \"%.1f\", ($all - $none) / $times }")"
+  none=$(least 5 "$program" "$work/none")
+  all=$(least 5 "$program" "$work/all")
+  printf '%10s %10s\n' "$rule" "$(awk "BEGIN { printf \"%.1f\", ($all - $none) * 1000 / $times }")"
 done

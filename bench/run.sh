@@ -11,6 +11,7 @@ top=$(cd "$(dirname "$0")/.." && pwd)
 form=${1:-counter}
 work=$(mktemp -d)
 trap 'rm -rf "$work"' EXIT
+. "$top/bench/least.sh"
 "$top/tools/build-program" chw
 program=$top/crates/chw/out/chw
 
@@ -58,17 +59,6 @@ endmodule
 line = "Sys: x=" + "0123456789abcdef" * 64 + "\n"
 open(f"{work}/stim", "w").write(line * (size // len(line)))
 PY
-}
-
-# The least of so many times, in microseconds.
-least() {
-  local times=$1
-  shift
-  for _ in $(seq "$times"); do
-    local from to
-    from=$(date +%s%N); "$@" >/dev/null 2>&1 || true; to=$(date +%s%N)
-    echo $(((to - from) / 1000))
-  done | sort -n | head -n 1
 }
 
 # The time of `chw run`, and that of vvp or a sign where it isn't installed.
