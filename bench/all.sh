@@ -1,6 +1,6 @@
 #!/usr/bin/env bash
 # Runs every benchmark, and prints one table: the size, the time of chw in microseconds, that of the peer where one is installed, and the
-# ratio of both. It takes about an hour; the tables of the single benchmarks say more.
+# ratio of both. The tables of the single benchmarks say more.
 # Usage: bench/all.sh
 set -u
 top=$(cd "$(dirname "$0")/.." && pwd)

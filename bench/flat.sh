@@ -1,8 +1,9 @@
 #!/usr/bin/env bash
-# Times `chw emit` on descriptions of one letrec, of 64 KiB to just under 1 MiB, beside yosys reading the printed text where yosys is installed.
+# Times `chw emit` on descriptions of one letrec, beside yosys reading the printed text where yosys is installed.
 # A description that is refused has its line in place of times.
 # Usage: bench/flat.sh [sum|copy|order|tower]
-#   sum: each binding adds the two before it (about 130 bytes a binding)    copy: each binding is the one after it (about 30 bytes a binding)
+#   sum: each binding adds the two before it (about 130 bytes a binding), of 8 to 64 KiB, since the rewriting isn't linear
+#   copy: each binding is the one after it (about 30 bytes a binding), of 64 KiB to just under 1 MiB
 #   order: in place of texts, nets of 25,000 to 200,000 wires, each of which waits for the next, by the program net_speed, beside tsort
 #   tower: nets of about as many flat wires in 1,000 modules, each of which uses the one before it: the time of each step of net_speed
 set -eu
@@ -86,7 +87,9 @@ fi
 program=$top/crates/chw/out/chw
 
 printf '%10s %9s %12s %12s %12s %8s\n' bytes bindings 'chw us' 'ns a byte' 'yosys us' ratio
-for size in 65536 131072 262144 524288 1048000; do
+sizes='65536 131072 262144 524288 1048000'
+[ "$form" = copy ] || sizes='8192 16384 32768 65536'
+for size in $sizes; do
   make "$size" >"$work/a.chw"
   bytes=$(stat -c %s "$work/a.chw")
   "$program" emit "$work/a.chw" --budget 10000000 >"$work/a.v" 2>"$work/line" || { printf '%10d %s\n' "$bytes" "$(cat "$work/line")"; continue; }
