@@ -25,5 +25,6 @@ rows circuits.sh taps yosys 1 2 5
 rows circuits.sh make - 1 2 0
 rows circuits.sh simulate vvp 1 3 4
 rows run.sh counter vvp 2 3 6
-for form in sums wires; do rows run.sh "$form" vvp 2 3 6; done
+rows run.sh sums vvp 2 3 6
+rows run.sh wires vvp 1 3 6
 rows run.sh stimulus - 1 2 0
