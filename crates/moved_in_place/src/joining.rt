@@ -6,10 +6,10 @@ ghost use Rattle.chw_terms.specs.TermTree.{letrec};
 ghost use Rattle.chw_terms.specs.TermView.{tree_of, group_of};
 ghost use Rattle.rewriting.specs.Shapes.{IsLet};
 ghost use Rattle.moved_in_place.specs.Joined.{IsJoined, IsJoinedAlone, HasLetAt, IsWithBody, IsWithSide, IsWithSideAt};
-ghost use Rattle.moved_in_place.specs.Moves.{renumbered, renamed_binding};
+ghost use Rattle.moved_in_place.specs.Moves.{renamed_binding};
 
 use crate::lets::{first_let, is_let, take_group};
-use crate::numbers::Renumbering;
+use crate::numbers::{Exchanging, Raising};
 use crate::renaming::{exchange, raise};
 use crate::walk::walk_bindings;
 use chw_base::{NoMemory, VarIx, narrow};
@@ -66,14 +66,21 @@ fn make_room(group: &mut Vec<Binding>, count: usize) -> Result<(), NoMemory>
     ensures { OnOk result (group.new.items ≡ map (renamed_binding (raised 0 count)) group.old.items) }
 {
     let by = narrow(count)?;
-    renumber(group, Renumbering::Raise(by), 0)
+    raise_group(group, by, 0)
 }
 
-// The right sides of a group, renumbered from a place on.
-fn renumber(group: &mut Vec<Binding>, how: Renumbering, at: u32) -> Result<(), NoMemory>
-    ensures { OnOk result (group.new.items ≡ map (renamed_binding (renumbered how at)) group.old.items) }
+// The right sides of a group, with the variables from a place on raised.
+fn raise_group(group: &mut Vec<Binding>, by: u32, from: u32) -> Result<(), NoMemory>
+    ensures { OnOk result (group.new.items ≡ map (renamed_binding (raised from by)) group.old.items) }
 {
-    walk_bindings(group, how, at)
+    walk_bindings(group, &Raising { by }, from)
+}
+
+// The right sides of a group, in which the first so many variables and the next change places.
+fn exchange_group(group: &mut Vec<Binding>, first: u32, next: u32) -> Result<(), NoMemory>
+    ensures { OnOk result (group.new.items ≡ map (renamed_binding (exchanged first next)) group.old.items) }
+{
+    walk_bindings(group, &Exchanging { first, next }, 0)
 }
 
 // These bindings behind others.
@@ -140,10 +147,10 @@ fn renumber_parts(
 {
     let joins = narrow(inner.len())?;
     let own = narrow(back.len() + 1)?;
-    renumber(front, Renumbering::Raise(joins), own)?;
-    renumber(inner, Renumbering::Exchange(joins, own), 0)?;
+    raise_group(front, joins, own)?;
+    exchange_group(inner, joins, own)?;
     exchange(within, joins, own)?;
-    renumber(back, Renumbering::Raise(joins), own)?;
+    raise_group(back, joins, own)?;
     raise(body, VarIx { number: own }, joins)
 }
 

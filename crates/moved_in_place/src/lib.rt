@@ -12,5 +12,6 @@ mod walk;
 mod zeros;
 
 pub use joining::join;
-pub use renaming::{exchange, raise};
+pub use numbers::Renumbering;
+pub use renaming::{exchange, raise, renumber, renumber_group};
 pub use swapping::swap_part;

@@ -1,10 +1,11 @@
 //! The one walk over a term that renumbers its variables where they stand.
 ghost use Rattle.std.specs.Prelude.{◌≡◌, map, OnOk};
+ghost use Rattle.chw_types.specs.TypeMoves.{lift_by};
 ghost use Rattle.chw_terms.specs.TermMoves.{rename};
 ghost use Rattle.chw_terms.specs.TermTree.{letrec, case_of};
 ghost use Rattle.chw_terms.specs.TermView.{tree_of, group_of, alts_of};
 ghost use Rattle.chw_typing.specs.Groups.{rename_arg};
-ghost use Rattle.moved_in_place.specs.Moves.{renumbered, renamed, renamed_binding, renamed_alt};
+ghost use Rattle.moved_in_place.specs.Moves.{renamed, renamed_binding, renamed_alt};
 
 use crate::numbers::{Renumbering, deeper, renumber};
 use chw_base::{NoMemory, narrow};
@@ -12,16 +13,16 @@ use chw_terms::{Alt, Arg, Binding, Head, Term};
 
 // The term with its variables renumbered from this place on.
 #[cycle(walk)]
-pub(crate) fn walk(term: &mut Term, how: Renumbering, at: u32) -> Result<(), NoMemory>
-    ensures { OnOk result (term.new ≡ rename term.old (renumbered how at)) }
+pub(crate) fn walk<R: Renumbering>(term: &mut Term, how: &R, at: u32) -> Result<(), NoMemory>
+    ensures { OnOk result (term.new ≡ rename term.old (lift_by at (R.renaming how.now))) }
 {
     walk_head(&mut term.head, how, at)?;
     walk_args(&mut term.args, how, at)
 }
 
 #[cycle(walk)]
-fn walk_args(args: &mut [Arg], how: Renumbering, at: u32) -> Result<(), NoMemory>
-    ensures { OnOk result (args.new ≡ map (rename_arg (renumbered how at)) args.old) }
+fn walk_args<R: Renumbering>(args: &mut [Arg], how: &R, at: u32) -> Result<(), NoMemory>
+    ensures { OnOk result (args.new ≡ map (rename_arg (lift_by at (R.renaming how.now))) args.old) }
 {
     for arg in args.iter_mut() {
         walk_arg(arg, how, at)?;
@@ -30,8 +31,8 @@ fn walk_args(args: &mut [Arg], how: Renumbering, at: u32) -> Result<(), NoMemory
 }
 
 #[cycle(walk)]
-fn walk_arg(arg: &mut Arg, how: Renumbering, at: u32) -> Result<(), NoMemory>
-    ensures { OnOk result (arg.new ≡ rename_arg (renumbered how at) arg.old) }
+fn walk_arg<R: Renumbering>(arg: &mut Arg, how: &R, at: u32) -> Result<(), NoMemory>
+    ensures { OnOk result (arg.new ≡ rename_arg (lift_by at (R.renaming how.now)) arg.old) }
 {
     match arg {
         Arg::OfTerm(e) => walk(e, how, at),
@@ -40,8 +41,8 @@ fn walk_arg(arg: &mut Arg, how: Renumbering, at: u32) -> Result<(), NoMemory>
 }
 
 #[cycle(walk)]
-fn walk_head(head: &mut Head, how: Renumbering, at: u32) -> Result<(), NoMemory>
-    ensures { OnOk result (tree_of head.new ≡ rename (tree_of head.old) (renumbered how at)) }
+fn walk_head<R: Renumbering>(head: &mut Head, how: &R, at: u32) -> Result<(), NoMemory>
+    ensures { OnOk result (tree_of head.new ≡ rename (tree_of head.old) (lift_by at (R.renaming how.now))) }
 {
     match head {
         Head::Var(x) => renumber(x, how, at),
@@ -58,21 +59,26 @@ fn walk_head(head: &mut Head, how: Renumbering, at: u32) -> Result<(), NoMemory>
 
 // A term under so many more binders.
 #[cycle(walk)]
-fn walk_under(term: &mut Term, how: Renumbering, at: u32, binders: u32) -> Result<(), NoMemory>
-    ensures { OnOk result (term.new ≡ renamed how at binders term.old) }
+fn walk_under<R: Renumbering>(
+    term: &mut Term,
+    how: &R,
+    at: u32,
+    binders: u32,
+) -> Result<(), NoMemory>
+    ensures { OnOk result (term.new ≡ renamed (R.renaming how.now) at binders term.old) }
 {
     let inner = deeper(at, binders)?;
     walk(term, how, inner)
 }
 
 #[cycle(walk)]
-fn walk_letrec(
+fn walk_letrec<R: Renumbering>(
     bindings: &mut [Binding],
     body: &mut Term,
-    how: Renumbering,
+    how: &R,
     at: u32,
 ) -> Result<(), NoMemory>
-    ensures { OnOk result (letrec (group_of bindings.new) body.new ≡ rename (letrec (group_of bindings.old) body.old) (renumbered how at)) }
+    ensures { OnOk result (letrec (group_of bindings.new) body.new ≡ rename (letrec (group_of bindings.old) body.old) (lift_by at (R.renaming how.now))) }
 {
     let inner = deeper(at, narrow(bindings.len())?)?;
     walk_bindings(bindings, how, inner)?;
@@ -81,12 +87,12 @@ fn walk_letrec(
 
 // The right sides of a group; its binders are already passed.
 #[cycle(walk)]
-pub(crate) fn walk_bindings(
+pub(crate) fn walk_bindings<R: Renumbering>(
     bindings: &mut [Binding],
-    how: Renumbering,
+    how: &R,
     at: u32,
 ) -> Result<(), NoMemory>
-    ensures { OnOk result (bindings.new ≡ map (renamed_binding (renumbered how at)) bindings.old) }
+    ensures { OnOk result (bindings.new ≡ map (renamed_binding (lift_by at (R.renaming how.now))) bindings.old) }
 {
     for binding in bindings.iter_mut() {
         walk(&mut binding.body, how, at)?;
@@ -95,8 +101,8 @@ pub(crate) fn walk_bindings(
 }
 
 #[cycle(walk)]
-fn walk_elements(elements: &mut [Term], how: Renumbering, at: u32) -> Result<(), NoMemory>
-    ensures { OnOk result (elements.new ≡ map (λ e. rename e (renumbered how at)) elements.old) }
+fn walk_elements<R: Renumbering>(elements: &mut [Term], how: &R, at: u32) -> Result<(), NoMemory>
+    ensures { OnOk result (elements.new ≡ map (λ e. rename e (lift_by at (R.renaming how.now))) elements.old) }
 {
     for element in elements.iter_mut() {
         walk(element, how, at)?;
@@ -105,16 +111,21 @@ fn walk_elements(elements: &mut [Term], how: Renumbering, at: u32) -> Result<(),
 }
 
 #[cycle(walk)]
-fn walk_case(on: &mut Term, alts: &mut [Alt], how: Renumbering, at: u32) -> Result<(), NoMemory>
-    ensures { OnOk result (case_of on.new (alts_of alts.new) ≡ rename (case_of on.old (alts_of alts.old)) (renumbered how at)) }
+fn walk_case<R: Renumbering>(
+    on: &mut Term,
+    alts: &mut [Alt],
+    how: &R,
+    at: u32,
+) -> Result<(), NoMemory>
+    ensures { OnOk result (case_of on.new (alts_of alts.new) ≡ rename (case_of on.old (alts_of alts.old)) (lift_by at (R.renaming how.now))) }
 {
     walk(on, how, at)?;
     walk_alts(alts, how, at)
 }
 
 #[cycle(walk)]
-fn walk_alts(alts: &mut [Alt], how: Renumbering, at: u32) -> Result<(), NoMemory>
-    ensures { OnOk result (alts.new ≡ map (renamed_alt how at) alts.old) }
+fn walk_alts<R: Renumbering>(alts: &mut [Alt], how: &R, at: u32) -> Result<(), NoMemory>
+    ensures { OnOk result (alts.new ≡ map (renamed_alt (R.renaming how.now) at) alts.old) }
 {
     for alt in alts.iter_mut() {
         let binders = alt.pattern.binders();

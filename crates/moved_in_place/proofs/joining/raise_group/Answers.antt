@@ -1,8 +1,10 @@
 use Rattle.std.proofs.Common.{◌≡◌, ◌++◌, ◌∙◌, ap, map, length, take, drop, arith}
 use Rattle.std.proofs.lemmas.Result.{on_ok_weaker}
+use Rattle.chw_types.specs.TypeMoves.{raised}
 use Rattle.chw_typing.proofs.Puts.{written_back}
-use Rattle.moved_in_place.specs.Moves.{renumbered, renamed_binding}
-use Rattle.moved_in_place.proofs.joining.renumber.Goals as goal
+use Rattle.moved_in_place.specs.Moves.{renamed_binding}
+use Rattle.moved_in_place.proofs.Renamed.{lifted_raise}
+use Rattle.moved_in_place.proofs.joining.raise_group.Goals as goal
 
 pub returns : goal.returns
 returns c =
@@ -10,4 +12,4 @@ returns c =
     let new = c.walk_bindings.new.bindings in
     let back : take group.len (new ++ drop (length new) group.items) ≡ new =
     written_back group.len new group.items (omega (arith, c.walk_bindings.auto.bindings, ap length c.deref_mut.ensures.value)) (omega (arith, group.ok.0)) in
-    on_ok_weaker c.walk_bindings.result (λ h. back ∙ h ∙ ap (map (renamed_binding (renumbered c.args.how c.args.at))) c.deref_mut.ensures.value) c.walk_bindings.ensures
+    on_ok_weaker c.walk_bindings.result (λ h. back ∙ h ∙ ap (λ ρ. map (renamed_binding ρ) c.deref_mut.result.now) (lifted_raise c.args.from c.args.by) ∙ ap (map (renamed_binding (raised c.args.from c.args.by))) c.deref_mut.ensures.value) c.walk_bindings.ensures

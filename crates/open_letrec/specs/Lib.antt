@@ -1,0 +1,5 @@
+pub mod Laws
+pub mod Opened
+pub mod Parts
+pub mod Places
+pub mod Stored
