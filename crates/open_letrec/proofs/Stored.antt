@@ -1,6 +1,6 @@
 -- What is stored for a letrec, and what contracts see of it.
-use Rattle.std.proofs.Common.{◌≡◌, ◌∙◌, ℕ, ◌<◌, ◌-◌, ap, sym, refl, subst, arith, List, [], ◌∷◌, ◌++◌, map, reverse, take, drop, length, get_or}
-use Rattle.std.proofs.lemmas.List.{map-append, reverse-append, reverse-reverse, map_push, same_from_push, length-map, length-reverse, length-take-le, length-append, length-drop, length_push, get_or_push}
+use Rattle.std.proofs.Common.{◌≡◌, ◌∙◌, ℕ, ◌<◌, ◌-◌, ap, sym, refl, subst, arith, List, [], ◌∷◌, ◌++◌, map, reverse, take, drop, length}
+use Rattle.std.proofs.lemmas.List.{map-append, reverse-append, reverse-reverse, map_push, same_from_push, length-map, length-reverse, length-take-le, length-append, length-drop}
 use Rattle.chw_types.specs.TypeMoves.{Renaming}
 use Rattle.chw_terms.specs.declared.term.Binding.{Binding}
 use Rattle.chw_terms.specs.TermMoves.{rename}
@@ -90,16 +90,6 @@ many_left_kept o v f = many_left o.places o.waiting.items v.left f.stored.left
 -- the last one that is stored is the first one that is left
 last_stored : (p : Places) (b : Binding) (bs : List Binding) → stored p (reverse (b ∷ bs)) ≡ stored p (reverse bs) ++ renamed_binding (number_of p) b ∷ []
 last_stored p b bs = ap (stored p) (reverse_cons b bs) ∙ map_push (renamed_binding (number_of p)) (reverse bs) b
-
--- and it has the same type
-pub last_type : (o : Inside) (v : Opened) (b last : Binding) (back : List Binding) (i : ℕ) → IsStoredFor o v → v.left ≡ b ∷ back → i ≡ length o.waiting.items - 1 → last ≡ get_or o.waiting.items i last → last.ty ≡ b.ty
-last_type o v b last back i f h at there =
-    let p = o.places in
-    let is : o.waiting.items ≡ stored p (reverse back) ++ renamed_binding (number_of p) b ∷ [] =
-    f.stored.left ∙ ap (λ bs. stored p (reverse bs)) h ∙ last_stored p b back in
-    let before : length (stored p (reverse back)) ≡ i = omega (arith, at, ap length is, length_push (stored p (reverse back)) (renamed_binding (number_of p) b)) in
-    ap (λ (x : Binding). x.ty)
-    (there ∙ ap (λ bs. get_or bs i last) is ∙ get_or_push (stored p (reverse back)) (renamed_binding (number_of p) b) last i before)
 
 -- the letrec is opened
 pub opened : (o : Inside) (none : Places) (group : List Binding) (e : TermTree) (m : ℕ) → Agrees o.places → none.settled.items ≡ [] → none.waiting.items ≡ [] → IsGrown none o.places m → m ≡ length group → o.settled.items ≡ [] → o.waiting.items ≡ stored o.places (reverse group) → o.body ≡ rename e (number_of o.places) → IsStoredFor o (record { settled = []; left = group; body = e })

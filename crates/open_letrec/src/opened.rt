@@ -1,13 +1,11 @@
 //! A letrec that is taken apart.
-ghost use Rattle.std.specs.Prelude.{◌≡◌, ◌++◌, ◌∷◌, [], ◌<◌, List, length, IfOk, OnOk, OnErr};
-ghost use Rattle.chw_terms.specs.declared.term.Binding.{Binding};
+ghost use Rattle.std.specs.Prelude.{◌≡◌, ◌++◌, [], ◌<◌, length, IfOk, OnOk, OnErr};
 ghost use Rattle.open_letrec.specs.Opened.{with_side, settled_one, joined_one};
 
 use crate::parts::{exchange_all, move_group, move_term, store_all, swap_last, turn};
 use crate::places::{Places, Way};
 use chw_base::{DefId, NoMemory};
 use chw_terms::{Binding, Term};
-use chw_types::Ty;
 use std::alloc::Global;
 use std::marker::Model;
 
@@ -89,16 +87,6 @@ impl OpenLetrec {
         ensures { result ≡ length self.now.left }
     {
         self.waiting.len()
-    }
-
-    /// The type of the current binding.
-    pub fn current_type(&self) -> &Ty
-        requires { 0 < length self.now.left }
-        ensures { (b : Binding) (back : List Binding) → self.now.left ≡ b ∷ back → result.now ≡ b.ty }
-    {
-        let last = self.waiting.len() - 1;
-        let binding = &self.waiting[last];
-        &binding.ty
     }
 
     /// Takes the right side of the current binding out. Until one is put, another one stands there.
