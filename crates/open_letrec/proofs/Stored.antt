@@ -1,6 +1,6 @@
 -- What is stored for a letrec, and what contracts see of it.
-use Rattle.std.proofs.Common.{◌≡◌, ◌∙◌, ℕ, ◌<◌, ◌-◌, ap, sym, refl, subst, arith, List, [], ◌∷◌, ◌++◌, map, reverse, take, drop, length}
-use Rattle.std.proofs.lemmas.List.{map-append, reverse-append, reverse-reverse, map_push, same_from_push, length-map, length-reverse, length-take-le, length-append, length-drop}
+use Rattle.std.proofs.Common.{◌≡◌, ◌∙◌, ℕ, ◌<◌, ◌-◌, ap, sym, refl, subst, arith, List, [], ◌∷◌, ◌++◌, map, reverse, take, drop, length, get_or}
+use Rattle.std.proofs.lemmas.List.{map-append, reverse-append, reverse-reverse, map_push, same_from_push, length-map, length-reverse, length-take-le, length-append, length-drop, length_push, get_or_push}
 use Rattle.chw_types.specs.TypeMoves.{Renaming}
 use Rattle.chw_terms.specs.declared.term.Binding.{Binding}
 use Rattle.chw_terms.specs.TermMoves.{rename}
@@ -9,7 +9,7 @@ use Rattle.chw_terms.proofs.Renamed.{rename_rename, rename_ids}
 use Rattle.moved_in_place.specs.Moves.{renamed_binding}
 use Rattle.open_letrec.specs.declared.opened.OpenLetrec.TheInside.{Inside}
 use Rattle.open_letrec.specs.declared.places.Places.{Places}
-use Rattle.open_letrec.specs.Opened.{Opened, put_first, with_side, settled_one}
+use Rattle.open_letrec.specs.Opened.{Opened, put_first, with_side, settled_one, IsCurrent}
 use Rattle.open_letrec.specs.Parts.{IsSwappedLast}
 use Rattle.open_letrec.specs.Places.{Agrees, number_in, number_of, index_of, IsGrown, IsSettledOne}
 use Rattle.open_letrec.specs.Stored.{stored, shown, AreStored, view_of, IsSound}
@@ -90,6 +90,25 @@ many_left_kept o v f = many_left o.places o.waiting.items v.left f.stored.left
 -- the last one that is stored is the first one that is left
 last_stored : (p : Places) (b : Binding) (bs : List Binding) → stored p (reverse (b ∷ bs)) ≡ stored p (reverse bs) ++ renamed_binding (number_of p) b ∷ []
 last_stored p b bs = ap (stored p) (reverse_cons b bs) ∙ map_push (renamed_binding (number_of p)) (reverse bs) b
+
+-- and it is what is stored of it, renamed
+pub last_side : (o : Inside) (v : Opened) (last : Binding) (i : ℕ) → IsStoredFor o v → 0 < length v.left → i ≡ length o.waiting.items - 1 → last ≡ get_or o.waiting.items i last
+    → IsCurrent v (rename last.body (index_of o.places))
+last_side o v last i f some at there = ap (λ bs. record v { left = bs }) (first_kept v.left some f.stored.left)
+  where
+    p : Places
+    p = o.places
+
+    first_kept : (left : List Binding) → 0 < length left → o.waiting.items ≡ stored p (reverse left) → put_first (rename last.body (index_of p)) left ≡ left
+    first_kept [] some h = absurd (omega (arith, some))
+    first_kept (b ∷ back) some h =
+        let is : o.waiting.items ≡ stored p (reverse back) ++ renamed_binding (number_of p) b ∷ [] = h ∙ last_stored p b back in
+        let before : length (stored p (reverse back)) ≡ i = omega (arith, at, ap length is, length_push (stored p (reverse back)) (renamed_binding (number_of p) b)) in
+        let same : last ≡ renamed_binding (number_of p) b =
+            there ∙ ap (λ bs. get_or bs i last) is ∙ get_or_push (stored p (reverse back)) (renamed_binding (number_of p) b) last i before in
+        let body : rename last.body (index_of p) ≡ b.body =
+            ap (λ (x : Binding). rename x.body (index_of p)) same ∙ shown_stored_term p f.stored.agrees b.body in
+        ap (λ e. record b { body = e } ∷ back) body
 
 -- the letrec is opened
 pub opened : (o : Inside) (none : Places) (group : List Binding) (e : TermTree) (m : ℕ) → Agrees o.places → none.settled.items ≡ [] → none.waiting.items ≡ [] → IsGrown none o.places m → m ≡ length group → o.settled.items ≡ [] → o.waiting.items ≡ stored o.places (reverse group) → o.body ≡ rename e (number_of o.places) → IsStoredFor o (record { settled = []; left = group; body = e })

@@ -1,5 +1,5 @@
 -- A letrec that is taken apart, as contracts see it, and what calls make of it.
-use Rattle.std.specs.Prelude.{List, [], ◌∷◌, ◌++◌, map, take, drop, length, refl}
+use Rattle.std.specs.Prelude.{◌≡◌, List, [], ◌∷◌, ◌++◌, map, take, drop, length, refl}
 use Rattle.std.specs.Coded.{Coded, code_by, coded×, coded_list}
 use Rattle.chw_types.specs.TypeTree.{TypeTree}
 use Rattle.chw_types.specs.TypeCode.{coded_tree as coded_type}
@@ -43,6 +43,10 @@ put_first e (b ∷ bs) = record b { body = e } ∷ bs
 -- with another right side of the current binding
 abbrev pub with_side : Opened → TermTree → Opened
 with_side o e = record o { left = put_first e o.left }
+
+-- it is that of the current binding
+abbrev pub IsCurrent : Opened → TermTree → Type 0
+IsCurrent o e = with_side o e ≡ o
 
 -- the current binding is settled, and the next one is current
 abbrev pub settled_one : Opened → Opened

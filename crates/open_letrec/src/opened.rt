@@ -1,6 +1,8 @@
 //! A letrec that is taken apart.
 ghost use Rattle.std.specs.Prelude.{◌≡◌, ◌++◌, [], ◌<◌, length, IfOk, OnOk, OnErr};
-ghost use Rattle.open_letrec.specs.Opened.{with_side, settled_one, joined_one};
+ghost use Rattle.chw_types.specs.TypeMoves.{Renaming};
+ghost use Rattle.chw_terms.specs.TermMoves.{rename};
+ghost use Rattle.open_letrec.specs.Opened.{with_side, settled_one, joined_one, IsCurrent};
 
 use crate::parts::{exchange_all, move_group, move_term, store_all, swap_last, turn};
 use crate::places::{Places, Way};
@@ -87,6 +89,16 @@ impl OpenLetrec {
         ensures { result ≡ length self.now.left }
     {
         self.waiting.len()
+    }
+
+    /// The right side of the current binding as it is stored, with other numbers for variables.
+    pub fn stored(&self) -> &Term
+        requires { 0 < length self.now.left }
+        ensures { (ρ : Renaming) × IsCurrent self.now (rename result.now ρ) }
+    {
+        let last = self.waiting.len() - 1;
+        let binding = &self.waiting[last];
+        &binding.body
     }
 
     /// Takes the right side of the current binding out. Until one is put, another one stands there.
