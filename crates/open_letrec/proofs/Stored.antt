@@ -105,9 +105,9 @@ last_side o v last i f some at there = ap (λ bs. record v { left = bs }) (first
         let is : o.waiting.items ≡ stored p (reverse back) ++ renamed_binding (number_of p) b ∷ [] = h ∙ last_stored p b back in
         let before : length (stored p (reverse back)) ≡ i = omega (arith, at, ap length is, length_push (stored p (reverse back)) (renamed_binding (number_of p) b)) in
         let same : last ≡ renamed_binding (number_of p) b =
-            there ∙ ap (λ bs. get_or bs i last) is ∙ get_or_push (stored p (reverse back)) (renamed_binding (number_of p) b) last i before in
+        there ∙ ap (λ bs. get_or bs i last) is ∙ get_or_push (stored p (reverse back)) (renamed_binding (number_of p) b) last i before in
         let body : rename last.body (index_of p) ≡ b.body =
-            ap (λ (x : Binding). rename x.body (index_of p)) same ∙ shown_stored_term p f.stored.agrees b.body in
+        ap (λ (x : Binding). rename x.body (index_of p)) same ∙ shown_stored_term p f.stored.agrees b.body in
         ap (λ e. record b { body = e } ∷ back) body
 
 -- the letrec is opened
