@@ -1,3 +1,4 @@
+mod Apart
 mod Backward
 mod Begins
 mod Between
@@ -7,10 +8,13 @@ mod Deeper
 mod Down
 mod Ends
 mod Firsts
+mod Further
+mod Goes
 mod Grown
 mod Joined
 mod Lambdas
 mod Last
+mod Lasts
 mod Looked
 mod LookedRuns
 mod LookedStates
@@ -22,8 +26,10 @@ mod Options
 mod Places
 mod Puts
 mod Quiet
+mod RanOn
 mod Stands
 mod States
 mod Steps
+mod Topmost
 mod Under
 mod Watched

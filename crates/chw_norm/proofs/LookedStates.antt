@@ -1,5 +1,5 @@
 -- The places of a state at which a search looks.
-use Rattle.std.proofs.Common.{◌≡◌, ◌⊎◌, inl, inr, ℕ, suc, ◌<◌, refl, sym, ap, ◌∙◌, subst, arith, List, [], length, Some, slice_get}
+use Rattle.std.proofs.Common.{◌≡◌, inl, inr, ℕ, suc, ◌<◌, refl, sym, ap, ◌∙◌, subst, arith, List, [], length, Some, slice_get}
 use Rattle.chw_terms.specs.declared.program.Program.{Program}
 use Rattle.chw_terms.specs.declared.rule.Rule.{Rule}
 use Rattle.chw_terms.specs.declared.scene.Made.{Made}

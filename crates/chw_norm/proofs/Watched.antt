@@ -1,11 +1,11 @@
 -- Counts that grow by few things.
-use Rattle.std.proofs.Common.{◌≡◌, ◌<◌, ◌≤◌, ◌+◌, ◌*◌, ℕ, refl, sym, ap, ◌∙◌, arith, List, [], ◌∷◌, length, Some, slice_get}
+use Rattle.std.proofs.Common.{◌≡◌, ◌≤◌, ◌+◌, ◌*◌, ℕ, refl, sym, ap, ◌∙◌, arith, List, [], ◌∷◌, length, Some, slice_get}
 use Rattle.std.specs.List.{AllByRecursion}
 use Rattle.chw_terms.specs.declared.program.Program.{Program}
 use Rattle.chw_terms.specs.declared.rule.Rule.{Rule}
 use Rattle.chw_terms.specs.declared.scene.Made.{Made}
 use Rattle.chw_norm.specs.Examples.{TwoPlaces, OnePlaceOnce, NothingToSee}
-use Rattle.chw_norm.specs.Seen.{AreDifferent, GrowsBy, IsSeen, LooksFrom, StatePath}
+use Rattle.chw_norm.specs.Seen.{AreDifferent, IsSeen, StatePath}
 
 pub two_places : TwoPlaces
 two_places = record {

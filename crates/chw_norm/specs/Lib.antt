@@ -4,6 +4,7 @@ pub mod Examples
 pub mod Finding
 pub mod First
 pub mod FoundSteps
+pub mod GoingOn
 pub mod Lambdas
 pub mod Laws
 pub mod Passed

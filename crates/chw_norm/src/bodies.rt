@@ -40,3 +40,10 @@ pub(crate) fn exact_over_limit(bound: usize, body: &Term) -> usize
         bound
     }
 }
+
+/// How deep a body is, as its bound.
+pub(crate) fn exact_bound(body: &Term) -> usize
+    ensures { IsBound result body.now }
+{
+    depth(body) as usize
+}

@@ -9,6 +9,7 @@
 mod bodies;
 pub mod examples;
 pub mod finder;
+mod going_on;
 mod in_bodies;
 pub mod laws;
 mod passing;
@@ -18,6 +19,7 @@ mod progress;
 pub mod running;
 mod search;
 pub mod state;
+mod top;
 mod trail;
 
 pub use finder::Finder;

@@ -6,12 +6,14 @@ ghost use Rattle.chw_norm.specs.Running.{Runs};
 ghost use Rattle.chw_norm.specs.Seen.{RunLooks};
 
 use crate::finder::Finder;
+use crate::going_on::go_on;
 use crate::laws::search_suits_next_state;
 use crate::progress::Progress;
 use active_parts::SpareTypes;
 use chw_base::Or;
 use chw_terms::Program;
 use looks::Looks;
+use made_states::laws::{any_step_stays_behind, states_stay_typed};
 use made_table::Table;
 use norm_lines::StepAt;
 use std::alloc::Global;
@@ -49,14 +51,18 @@ pub fn run<L: Looks>(
     ensures looks { RunLooks built program.now trace.old.items trace.new.items (L.looks looks.old) (L.looks looks.new) }
 {
     search_suits_next_state();
+    any_step_stays_behind();
+    states_stay_typed();
     let mut run = Progress::begin(alloc, program)?;
     let mut finder = Finder::open(alloc);
     let mut spare = SpareTypes::new(alloc);
-    for _ in 0..budget {
+    let mut left = budget;
+    while left > 0 {
         let Some(found) = run.next(alloc, &mut finder, &mut spare, looks)? else {
             return Ok(run.made);
         };
         run.advance(alloc, found, trace)?;
+        left = go_on(alloc, &mut run, &mut finder, left - 1, trace, looks)?;
     }
     match run.next(alloc, &mut finder, &mut spare, looks)? {
         None => Ok(run.made),

@@ -1,4 +1,3 @@
-use Rattle.std.proofs.Common.{refl}
 use Rattle.rule_trials.specs.Trials.{built}
 use Rattle.active_parts.proofs.Options.{ok_more}
 use Rattle.chw_norm.proofs.States.{next_of_all}

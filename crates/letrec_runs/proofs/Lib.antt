@@ -1,0 +1,16 @@
+pub mod Begins
+pub mod Between
+pub mod Depths
+pub mod Ends
+pub mod Firsts
+pub mod Going
+pub mod Groups
+pub mod InScope
+pub mod Listed
+pub mod Loops
+pub mod Occurring
+pub mod Reached
+pub mod Settled
+pub mod Tried
+pub mod Typed
+pub mod Views

@@ -1,0 +1,5 @@
+pub mod Runs
+pub mod Rush
+pub mod Search
+pub mod Sides
+pub mod Traced
