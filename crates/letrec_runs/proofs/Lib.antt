@@ -1,5 +1,4 @@
 pub mod Begins
-pub mod Between
 pub mod Depths
 pub mod Ends
 pub mod Firsts
