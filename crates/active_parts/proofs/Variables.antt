@@ -1,8 +1,5 @@
 -- Terms that are variables in scope.
-use Rattle.std.proofs.Common.{◌≡◌, ◌∙◌, ◌<◌, ◌-◌, refl, sym, ap, subst, ℕ, List, [], Some, slice_get}
-use Rattle.std.proofs.Common.{length, get_or, reverse, arith}
-use Rattle.std.proofs.lemmas.List.{get_or-reverse, length-reverse}
-use Rattle.std.proofs.lemmas.Option.{slice_get_read}
+use Rattle.std.proofs.Common.{◌≡◌, ◌∙◌, refl, sym, subst, ℕ, List, [], Some, slice_get}
 use Rattle.chw_base.specs.declared.index.VarIx.{VarIx}
 use Rattle.chw_types.specs.TypeTree.{TypeTree}
 use Rattle.chw_terms.specs.declared.term.Arg.{Arg}
@@ -69,12 +66,3 @@ one_type vars e u v a b =
     let there : slice_get vars b.0 ≡ Some u = subst (λ n. slice_get vars n ≡ Some u) same a.2 in
     let here : slice_get vars b.0 ≡ Some v = b.2 in
     cc
-
--- the outermost variable's type is the first one
-pub type_at : (xs ys : List TypeTree) (n i : ℕ) (t u : TypeTree) → ys ≡ xs → n < length ys
-    → i ≡ length ys - 1 - n → t ≡ get_or ys i t → u ≡ t → slice_get (reverse xs) n ≡ Some u
-type_at xs ys n i t u same l at found copied =
-    let within : n < length (reverse ys) = omega (arith, l, length-reverse ys) in
-    let read = found ∙ ap (λ k. get_or ys k t) at ∙ sym (get_or-reverse ys n t l) in
-    let here : slice_get (reverse ys) n ≡ Some t = slice_get_read (reverse ys) (length (reverse ys)) n t refl within read in
-    ap (λ zs. slice_get (reverse zs) n) (sym same) ∙ here ∙ ap Some (sym copied)

@@ -115,12 +115,10 @@ fn variable_type(alloc: Global, place: &Place, at: &Term) -> Result<Option<Ty>, 
     if !at.args.is_empty() {
         return Ok(None);
     }
-    let vars = place.vars.as_slice();
-    let number = x.number as usize;
-    if vars.len() <= number {
-        return Ok(None);
+    match place.vars.from_end(x.number as usize) {
+        Some(ty) => Ok(Some(ty.copy(alloc)?)),
+        None => Ok(None),
     }
-    Ok(Some(vars[vars.len() - 1 - number].copy(alloc)?))
 }
 
 // The types of the variables that a pattern for values of this type binds.

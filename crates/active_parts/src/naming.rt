@@ -14,7 +14,7 @@ use chw_typing::laws::{one_type, types_are_term_types};
 use rewriting::scene_laws::{names_of_modes, settings_of_scenes};
 use rule_parts::named::is_named;
 use std::alloc::Global;
-use term_types::type_of_in;
+use term_types::type_in_scope;
 
 /// Whether a term has a type, and none that is named at the place.
 pub(crate) fn is_unnamed(
@@ -32,8 +32,7 @@ pub(crate) fn is_unnamed(
     one_type();
     types_are_term_types();
     names_of_modes();
-    let vars = place.vars.as_slice();
-    let Some(ty) = type_of_in(alloc, ground.scene, ground.signature, &[], vars, at)? else {
+    let Some(ty) = type_in_scope(alloc, ground.scene, ground.signature, &place.vars, at)? else {
         return Ok(false);
     };
     let datas = ground.scene.program.datas.as_slice();

@@ -4,8 +4,7 @@ ghost use Rattle.chw_terms.specs.TermView.{group_of};
 ghost use Rattle.chw_typing.specs.Scopes.{declared};
 ghost use Rattle.active_parts.specs.Grounds.{with_variables};
 
-use crate::scopes::take_variables;
-use chw_base::{NoMemory, Seq};
+use chw_base::NoMemory;
 use chw_terms::{Binding, Place};
 use chw_types::{Ty, TyNode};
 use std::alloc::Global;
@@ -85,11 +84,9 @@ pub fn enter_group_again(
 ) -> Result<(), NoMemory>
     ensures { OnOk result (place.new ≡ with_variables place.old (place.old.vars ++ declared (group_of bindings.now))) }
 {
-    let mut vars = take_variables(alloc, place);
     for binding in bindings {
-        vars.push(again(alloc, &binding.ty, spare)?)?;
+        place.vars.push(again(alloc, &binding.ty, spare)?)?;
     }
-    place.vars = Seq::from(vars);
     Ok(())
 }
 
@@ -102,13 +99,16 @@ pub fn leave_with_spare(
 ) -> Result<(), NoMemory>
     ensures { OnOk result (place.new ≡ with_variables place.old (take left place.old.vars)) }
 {
-    let mut vars = take_variables(alloc, place);
-    if left < vars.len() {
-        let mut gone = vars.split_off(left)?;
-        gone.reverse();
+    let mut gone = Vec::new(alloc);
+    while left < place.vars.len() {
+        let Some(ty) = place.vars.pop() else {
+            unreachable!()
+        };
+        gone.push(ty)?;
+    }
+    if !gone.is_empty() {
         let before = mem::replace(&mut spare.types, gone);
         drop(before);
     }
-    place.vars = Seq::from(vars);
     Ok(())
 }

@@ -13,8 +13,8 @@ use crate::trail::{Trail, behind_child};
 use crate::walk::first_from;
 use crate::widths::passed;
 use active_parts::{Ground, enter, mode_of};
-use chw_base::{NoMemory, Seq};
-use chw_terms::{Head, Made, Place, Scene, Term};
+use chw_base::NoMemory;
+use chw_terms::{GapBuffer, Head, Made, Place, Scene, Term};
 use chw_types::{Ty, TyNode};
 use chw_typing::named_laws::data_types_in_order;
 use rewriting::place_laws::place_of_scene_is_typed;
@@ -86,7 +86,7 @@ fn in_made(alloc: Global, ground: &Ground, it: &Made) -> Result<Option<Trail>, N
     let mut place = Place {
         mode: mode_of(it.sort),
         result: true,
-        vars: Seq::from(Vec::new(alloc)),
+        vars: GapBuffer::of(alloc, Vec::new(alloc)),
     };
     in_lambdas(alloc, ground, &it.body, &it.ty, &mut place)
 }

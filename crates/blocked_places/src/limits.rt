@@ -21,7 +21,7 @@ use chw_terms::{Arg, Head, Place, Scene, Term};
 use chw_typing::found_laws::{found_is_type, one_found};
 use rewriting::scene_laws::settings_of_scenes;
 use std::alloc::Global;
-use term_types::{Signature, type_of_in};
+use term_types::{Signature, type_in_scope};
 
 // The limit that the type of a term passes.
 fn type_limit(
@@ -39,8 +39,7 @@ fn type_limit(
     settings_of_scenes();
     found_is_type();
     one_found();
-    let vars = place.vars.as_slice();
-    let Some(ty) = type_of_in(alloc, scene, signature, &[], vars, at)? else {
+    let Some(ty) = type_in_scope(alloc, scene, signature, &place.vars, at)? else {
         return Ok(None);
     };
     passed(alloc, scene.program.datas.as_slice(), &ty)

@@ -1,8 +1,5 @@
 -- What is found for a term, by its head.
-use Rattle.std.proofs.Common.{◌≡◌, ◌∙◌, ◌<◌, ◌-◌, ℕ, List, [], ◌∷◌, Option, Some, None, refl, sym, ap, arith, get_or, length, reverse}
-use Rattle.std.specs.List.{slice_get}
-use Rattle.std.proofs.lemmas.List.{get_or-reverse, length-reverse}
-use Rattle.std.proofs.lemmas.Option.{slice_get_read}
+use Rattle.std.proofs.Common.{◌≡◌, ◌∙◌, List, [], ◌∷◌, Option, Some, None, refl, sym, ap}
 use Rattle.std.proofs.Common.{Box, Global as TheGlobal}
 use Rattle.chw_base.specs.declared.index.DefId.{DefId}
 use Rattle.chw_base.specs.declared.index.MadeId.{MadeId}
@@ -48,14 +45,6 @@ pub call_of_head : (s : Setting) (vars : List TypeTree) (e : TermTree) (args : L
 call_of_head s vars e [] = refl
 call_of_head s vars e (OfTerm x ∷ args) = call_of_head s vars (app e x) args
 call_of_head s vars e (OfType a ∷ args) = sym (nothing_given args) ∙ call_of_head s vars (ty_app e a) args
-
--- the outermost variable's type is the first one
-pub var_at : (vars : List TypeTree) (n i : ℕ) (t : TypeTree) → n < length vars
-    → i ≡ length vars - 1 - n → t ≡ get_or vars i t → slice_get (reverse vars) n ≡ Some t
-var_at vars n i t l at found =
-    let within : n < length (reverse vars) = omega (arith, l, length-reverse vars) in
-    let read = found ∙ ap (λ k. get_or vars k t) at ∙ sym (get_or-reverse vars n t l) in
-    slice_get_read (reverse vars) (length (reverse vars)) n t refl within read
 
 -- another head has no such type
 pub no_call : (s : Setting) (vars : List TypeTree) (h : Head) → ((x : VarIx) → h ≡ Var x → ⊥) → ((x : DefId) → h ≡ Global x → ⊥) → ((x : MadeId) → h ≡ Made x → ⊥) → None ≡ call_type s vars (tree_of h)

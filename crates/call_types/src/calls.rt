@@ -4,7 +4,7 @@ ghost use Rattle.chw_terms.specs.TermView.{tree_of};
 ghost use Rattle.chw_typing.specs.Scopes.{setting_in};
 ghost use Rattle.call_types.specs.CallTypes.{call_type, given_by_each};
 
-use chw_terms::{Arg, Head, Scene, Term};
+use chw_terms::{Arg, GapBuffer, Head, Scene, Term};
 use chw_types::{Ty, TyNode};
 
 // What is left of the type of a head behind its arguments, where all are terms.
@@ -25,17 +25,11 @@ fn behind<'t>(ty: &'t Ty, args: &[Arg]) -> Option<&'t Ty>
 }
 
 // The type of a head that is a variable, a definition or a made definition.
-fn type_of_head<'t>(scene: &Scene<'t>, vars: &'t [Ty], head: &Head) -> Option<&'t Ty>
+fn type_of_head<'t>(scene: &Scene<'t>, vars: &'t GapBuffer<Ty>, head: &Head) -> Option<&'t Ty>
     ensures { option_map (λ t. t.now) result ≡ call_type (setting_in scene.now) (reverse vars.now) (tree_of head.now) }
 {
     match head {
-        Head::Var(at) => {
-            let number = at.number as usize;
-            if number >= vars.len() {
-                return None;
-            }
-            Some(&vars[vars.len() - 1 - number])
-        }
+        Head::Var(at) => vars.from_end(at.number as usize),
         Head::Global(at) => match scene.program.defs.as_slice().get(at.number as usize) {
             Some(it) => Some(&it.ty),
             None => None,
@@ -53,7 +47,11 @@ fn type_of_head<'t>(scene: &Scene<'t>, vars: &'t [Ty], head: &Head) -> Option<&'
 /// type.
 ///
 /// The arguments aren't looked at: it is the type that is found for the term if one is found.
-pub(crate) fn type_of_call<'t>(scene: &Scene<'t>, vars: &'t [Ty], term: &Term) -> Option<&'t Ty>
+pub(crate) fn type_of_call<'t>(
+    scene: &Scene<'t>,
+    vars: &'t GapBuffer<Ty>,
+    term: &Term,
+) -> Option<&'t Ty>
     ensures { option_map (λ t. t.now) result ≡ call_type (setting_in scene.now) (reverse vars.now) term.now }
 {
     match type_of_head(scene, vars, &term.head) {

@@ -12,19 +12,19 @@ ghost use Rattle.term_types.specs.Signatures.{IsSignature};
 
 use crate::calls::type_of_call;
 use chw_base::NoMemory;
-use chw_terms::{Place, Scene, Term};
+use chw_terms::{GapBuffer, Place, Scene, Term};
 use chw_types::Ty;
 use chw_typing::found_laws::typed_is_found;
 use rewriting::scene_laws::settings_of_scenes;
 use std::alloc::Global;
-use term_types::{Signature, type_of_in};
+use term_types::{Signature, type_in_scope};
 
 // The type that is found for a term that has one, with variables of these types in scope, the outermost first, and no type variables.
 fn type_of_typed(
     alloc: Global,
     scene: &Scene,
     signature: &Signature,
-    vars: &[Ty],
+    vars: &GapBuffer<Ty>,
     term: &Term,
 ) -> Result<Ty, NoMemory>
     requires ready { IsReady (setting_in scene.now) [] (reverse vars.now) }
@@ -36,7 +36,7 @@ fn type_of_typed(
     if let Some(ty) = type_of_call(scene, vars, term) {
         return ty.copy(alloc);
     }
-    match type_of_in(alloc, scene, signature, &[], vars, term)? {
+    match type_in_scope(alloc, scene, signature, vars, term)? {
         Some(ty) => Ok(ty),
         None => unreachable!(),
     }
@@ -44,7 +44,7 @@ fn type_of_typed(
 
 /// The type that is found at a place for a term that has one there.
 ///
-/// It is the one that `term_types::type_of_in` finds, in less time: of a variable, a definition or a made definition on terms it is read
+/// It is the one that `term_types::type_in_scope` finds, in less time: of a variable, a definition or a made definition on terms it is read
 /// off the type of the head.
 /// Where a number would pass 32 bits, the answer is want of memory.
 pub fn type_at(
@@ -60,6 +60,5 @@ pub fn type_at(
     ensures { IfOk result (λ t. Finds (setting_at (origins_of scene.now)) [] (spot_of place.now).vars term.now t) }
 {
     settings_of_scenes();
-    let vars = place.vars.as_slice();
-    type_of_typed(alloc, scene, signature, vars, term)
+    type_of_typed(alloc, scene, signature, &place.vars, term)
 }

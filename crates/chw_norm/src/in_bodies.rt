@@ -14,8 +14,8 @@ use crate::paths::begin_at_child;
 use crate::search::first_from;
 use crate::trail::{Trail, behind_child};
 use active_parts::{Ground, SpareTypes, enter, mode_of};
-use chw_base::{NoMemory, Seq};
-use chw_terms::{Head, Made, Place, Term};
+use chw_base::NoMemory;
+use chw_terms::{GapBuffer, Head, Made, Place, Term};
 use chw_types::{Ty, TyNode};
 use looks::Looks;
 use made_table::Table;
@@ -73,7 +73,7 @@ pub(crate) fn in_made<L: Looks>(
     let mut place = Place {
         mode: mode_of(it.sort),
         result: true,
-        vars: Seq::from(Vec::new(alloc)),
+        vars: GapBuffer::of(alloc, Vec::new(alloc)),
     };
     under_lambdas(
         alloc, table, ground, &it.body, &it.ty, &mut place, from, spare, looks,

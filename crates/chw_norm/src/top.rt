@@ -6,8 +6,8 @@ ghost use Rattle.chw_norm.specs.FoundSteps.{LeadsToTyped};
 ghost use Rattle.chw_norm.specs.GoingOn.{IsEntered, IsTopOf};
 
 use active_parts::{enter, mode_of};
-use chw_base::{NoMemory, Seq};
-use chw_terms::{Head, Made, Place, Term};
+use chw_base::NoMemory;
+use chw_terms::{GapBuffer, Head, Made, Place, Term};
 use chw_types::{Ty, TyNode};
 use flow_lets::joins;
 use std::alloc::Global;
@@ -51,7 +51,7 @@ pub(crate) fn top_of(alloc: Global, it: &Made) -> Result<Option<Top>, NoMemory>
     let mut place = Place {
         mode: mode_of(it.sort),
         result: true,
-        vars: Seq::from(Vec::new(alloc)),
+        vars: GapBuffer::of(alloc, Vec::new(alloc)),
     };
     let mut path = Vec::new(alloc);
     let joined = enter_top(alloc, &it.body, &it.ty, &mut place, &mut path)?;

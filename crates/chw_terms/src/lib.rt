@@ -4,6 +4,7 @@
 #![tactic(auto)]
 
 pub mod depths;
+pub mod gaps;
 pub mod laws;
 mod moves;
 pub mod numerals;
@@ -20,6 +21,7 @@ mod walk;
 
 pub use chw_types::Scalar;
 pub use depths::depth;
+pub use gaps::GapBuffer;
 pub use numerals::{evaluate, numeral};
 pub use occurrence::occurs;
 pub use program::{Def, Program, Top};

@@ -1,7 +1,7 @@
 //! What rules are asked about: made definitions, and the place of a term.
+use crate::gaps::GapBuffer;
 use crate::program::Program;
 use crate::term::Term;
-use chw_base::Seq;
 use chw_types::Ty;
 
 /// What a definition gives: a value, or a circuit.
@@ -42,7 +42,7 @@ pub struct Place {
     /// Whether what the term gives is what its body gives.
     pub result: bool,
     /// The types of the variables in scope, the outermost first.
-    pub vars: Seq<Ty>,
+    pub vars: GapBuffer<Ty>,
 }
 
 /// The definitions that a term may name.

@@ -25,7 +25,7 @@ use chw_typing::laws::{one_type, types_are_term_types};
 use rewriting::scene_laws::{names_of_modes, settings_of_scenes};
 use rule_parts::named::is_named;
 use std::alloc::Global;
-use term_types::{Signature, type_of_in};
+use term_types::{Signature, type_in_scope};
 
 // The body of an alternative, which is looked at by a case with these alternatives.
 fn body_looked_at(alloc: Global, alt: &Alt, outer: &[Alt]) -> Result<Term, NoMemory>
@@ -93,7 +93,7 @@ pub(crate) fn case_case(
     types_are_term_types();
     one_type();
     found_is_type();
-    let Some(ty) = type_of_in(alloc, scene, signature, &[], place.vars.as_slice(), on)? else {
+    let Some(ty) = type_in_scope(alloc, scene, signature, &place.vars, on)? else {
         return Ok(None);
     };
     if is_type_named(alloc, scene.program.datas.as_slice(), place.mode, ty)? {

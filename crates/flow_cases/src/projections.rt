@@ -47,17 +47,6 @@ fn variable(term: &Term) -> Option<VarIx>
     }
 }
 
-// The type of a variable, where these are those in scope, the outermost first.
-fn type_of_variable(vars: &[Ty], at: VarIx) -> Option<&Ty>
-    ensures { MatchOption result (slice_get (reverse vars.now) at.number ≡ None) (λ t. slice_get (reverse vars.now) at.number ≡ Some t.now) }
-{
-    let number = at.number as usize;
-    if number < vars.len() {
-        return Some(&vars[vars.len() - 1 - number]);
-    }
-    None
-}
-
 // Whether there is no alternative, or a default alone.
 fn are_default_or_none(alts: &[Alt]) -> bool
     ensures { IsTrue result ↔ IsDefaultOrNone (alts_of alts.now) }
@@ -203,7 +192,7 @@ pub(crate) fn proj(
     let Some(it) = port_case(on, alts) else {
         return Ok(None);
     };
-    let Some(ty) = type_of_variable(place.vars.as_slice(), it.of) else {
+    let Some(ty) = place.vars.from_end(it.of.number as usize) else {
         return Ok(None);
     };
     let Some((fields, args)) = fields_of_pattern(&signature.constructors, ty, it.con, it.names)

@@ -21,7 +21,7 @@ use chw_typing::laws::{one_type, types_are_term_types};
 use rewriting::scene_laws::{names_of_modes, settings_of_scenes};
 use rule_parts::named::is_named;
 use std::alloc::Global;
-use term_types::{Signature, type_of_in};
+use term_types::{Signature, type_in_scope};
 
 // Whether a term at a place that isn't one of a constant has a type, and none that is named there.
 fn is_unnamed(
@@ -44,8 +44,7 @@ fn is_unnamed(
     if let Mode::K = place.mode {
         return Ok(false);
     }
-    let vars = place.vars.as_slice();
-    let Some(ty) = type_of_in(alloc, scene, signature, &[], vars, term)? else {
+    let Some(ty) = type_in_scope(alloc, scene, signature, &place.vars, term)? else {
         return Ok(false);
     };
     let datas = scene.program.datas.as_slice();

@@ -21,7 +21,7 @@ use chw_typing::found_laws::found_is_type;
 use rewriting::scene_laws::settings_of_scenes;
 use rule_parts::copies::let_one;
 use std::alloc::Global;
-use term_types::{Signature, type_of_in};
+use term_types::{Signature, type_in_scope};
 
 // An alternative whose body gets the type.
 fn alt_at_type(alloc: Global, alt: &Alt, ty: &Ty) -> Result<Alt, NoMemory>
@@ -91,7 +91,7 @@ pub(crate) fn app_case(
     };
     settings_of_scenes();
     found_is_type();
-    let Some(ty) = type_of_in(alloc, scene, signature, &[], place.vars.as_slice(), of)? else {
+    let Some(ty) = type_in_scope(alloc, scene, signature, &place.vars, of)? else {
         return Ok(None);
     };
     let body = case_at_name(alloc, on, alts)?;

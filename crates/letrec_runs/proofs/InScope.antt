@@ -47,11 +47,8 @@ place_joined outer inner new v cs x ts n stands tq nq is =
     (λ i. front i ++ tq i ++ back i) ∙ append_assoc (O ++ S) (types cs) L ∙ append_assoc O S (types cs ++ L) ∙ ap (λ us. O ++ us) (sym (joined_types v cs x)) in
     is ∙ (λ i. record { mode = (stands i).mode; result = (stands i).result; vars = vars i })
 
--- the variables from outside and those of settled bindings are in scope
-pub settled_in_scope : (outer inner : Place) (v : Opened) → inner ≡ place_in outer v → length outer.vars + length v.settled ≤ length inner.vars
-settled_in_scope outer inner v stands =
-    let all : length inner.vars ≡ length (outer.vars ++ declared (in_order v)) = ap (λ (p : Place). length p.vars) stands in
-    let parts : length (outer.vars ++ declared (in_order v)) ≡ length outer.vars + length (declared (in_order v)) = length-append outer.vars (declared (in_order v)) in
-    let count : length (declared (in_order v)) ≡ length (v.settled ++ v.left) = declared_length (v.settled ++ v.left) in
-    let both : length (v.settled ++ v.left) ≡ length v.settled + length v.left = length-append v.settled v.left in
-    omega (arith, all, parts, count, both)
+-- as many variables are in scope as come from outside and as there are bindings
+pub count_in_scope : (outer inner : Place) (v : Opened) → inner ≡ place_in outer v → length inner.vars ≡ length outer.vars + (length v.settled + length v.left)
+count_in_scope outer inner v stands =
+    ap (λ (p : Place). length p.vars) stands ∙ length-append outer.vars (declared (in_order v))
+    ∙ ap (λ n. length outer.vars + n) (declared_length (v.settled ++ v.left) ∙ length-append v.settled v.left)

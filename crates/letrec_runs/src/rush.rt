@@ -2,6 +2,7 @@
 ghost use Rattle.std.specs.Prelude.{◌≡◌, ◌≤◌, ◌<◌, ◌+◌, ◌∷◌, [], ℕ, length, IfOk, IsTrue, OnErr};
 ghost use Rattle.chw_types.specs.References.{HasNoCycle};
 ghost use Rattle.chw_terms.specs.TermView.{group_of};
+ghost use Rattle.chw_terms.specs.declared.scene.Place.{Place};
 ghost use Rattle.rewriting.specs.Origins.{origins_of};
 ghost use Rattle.rewriting.specs.Shapes.{IsLet};
 ghost use Rattle.rewriting.specs.Spots.{spot_of, HasLets};
@@ -14,7 +15,7 @@ ghost use Rattle.letrec_runs.specs.Traced.{Traces, TracesJoin};
 use crate::lets::{as_let, is_let, take_let};
 use crate::quiet::settle_all;
 use crate::resting::is_at_rest;
-use crate::scope::{enter_between, inner_place, types_of};
+use crate::scope::{inner_place, types_of};
 use crate::trace::{Top, trace_joined, trace_one};
 use crate::trial::{Made, try_side};
 use active_parts::enter_group;
@@ -68,17 +69,18 @@ impl Rush {
     }
 
     // The rush in which a letrec that is put for the current right side has joined.
-    fn joined(self, alloc: Global, outer: &Place, new: Term) -> Result<Rush, NoMemory>
+    fn joined(self, alloc: Global, new: Term) -> Result<Rush, NoMemory>
         requires some { 0 < length self.apart.left }
         requires is { IsLet new }
-        requires stands { self.place ≡ place_in outer.now self.apart }
+        requires stands { (outer : Place) × (self.place ≡ place_in outer self.apart) }
         ensures apart { IfOk result (λ r. IsJoinedOne self.apart new r.apart) }
-        ensures place { IfOk result (λ r. r.place ≡ place_in outer.now r.apart) }
+        ensures place { (outer : Place) → self.place ≡ place_in outer self.apart → IfOk result (λ r. r.place ≡ place_in outer r.apart) }
     {
         let Rush { apart, mut place } = self;
         let (group, body) = take_let(new);
         let types = types_of(alloc, group.as_slice())?;
-        enter_between(alloc, &mut place, outer.vars.len() + apart.settled(), types)?;
+        let before = place.vars.len() - apart.left();
+        place.vars.insert_all(before, types)?;
         let apart = apart.join(group, body)?;
         Ok(Rush { apart, place })
     }
@@ -124,7 +126,7 @@ fn put_and_join(
     ensures none { OnErr result (trace.new.items ≡ trace.old.items) }
 {
     let number = narrow(rush.apart.settled())?;
-    let rush = rush.joined(alloc, outer, new)?;
+    let rush = rush.joined(alloc, new)?;
     trace_joined(alloc, top, trace, number, rule)?;
     Ok(rush)
 }

@@ -6,8 +6,8 @@ ghost use Rattle.term_types.specs.Answers.{IsReady};
 ghost use Rattle.flow_functions.specs.Rules.{IsOfFunctions};
 
 use crate::programs::{DESCRIPTION, program_of};
-use chw_base::{NoMemory, Or, Seq};
-use chw_terms::{Mode, Place, Program, Rule, Scene, Term};
+use chw_base::{NoMemory, Or};
+use chw_terms::{GapBuffer, Mode, Place, Program, Rule, Scene, Term};
 use flow_functions::try_function;
 use row_notation::{put_term, read};
 use row_tables::{Unread, put};
@@ -43,7 +43,7 @@ fn put_made_in(
     let place = Place {
         mode: Mode::V,
         result: true,
-        vars: Seq::from(Vec::new(alloc)),
+        vars: GapBuffer::of(alloc, Vec::new(alloc)),
     };
     let made = tried(alloc, rule, &scene, term, &place);
     drop(place);

@@ -13,8 +13,8 @@ ghost use Rattle.term_types.specs.Signatures.{IsSignature};
 use crate::names::flow_named;
 use crate::programs::{DESCRIPTION, program_of};
 use crate::sums::sums;
-use chw_base::{NoMemory, Or, Seq};
-use chw_terms::{Mode, Place, Program, Rule, Scene, Term};
+use chw_base::{NoMemory, Or};
+use chw_terms::{GapBuffer, Mode, Place, Program, Rule, Scene, Term};
 use chw_typing::named_laws::data_types_in_order;
 use looks::LookCount;
 use row_tables::{Unread, put_number};
@@ -58,7 +58,7 @@ fn count_in(alloc: Global, rule: Rule, times: u32, scene: &Scene) -> Result<u32,
     let place = Place {
         mode: Mode::V,
         result: true,
-        vars: Seq::from(Vec::new(alloc)),
+        vars: GapBuffer::of(alloc, Vec::new(alloc)),
     };
     let term = sums(alloc)?;
     let signature = Signature::of(alloc, scene.program)?;

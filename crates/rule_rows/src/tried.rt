@@ -9,8 +9,8 @@ ghost use Rattle.rules_flow.specs.Rules.{IsOfFlow};
 ghost use Rattle.rules_work.specs.Rules.{IsOfWork};
 
 use crate::scopes::{VARIABLES, below_lambdas};
-use chw_base::{Or, Seq};
-use chw_terms::{Mode, Place, Program, Rule, Scene, Term};
+use chw_base::Or;
+use chw_terms::{GapBuffer, Mode, Place, Program, Rule, Scene, Term};
 use chw_typing::named_laws::data_types_in_order;
 use looks::LookCount;
 use row_notation::put_term;
@@ -108,7 +108,7 @@ fn put_in(
     let place = Place {
         mode,
         result: is_result,
-        vars: Seq::from(below.vars),
+        vars: GapBuffer::of(alloc, below.vars),
     };
     let made = tried(alloc, rule, scene, below.term, &place)?;
     let after = match body_of(scene.program, b"after") {

@@ -1,10 +1,10 @@
 -- The named types of variables in scope.
-use Rattle.std.proofs.Common.{◌≡◌, ◌∙◌, ap, sym, refl, subst, ℕ, zero, suc, ◌-◌, ◌+◌, ◌<◌, ◌≤◌}
-use Rattle.std.proofs.Common.{List, [], ◌∷◌, ◌++◌, map, length, reverse, take, get_or, arith}
+use Rattle.std.proofs.Common.{◌≡◌, ◌∙◌, ap, sym, refl, subst, ℕ, zero, suc, ◌+◌, ◌<◌, ◌≤◌}
+use Rattle.std.proofs.Common.{List, [], ◌∷◌, ◌++◌, map, length, take, get_or, arith}
 use Rattle.std.proofs.Common.{Some}
 use Rattle.std.specs.List.{slice_get, AllByRecursion}
-use Rattle.std.proofs.lemmas.List.{get_or-reverse, length-reverse, map-append, take_all, take_more}
-use Rattle.std.proofs.lemmas.Option.{same_Some, slice_get_read, slice_get_past}
+use Rattle.std.proofs.lemmas.List.{map-append, take_all, take_more}
+use Rattle.std.proofs.lemmas.Option.{same_Some}
 use Rattle.chw_base.specs.declared.index.VarIx.{VarIx}
 use Rattle.chw_types.specs.TypeTree.{TypeTree}
 use Rattle.chw_terms.specs.declared.term.Arg.{Arg}
@@ -15,21 +15,6 @@ use Rattle.rewriting.specs.Origins.{Origins}
 use Rattle.rewriting.specs.Spots.{Spot}
 use Rattle.specialise.specs.Calls.{HasNamedType, HaveTypes}
 use Rattle.specialise.specs.Closed.{numbers}
-
--- the outermost variable's type is the first one
-pub type_of_var : (vars : List TypeTree) (n i : ℕ) (t : TypeTree) → n < length vars
-    → i ≡ length vars - 1 - n → t ≡ get_or vars i t → slice_get (reverse vars) n ≡ Some t
-type_of_var vars n i t l at found =
-    let within : n < length (reverse vars) = omega (arith, l, length-reverse vars) in
-    let read = found ∙ ap (λ k. get_or vars k t) at ∙ sym (get_or-reverse vars n t l) in
-    slice_get_read (reverse vars) (length (reverse vars)) n t refl within read
-
-pub no_var : (vars : List TypeTree) (n : ℕ) (t : TypeTree) → length vars ≤ n
-    → slice_get (reverse vars) n ≡ Some t → ⊥
-no_var vars n t l is =
-    let all : length (reverse vars) ≤ n = omega (arith, l, length-reverse vars) in
-    let none = slice_get_past (reverse vars) n all in
-    absurd cc
 
 -- another variable's type
 all_push : {X : Type 0} (P : X → Type 0) (xs : List X) (x : X) → AllByRecursion P xs → P x

@@ -159,12 +159,9 @@ fn named_type(
     requires { HasNoCycle scene.now.program.now.datas }
     ensures { IfOk result (λ r. MatchOption r ((t : TypeTree) → HasNamedType (origins_of scene.now) (spot_of place.now) at.number t → ⊥) (λ t. HasNamedType (origins_of scene.now) (spot_of place.now) at.number t)) }
 {
-    let vars = place.vars.as_slice();
-    let number = at.number as usize;
-    if number >= vars.len() {
+    let Some(ty) = place.vars.from_end(at.number as usize) else {
         return Ok(None);
-    }
-    let ty = &vars[vars.len() - 1 - number];
+    };
     if is_named(alloc, scene.program.datas.as_slice(), place.mode, ty)? {
         Ok(Some(ty.copy(alloc)?))
     } else {

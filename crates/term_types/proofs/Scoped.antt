@@ -1,7 +1,7 @@
 -- The kinds of the variables in scope.
 use Rattle.std.proofs.Common.{◌≡◌, ℕ, suc, zero, ◌+◌, ◌<◌, ◌≤◌, Some, refl, sym, ap, ◌∙◌, subst, List, [], ◌∷◌, ◌++◌, map, length, reverse, take, get_or}
 use Rattle.std.specs.List.{slice_get}
-use Rattle.std.proofs.lemmas.List.{map-append, take_all, reverse-reverse, append-nil}
+use Rattle.std.proofs.lemmas.List.{map-append, take_all, reverse-reverse, reverse-append, append-nil}
 use Rattle.std.proofs.lemmas.Option.{same_Some}
 use Rattle.chw_types.specs.declared.kind.Kind.{Kind}
 use Rattle.chw_types.specs.TypeTree.{TypeTree}
@@ -9,6 +9,7 @@ use Rattle.chw_types.specs.Kinds.{IsOfTerms}
 use Rattle.chw_types.specs.TypeMoves.{raised}
 use Rattle.chw_types.proofs.KindsKept.{kind_renamed, renames_shift}
 use Rattle.chw_terms.specs.declared.term.Binding.{Binding}
+use Rattle.chw_typing.specs.Programs.{IsSound}
 use Rattle.chw_typing.specs.Scopes.{Setting, HasKind, AreTermTypes, under_binder, with_more}
 use Rattle.chw_typing.proofs.Kinded.{typed_reverse}
 use Rattle.chw_typing.proofs.Lists.{reverse_cons}
@@ -127,13 +128,57 @@ have_kinds_by_form : (s : Setting) (kinds : List Kind) (ts : List TypeTree) → 
 have_kinds_by_form s kinds [] h = tt
 have_kinds_by_form s kinds (t ∷ ts) h = (subst (HasKind s kinds t) (sym (kind_is_by_form h.0.has)) h.0.has, have_kinds_by_form s kinds ts h.1)
 
--- with no variables but those from outside
-pub outside_inside : (s : Setting) (kinds : List Kind) (ts : List TypeTree) (bound : Bound) (none scope : InScope) → IsReady s kinds (reverse ts) → bound_types bound ≡ ts → bound_kinds bound ≡ kinds_by_form s kinds ts → none.vars ≡ [] → none.kinds ≡ [] → scope.vars ≡ with_more (bound_types bound) none.vars → scope.kinds ≡ reverse (bound_kinds bound) ++ none.kinds → Inside s kinds none scope ts
-outside_inside s kinds ts bound none scope h types ks v w e d =
-    let empty : IsSet s kinds none = set_of s kinds none [] [] v w (h.0, tt) tt in
-    let typed = typed_turned s kinds ts h.1 in
-    let vars = e ∙ ap (λ us. with_more us none.vars) types in
-    record { vars = vars; set = set_more s kinds none scope ts (kinds_by_form s kinds ts) vars (d ∙ ap (λ xs. reverse xs ++ none.kinds) ks) empty typed (have_kinds_by_form s kinds ts typed) }
+-- no variables
+none_set : (s : Setting) (kinds : List Kind) (none : InScope) → IsSound s → none.vars ≡ [] → none.kinds ≡ [] → IsSet s kinds none
+none_set s kinds none h v w = set_of s kinds none [] [] v w (h, tt) tt
 
-pub with_none : (ts vars : List TypeTree) → vars ≡ [] → with_more ts vars ≡ reverse ts
+-- with these variables from outside, each with the kind that its type has by its form
+pub record IsPart (s : Setting) (kinds : List Kind) (ts : List TypeTree) (bound : Bound) (outer scope : InScope) : Type 0 where
+  pub types : bound_types bound ≡ ts
+  pub by_form : bound_kinds bound ≡ kinds_by_form s kinds ts
+  pub vars : scope.vars ≡ with_more (bound_types bound) outer.vars
+  pub all : scope.kinds ≡ reverse (bound_kinds bound) ++ outer.kinds
+
+part_inside : (s : Setting) (kinds : List Kind) (ts : List TypeTree) (bound : Bound) (outer scope : InScope) → IsPart s kinds ts bound outer scope → IsSet s kinds outer → AreTermTypes s kinds ts → Inside s kinds outer scope ts
+part_inside s kinds ts bound outer scope part h typed =
+    let vars = part.vars ∙ ap (λ us. with_more us outer.vars) part.types in
+    let all = part.all ∙ ap (λ ks. reverse ks ++ outer.kinds) part.by_form in
+    record { vars = vars; set = set_more s kinds outer scope ts (kinds_by_form s kinds ts) vars all h typed (have_kinds_by_form s kinds ts typed) }
+
+-- a scope of these types
+pub record IsScope (s : Setting) (kinds : List Kind) (ts : List TypeTree) (scope : InScope) : Type 0 where
+  pub vars : scope.vars ≡ reverse ts
+  pub set : IsSet s kinds scope
+
+with_none : (ts vars : List TypeTree) → vars ≡ [] → with_more ts vars ≡ reverse ts
 with_none ts vars e = ap (with_more ts) e ∙ append-nil (reverse ts)
+
+-- with no variables but those from outside
+pub outside_inside : (s : Setting) (kinds : List Kind) (ts : List TypeTree) (bound : Bound) (none scope : InScope) → IsReady s kinds (reverse ts) → none.vars ≡ [] → none.kinds ≡ [] → IsPart s kinds ts bound none scope → IsScope s kinds ts scope
+outside_inside s kinds ts bound none scope h v w part =
+    let inside = part_inside s kinds ts bound none scope part (none_set s kinds none h.0 v w) (typed_turned s kinds ts h.1) in
+    record { vars = inside.vars ∙ with_none ts none.vars v; set = inside.set }
+
+-- the two parts of a list of types of terms
+typed_front : (s : Setting) (kinds : List Kind) (ts us : List TypeTree) → AreTermTypes s kinds (ts ++ us) → AreTermTypes s kinds ts
+typed_front s kinds [] us h = tt
+typed_front s kinds (t ∷ ts) us h = (h.0, typed_front s kinds ts us h.1)
+
+typed_back : (s : Setting) (kinds : List Kind) (ts us : List TypeTree) → AreTermTypes s kinds (ts ++ us) → AreTermTypes s kinds us
+typed_back s kinds [] us h = h
+typed_back s kinds (t ∷ ts) us h = typed_back s kinds ts us h.1
+
+-- three lists that are turned round
+turned : (xs ys zs : List TypeTree) → reverse (xs ++ ys ++ zs) ≡ reverse zs ++ (reverse ys ++ reverse xs)
+turned xs ys zs = reverse-append (xs ++ ys) zs ∙ ap (λ ts. reverse zs ++ ts) (reverse-append xs ys)
+
+-- with no variables but those from outside, in three parts
+pub parts_inside : (s : Setting) (kinds : List Kind) (xs ys zs ts : List TypeTree) (x y z : Bound) (none outer middle scope : InScope) → xs ++ ys ++ zs ≡ ts → IsReady s kinds (reverse ts) → none.vars ≡ [] → none.kinds ≡ [] → IsPart s kinds xs x none outer → IsPart s kinds ys y outer middle → IsPart s kinds zs z middle scope → IsScope s kinds ts scope
+parts_inside s kinds xs ys zs ts x y z none outer middle scope is h v w first second third =
+    let typed = subst (AreTermTypes s kinds) (sym is) (typed_turned s kinds ts h.1) in
+    let front = typed_front s kinds (xs ++ ys) zs typed in
+    let a = part_inside s kinds xs x none outer first (none_set s kinds none h.0 v w) (typed_front s kinds xs ys front) in
+    let b = part_inside s kinds ys y outer middle second a.set (typed_back s kinds xs ys front) in
+    let d = part_inside s kinds zs z middle scope third b.set (typed_back s kinds (xs ++ ys) zs typed) in
+    let vars = d.vars ∙ ap (with_more zs) (b.vars ∙ ap (with_more ys) (a.vars ∙ with_none xs none.vars v)) in
+    record { vars = vars ∙ sym (turned xs ys zs) ∙ ap reverse is; set = d.set }

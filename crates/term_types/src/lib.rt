@@ -22,4 +22,4 @@ mod vars;
 mod walk;
 
 pub use signature::Signature;
-pub use typing::{type_of, type_of_in};
+pub use typing::{type_in_scope, type_of, type_of_in};

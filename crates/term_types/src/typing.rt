@@ -2,7 +2,7 @@
 ghost use Rattle.std.specs.Prelude.{◌≡◌, [], reverse, IfOk, IfSome, IfNone};
 ghost use Rattle.chw_typing.specs.Scopes.{setting_in};
 ghost use Rattle.chw_typing.specs.Finding.{Finds};
-ghost use Rattle.term_types.specs.Answers.{HasNoType, IsReady};
+ghost use Rattle.term_types.specs.Answers.{HasNoType, IsReady, IsSet};
 ghost use Rattle.term_types.specs.Signatures.{IsSignature};
 
 use crate::fields::outside;
@@ -10,7 +10,7 @@ use crate::signature::Signature;
 use crate::vars::Vars;
 use crate::walk::infer;
 use chw_base::NoMemory;
-use chw_terms::{Scene, Term};
+use chw_terms::{GapBuffer, Scene, Term};
 use chw_types::{Kind, Ty};
 use std::alloc::Global;
 
@@ -56,7 +56,49 @@ pub fn type_of_in(
     let bound = outside(scene, kinds, vars);
     let none = Vars::none();
     let inner = none.with_bound(&bound);
-    match infer(alloc, scene, signature, kinds, &inner, term)? {
+    type_within(alloc, scene, signature, kinds, &inner, term)
+}
+
+/// The type of a term, with variables of these types in scope, the outermost first, and no type variables. The rest is as at
+/// `type_of_in`.
+pub fn type_in_scope(
+    alloc: Global,
+    scene: &Scene,
+    signature: &Signature,
+    vars: &GapBuffer<Ty>,
+    term: &Term,
+) -> Result<Option<Ty>, NoMemory>
+    requires ready { IsReady (setting_in scene.now) [] (reverse vars.now) }
+    requires table { IsSignature scene.now.program.now signature.now }
+    ensures some { IfOk result (λ r. IfSome r (λ t. Finds (setting_in scene.now) [] (reverse vars.now) term.now t)) }
+    ensures none { IfOk result (λ r. IfNone r (HasNoType (setting_in scene.now) [] (reverse vars.now) term.now)) }
+{
+    let (before, behind, last) = vars.parts();
+    let first = outside(scene, &[], before);
+    let second = outside(scene, &[], behind);
+    let third = outside(scene, &[], last);
+    let none = Vars::none();
+    let outer = none.with_bound(&first);
+    let middle = outer.with_bound(&second);
+    let inner = middle.with_bound(&third);
+    type_within(alloc, scene, signature, &[], &inner, term)
+}
+
+// The type of a term in this scope, with type variables of these kinds.
+fn type_within(
+    alloc: Global,
+    scene: &Scene,
+    signature: &Signature,
+    kinds: &[Kind],
+    vars: &Vars,
+    term: &Term,
+) -> Result<Option<Ty>, NoMemory>
+    requires ready { IsSet (setting_in scene.now) (reverse kinds.now) vars.now }
+    requires table { IsSignature scene.now.program.now signature.now }
+    ensures some { IfOk result (λ r. IfSome r (λ t. Finds (setting_in scene.now) (reverse kinds.now) vars.now.vars term.now t)) }
+    ensures none { IfOk result (λ r. IfNone r (HasNoType (setting_in scene.now) (reverse kinds.now) vars.now.vars term.now)) }
+{
+    match infer(alloc, scene, signature, kinds, vars, term)? {
         Some(found) => Ok(Some(found.ty.into_ty(alloc)?)),
         None => Ok(None),
     }

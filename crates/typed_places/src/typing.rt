@@ -12,7 +12,7 @@ use chw_terms::{Place, Scene, Term};
 use chw_typing::found_laws::found_is_type;
 use rewriting::scene_laws::settings_of_scenes;
 use std::alloc::Global;
-use term_types::{Signature, type_of_in};
+use term_types::{Signature, type_in_scope};
 
 /// Whether a term has a type at a place.
 ///
@@ -31,6 +31,6 @@ pub fn is_typed(
 {
     settings_of_scenes();
     found_is_type();
-    let found = type_of_in(alloc, scene, signature, &[], place.vars.as_slice(), at)?;
+    let found = type_in_scope(alloc, scene, signature, &place.vars, at)?;
     Ok(found.is_some())
 }

@@ -26,7 +26,7 @@ use chw_typing::found_laws::{found_is_type, one_found};
 use free_variables::free_in;
 use rewriting::scene_laws::settings_of_scenes;
 use std::alloc::Global;
-use term_types::{Signature, type_of_in};
+use term_types::{Signature, type_in_scope};
 
 // Whether circuits are built there, or looked at.
 fn is_of_circuit(mode: Mode) -> bool
@@ -187,8 +187,7 @@ fn type_at(
     ensures none { IfOk result (λ r. IfNone r (HasNoType (setting_at (origins_of scene.now)) [] (reverse place.now.vars) term.now)) }
 {
     settings_of_scenes();
-    let vars = place.vars.as_slice();
-    type_of_in(alloc, scene, signature, &[], vars, term)
+    type_in_scope(alloc, scene, signature, &place.vars, term)
 }
 
 // The parameters of a lifted function that lacks a lambda for one of them.

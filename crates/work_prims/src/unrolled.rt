@@ -28,7 +28,7 @@ use prim_vec::{can_unroll, unroll};
 use rewriting::scene_laws::{names_of_modes, settings_of_scenes};
 use rule_parts::named::is_named;
 use std::alloc::Global;
-use term_types::{Signature, type_of_in};
+use term_types::{Signature, type_in_scope};
 
 // Whether the primitives of a line are ever written out.
 fn has_form(row: Row) -> bool
@@ -65,7 +65,7 @@ fn is_unnamed(
     one_type();
     types_are_term_types();
     names_of_modes();
-    let Some(ty) = type_of_in(alloc, scene, signature, &[], place.vars.as_slice(), vector)? else {
+    let Some(ty) = type_in_scope(alloc, scene, signature, &place.vars, vector)? else {
         return Ok(false);
     };
     let named = is_named(alloc, scene.program.datas.as_slice(), place.mode, &ty);

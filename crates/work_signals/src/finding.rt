@@ -14,7 +14,7 @@ use chw_types::{Ty, TyNode};
 use chw_typing::found_laws::{found_is_type, one_found};
 use rewriting::scene_laws::settings_of_scenes;
 use std::alloc::Global;
-use term_types::{Signature, type_of_in};
+use term_types::{Signature, type_in_scope};
 
 // The type of a term at a place.
 fn type_at(
@@ -30,7 +30,7 @@ fn type_at(
 {
     settings_of_scenes();
     found_is_type();
-    type_of_in(alloc, scene, signature, &[], place.vars.as_slice(), term)
+    type_in_scope(alloc, scene, signature, &place.vars, term)
 }
 
 // The parameter and the result of a type of functions.

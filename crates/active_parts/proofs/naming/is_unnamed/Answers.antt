@@ -1,4 +1,4 @@
-use Rattle.std.proofs.Common.{◌↔◌, IfSome, IsTrue, [], reverse, sym, subst}
+use Rattle.std.proofs.Common.{◌↔◌, IfSome, IsTrue, [], sym, subst}
 use Rattle.chw_types.specs.TypeTree.{TypeTree}
 use Rattle.chw_typing.specs.Scopes.{setting_in}
 use Rattle.chw_typing.specs.Typing.{HasType}
@@ -16,14 +16,12 @@ returns c =
     let s = setting_in scene in
     let o = origins_of scene in
     let at = spot_of c.args.place.now in
-    let vars = c.as_slice-vars.result.now in
     let a = c.args.at.now in
     let t = c.in-Some.ty in
     let is = c.in_ok-is_named.field-0 in
     let setting = sym (c.settings_of_scenes.ensures.setting scene) in
-    let found : Finds s [] (reverse vars) a t = subst (λ r. IfSome r (λ t. Finds s [] (reverse vars) a t)) c.in-Some.is c.in_ok-ty.ensures.some in
-    let of_setting : Finds (setting_at o) [] (reverse vars) a t = subst (λ s. Finds s [] (reverse vars) a t) setting found in
-    let here : Finds (setting_at o) [] at.vars a t = subst (λ vars. Finds (setting_at o) [] (reverse vars) a t) c.as_slice-vars.ensures of_setting in
+    let found : Finds s [] at.vars a t = subst (λ r. IfSome r (λ t. Finds s [] at.vars a t)) c.in-Some.is c.in_ok-ty.ensures.some in
+    let here : Finds (setting_at o) [] at.vars a t = subst (λ s. Finds s [] at.vars a t) setting found in
     let has : HasType (setting_at o) [] at.vars a t = c.found_is_type.ensures (setting_at o) [] at.vars a t here in
     let ready : IsReady (setting_at o) [] at.vars = subst (λ s. IsReady s [] at.vars) setting (c.requires.ground.sound, c.requires.scope) in
     let named : IsTrue is ↔ IsNamed o.program.datas at.mode t = subst (λ datas. IsTrue is ↔ IsNamed datas at.mode t) c.as_slice-datas.ensures c.in_ok-is_named.ensures in

@@ -1,6 +1,7 @@
 use Rattle.std.proofs.Common.{◌≡◌, ◌∙◌, ◌++◌, ap, map, take, arith}
 use Rattle.std.proofs.lemmas.List.{take_all}
 use Rattle.chw_terms.specs.declared.term.Binding.{Binding}
+use Rattle.active_parts.specs.Grounds.{with_variables}
 use Rattle.active_parts.proofs.Declared.{types_declared}
 use Rattle.active_parts.proofs.scopes.enter_group.Goals as goal
 
@@ -11,6 +12,4 @@ returns c =
     let n = c.loop-binding.binding-index in
     let all : take n bs ≡ bs = take_all n bs (omega (arith, c.loop-binding-test.false)) in
     let types = ap (map (λ (b : Binding). b.ty)) all ∙ types_declared bs in
-    let vars = c.from.ensures ∙ c.loop-binding.invariant.0 ∙ ap (λ ts. at.vars ++ ts) types in
-    let left = c.take_variables-vars.ensures.left in
-    λ i. record { mode = (left i).mode; result = (left i).result; vars = vars i }
+    c.loop-binding.invariant ∙ ap (λ ts. with_variables at (at.vars ++ ts)) types

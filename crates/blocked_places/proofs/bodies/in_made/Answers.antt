@@ -9,12 +9,12 @@ pub in_lambdas-requires : goal.in_lambdas-requires
 in_lambdas-requires c =
     let s = setting_in c.args.ground.now.scene.now in
     let it = c.args.it.now in
-    let empty : c.from.result ≡ [] = c.from.ensures ∙ c.new.ensures.items in
+    let empty : c.of.result ≡ [] = c.of.ensures ∙ c.new.ensures.items in
     record {
       ground = c.requires.ground;
       result = refl;
       typed =
-          subst (λ m. LeadsToTyped s m (reverse c.from.result) it.body it.ty) (sym c.mode_of.ensures)
+          subst (λ m. LeadsToTyped s m (reverse c.of.result) it.body it.ty) (sym c.mode_of.ensures)
           (subst (λ vs. LeadsToTyped s (mode_of it.sort) (reverse vs) it.body it.ty) (sym empty) c.requires.typed);
     }
 
@@ -22,7 +22,7 @@ pub returns : goal.returns
 returns c =
     let o = origins_of c.args.ground.now.scene.now in
     let it = c.args.it.now in
-    let empty : c.from.result ≡ [] = c.from.ensures ∙ c.new.ensures.items in
+    let empty : c.of.result ≡ [] = c.of.ensures ∙ c.new.ensures.items in
     subst (λ vs. IfOk c.in_lambdas.result (FindsFirst (InBody o (mode_of it.sort) (reverse vs) it.body it.ty))) empty
-    (subst (λ m. IfOk c.in_lambdas.result (FindsFirst (InBody o m (reverse c.from.result) it.body it.ty))) c.mode_of.ensures
+    (subst (λ m. IfOk c.in_lambdas.result (FindsFirst (InBody o m (reverse c.of.result) it.body it.ty))) c.mode_of.ensures
     c.in_lambdas.ensures)

@@ -1,4 +1,4 @@
-use Rattle.std.proofs.Common.{IfSome, IfNone, [], reverse, sym, subst}
+use Rattle.std.proofs.Common.{IfSome, IfNone, [], sym, subst}
 use Rattle.chw_types.specs.TypeTree.{TypeTree}
 use Rattle.chw_typing.specs.Scopes.{setting_in}
 use Rattle.chw_typing.specs.Typing.{HasType}
@@ -19,10 +19,9 @@ returns-in_default c l p =
     let o = origins_of scene in
     let at = spot_of c.args.place.now in
     let e = c.args.at.now in
-    let none = subst (λ r. IfNone r (HasNoType s [] (reverse c.as_slice-vars.result.now) e)) c.in_default.is c.in_ok-ty.ensures.none in
-    let here : HasNoType s [] at.vars e = subst (λ vars. HasNoType s [] (reverse vars) e) c.as_slice-vars.ensures none in
+    let none : HasNoType s [] at.vars e = subst (λ r. IfNone r (HasNoType s [] at.vars e)) c.in_default.is c.in_ok-ty.ensures.none in
     let has : HasType (setting_at o) [] at.vars e p.0 = c.found_is_type.ensures (setting_at o) [] at.vars e p.0 p.1 in
-    here p.0 (subst (λ z. HasType z [] at.vars e p.0) (c.settings_of_scenes.ensures.setting scene) has)
+    none p.0 (subst (λ z. HasType z [] at.vars e p.0) (c.settings_of_scenes.ensures.setting scene) has)
 
 pub returns : goal.returns
 returns c =
@@ -33,11 +32,8 @@ returns c =
     let e = c.args.at.now in
     let t = c.in-Some.ty in
     let setting = sym (c.settings_of_scenes.ensures.setting scene) in
-    let found : Finds s [] (reverse c.as_slice-vars.result.now) e t =
-    subst (λ r. IfSome r (λ t. Finds s [] (reverse c.as_slice-vars.result.now) e t)) c.in-Some.is c.in_ok-ty.ensures.some in
-    let of_setting : Finds (setting_at o) [] (reverse c.as_slice-vars.result.now) e t =
-    subst (λ z. Finds z [] (reverse c.as_slice-vars.result.now) e t) setting found in
-    let here : Finds (setting_at o) [] at.vars e t = subst (λ vars. Finds (setting_at o) [] (reverse vars) e t) c.as_slice-vars.ensures of_setting in
+    let found : Finds s [] at.vars e t = subst (λ r. IfSome r (λ t. Finds s [] at.vars e t)) c.in-Some.is c.in_ok-ty.ensures.some in
+    let here : Finds (setting_at o) [] at.vars e t = subst (λ z. Finds z [] at.vars e t) setting found in
     ok_more c.passed.result _ _
     (λ answer h. type_passes c.one_found.ensures o at e t answer here
     (subst (λ datas. FindsOf TypeTree (Passes datas) t answer) c.as_slice.ensures h))

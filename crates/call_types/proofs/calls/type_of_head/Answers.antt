@@ -1,29 +1,28 @@
-use Rattle.std.proofs.Common.{◌≡◌, Some, None, length, reverse, option_map, refl, sym, ap, ◌∙◌, subst, arith}
+use Rattle.std.proofs.Common.{◌≡◌, Option, Some, None, Bor, length, reverse, option_map, MatchOption, refl, sym, ap, ◌∙◌, subst}
 use Rattle.std.specs.List.{slice_get}
 use Rattle.std.proofs.lemmas.Bool.{ltb-true, ltb-false}
-use Rattle.std.proofs.lemmas.List.{length-reverse}
 use Rattle.std.proofs.lemmas.Option.{slice_get_past, slice_get_read, slice_get-map}
+use Rattle.chw_types.specs.declared.ty.Ty.{Ty}
+use Rattle.chw_types.specs.TypeTree.{TypeTree}
 use Rattle.chw_terms.specs.declared.program.Def.{Def}
 use Rattle.chw_terms.specs.declared.scene.Made.{Made}
 use Rattle.chw_terms.specs.TermView.{tree_of}
 use Rattle.chw_typing.specs.Scopes.{setting_in}
 use Rattle.call_types.specs.CallTypes.{call_type}
-use Rattle.call_types.proofs.Heads.{no_call, var_at}
+use Rattle.call_types.proofs.Heads.{no_call}
 use Rattle.call_types.proofs.calls.type_of_head.Goals as goal
 
-pub returns-then-number-vars : goal.returns-then-number-vars
-returns-then-number-vars c =
-    let vars = c.args.vars.now in
-    let n = c.in-Var.at.number in
-    let size = length-reverse vars in
-    let past = c.if-number-vars.true in
-    subst (λ h. None ≡ call_type (setting_in c.args.scene.now) (reverse vars) (tree_of h)) (sym c.in-Var.is) (sym (slice_get_past (reverse vars) n (omega (arith, size, past))))
+-- what is read is what is there
+read_off : (found : Option (Bor Ty)) (at : Option TypeTree) → MatchOption found (at ≡ None) (λ t. at ≡ Some t.now) → option_map (λ t. t.now) found ≡ at
+read_off None at h = sym h
+read_off (Some t) at h = sym h
 
-pub returns-else-number-vars : goal.returns-else-number-vars
-returns-else-number-vars c =
+pub returns-in-Var : goal.returns-in-Var
+returns-in-Var c =
     let vars = c.args.vars.now in
     let n = c.in-Var.at.number in
-    subst (λ h. Some c.index-vars-vars.result ≡ call_type (setting_in c.args.scene.now) (reverse vars) (tree_of h)) (sym c.in-Var.is) (sym (var_at vars n _ c.index-vars-vars.result (omega (arith, c.if-number-vars.false)) (omega arith) c.index-vars-vars.is))
+    subst (λ h. option_map (λ t. t.now) c.from_end.result ≡ call_type (setting_in c.args.scene.now) (reverse vars) (tree_of h)) (sym c.in-Var.is)
+    (read_off c.from_end.result (slice_get (reverse vars) n) c.from_end.ensures)
 
 pub returns-in-Some : goal.returns-in-Some
 returns-in-Some c =

@@ -13,13 +13,13 @@ pub under_lambdas-requires : goal.under_lambdas-requires
 under_lambdas-requires g c =
     let s = setting_in c.args.ground.now.scene.now in
     let it = c.args.it.now in
-    let empty : c.from.result ≡ [] = c.from.ensures ∙ c.new.ensures.items in
+    let empty : c.of.result ≡ [] = c.of.ensures ∙ c.new.ensures.items in
     record {
       ground = c.requires.ground;
       same = c.requires.same;
       result = refl;
       typed =
-          subst (λ m. LeadsToTyped s m (reverse c.from.result) it.body it.ty) (sym c.mode_of.ensures)
+          subst (λ m. LeadsToTyped s m (reverse c.of.result) it.body it.ty) (sym c.mode_of.ensures)
           (subst (λ vs. LeadsToTyped s (mode_of it.sort) (reverse vs) it.body it.ty) (sym empty) c.requires.typed);
     }
 
@@ -27,14 +27,14 @@ pub returns : goal.returns
 returns g c =
     let o = origins_of c.args.ground.now.scene.now in
     let it = c.args.it.now in
-    let empty : c.from.result ≡ [] = c.from.ensures ∙ c.new.ensures.items in
+    let empty : c.of.result ≡ [] = c.of.ensures ∙ c.new.ensures.items in
     record {
       first =
           subst (λ vs. IfOk c.under_lambdas.result (FindsFirst built o (adds_to c.args.ground.now.scene.now) (under_lambdas o (mode_of it.sort) (reverse vs) it.body it.ty) c.args.from.now)) empty
-          (subst (λ m. IfOk c.under_lambdas.result (FindsFirst built o (adds_to c.args.ground.now.scene.now) (under_lambdas o m (reverse c.from.result) it.body it.ty) c.args.from.now)) c.mode_of.ensures
+          (subst (λ m. IfOk c.under_lambdas.result (FindsFirst built o (adds_to c.args.ground.now.scene.now) (under_lambdas o m (reverse c.of.result) it.body it.ty) c.args.from.now)) c.mode_of.ensures
           c.under_lambdas.ensures.first);
       looks =
           subst (λ vs. LooksAtPaths built o (under_lambdas o (mode_of it.sort) (reverse vs) it.body it.ty) c.args.from.now (g.L.Looks.looks c.args.looks.now) (g.L.Looks.looks c.under_lambdas.new.looks)) empty
-          (subst (λ m. LooksAtPaths built o (under_lambdas o m (reverse c.from.result) it.body it.ty) c.args.from.now (g.L.Looks.looks c.args.looks.now) (g.L.Looks.looks c.under_lambdas.new.looks)) c.mode_of.ensures
+          (subst (λ m. LooksAtPaths built o (under_lambdas o m (reverse c.of.result) it.body it.ty) c.args.from.now (g.L.Looks.looks c.args.looks.now) (g.L.Looks.looks c.under_lambdas.new.looks)) c.mode_of.ensures
           c.under_lambdas.ensures.looks);
     }

@@ -1,4 +1,4 @@
-use Rattle.std.proofs.Common.{◌∙◌, [], ap, sym, subst, refl, reverse, IfSome}
+use Rattle.std.proofs.Common.{◌∙◌, [], ap, sym, subst, refl, IfSome}
 use Rattle.chw_terms.specs.TermTree.{case_of}
 use Rattle.chw_terms.specs.TermView.{tree_of, alts_of}
 use Rattle.chw_typing.specs.Scopes.{setting_in}
@@ -32,16 +32,14 @@ returns-then-branch c e' m =
     let s = setting_in c.args.scene.now in
     let o = origins_of c.args.scene.now in
     let at = spot_of c.args.place.now in
-    let vars = c.as_slice.result.now in
     let on = c.args.on.now in
     let t = c.in-Some-2.ty in
     let setting = sym (c.settings_of_scenes.ensures.setting c.args.scene.now) in
     let h = of_case m refl on (alts_of c.args.alts.now) refl in
-    let found : Finds s [] (reverse vars) on t = subst (λ r. IfSome r (λ t. Finds s [] (reverse vars) on t)) c.in-Some-2.is c.in_ok-ty.ensures.some in
-    let here : Finds s [] at.vars on t = subst (λ vars. Finds s [] (reverse vars) on t) c.as_slice.ensures found in
+    let here : Finds s [] at.vars on t = subst (λ r. IfSome r (λ t. Finds s [] at.vars on t)) c.in-Some-2.is c.in_ok-ty.ensures.some in
     let typed : HasType (setting_at o) [] at.vars on t = c.found_is_type.ensures (setting_at o) [] at.vars on t (subst (λ s. Finds s [] at.vars on t) setting here) in
     let ready : IsReady (setting_at o) [] at.vars = subst (λ s. IsReady s [] at.vars) setting c.requires.ready in
-    let named : IsNamed o.program.datas at.mode t = subst (λ ds. IsNamed ds at.mode t) c.as_slice-2.ensures (c.in_ok-is_type_named.ensures.0 c.if-branch.true) in
+    let named : IsNamed o.program.datas at.mode t = subst (λ ds. IsNamed ds at.mode t) c.as_slice.ensures (c.in_ok-is_type_named.ensures.0 c.if-branch.true) in
     h.unnamed (named_again c.one_type.ensures c.types_are_term_types.ensures c.names_of_modes.ensures.kept (setting_at o) at.vars at.mode on t h.type ready.0 ready.1 typed h.has named)
 
 pub returns : goal.returns
@@ -49,18 +47,16 @@ returns c =
     let s = setting_in c.args.scene.now in
     let o = origins_of c.args.scene.now in
     let at = spot_of c.args.place.now in
-    let vars = c.as_slice.result.now in
     let on = c.args.on.now in
     let t = c.in-Some-2.ty in
     let setting = sym (c.settings_of_scenes.ensures.setting c.args.scene.now) in
-    let found : Finds s [] (reverse vars) on t = subst (λ r. IfSome r (λ t. Finds s [] (reverse vars) on t)) c.in-Some-2.is c.in_ok-ty.ensures.some in
-    let here : Finds s [] at.vars on t = subst (λ vars. Finds s [] (reverse vars) on t) c.as_slice.ensures found in
+    let here : Finds s [] at.vars on t = subst (λ r. IfSome r (λ t. Finds s [] at.vars on t)) c.in-Some-2.is c.in_ok-ty.ensures.some in
     let typed : HasType (setting_at o) [] at.vars on t = c.found_is_type.ensures (setting_at o) [] at.vars on t (subst (λ s. Finds s [] at.vars on t) setting here) in
     let outer = alts_of c.args.alts.now in
     case_moved o at on c.in-Case.first.value (alts_of c.in-Case.inner.items) outer t c.in_ok-each_looked_at.field-0
     (sym c.in-Some.ensures ∙ ap tree_of c.in-Case.is) typed
     (λ n.
-    let yes = c.in_ok-is_type_named.ensures.1 (subst (λ ds. IsNamed ds at.mode t) (sym c.as_slice-2.ensures) n) in
+    let yes = c.in_ok-is_type_named.ensures.1 (subst (λ ds. IsNamed ds at.mode t) (sym c.as_slice.ensures) n) in
     let no = c.if-branch.false in
     absurd cc)
     (c.in_ok-each_looked_at.ensures

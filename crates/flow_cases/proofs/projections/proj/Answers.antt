@@ -1,4 +1,4 @@
-use Rattle.std.proofs.Common.{◌≡◌, refl, subst, reverse, slice_get, Some}
+use Rattle.std.proofs.Common.{refl, subst}
 use Rattle.chw_terms.specs.declared.scene.Mode.TheVariants.{C}
 use Rattle.chw_terms.specs.declared.term.Pattern.TheVariants.{OfCon}
 use Rattle.chw_terms.specs.TermView.{alts_of}
@@ -26,11 +26,11 @@ returns c =
     let o = origins_of c.args.scene.now in
     let at = spot_of c.args.place.now in
     let it = c.in-Some.it in
-    let t = c.in-Some-type_of_variable.ty.now in
+    let t = c.in-Some-from_end.ty.now in
     let fields = fields_put c.in-Some-fields_of_pattern.fields.now c.in-Some-fields_of_pattern.args.now in
     port_made o at c.args.on.now (alts_of c.args.alts.now) it.of.number it.con it.names it.body.now t fields c.in_ok-with_projections.field-0
     c.in-Some.ensures c.in-C.is
-    (subst (λ vars. slice_get (reverse vars) it.of.number ≡ Some t) c.as_slice.ensures c.in-Some-type_of_variable.ensures)
-    (subst (λ ds. IsNamed ds C t) c.as_slice-2.ensures (c.in_ok-is_named.ensures.0 c.if-not-branch.false))
+    c.in-Some-from_end.ensures
+    (subst (λ ds. IsNamed ds C t) c.as_slice.ensures (c.in_ok-is_named.ensures.0 c.if-not-branch.false))
     (subst (λ ds. PatternOf ds t (OfCon it.con it.names) fields) c.requires.table.constructors c.in-Some-fields_of_pattern.ensures)
     c.in_ok-with_projections.ensures

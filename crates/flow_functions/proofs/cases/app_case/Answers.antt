@@ -1,5 +1,5 @@
 use Rattle.std.proofs.Common.{◌∙◌, IfSome, sym, subst}
-use Rattle.std.specs.Prelude.{[], reverse}
+use Rattle.std.specs.Prelude.{[]}
 use Rattle.chw_terms.specs.declared.term.Arg.TheVariants.{OfTerm, OfType}
 use Rattle.chw_terms.specs.declared.term.Head.TheVariants.{Case}
 use Rattle.chw_terms.specs.TermMoves.{shift}
@@ -24,12 +24,11 @@ pub returns : goal.returns
 returns c =
     let s = setting_in c.args.scene.now in
     let o = origins_of c.args.scene.now in
-    let vars = c.as_slice.result.now in
+    let at = spot_of c.args.place.now in
     let a = c.in-OfTerm.of in
     let t = c.in-Some.ty in
-    let found : Finds s [] (reverse vars) a t = subst (λ r. IfSome r (λ t. Finds s [] (reverse vars) a t)) c.in-Some.is c.in_ok-ty.ensures.some in
-    let of_setting : Finds (setting_at o) [] (reverse vars) a t = subst (λ s. Finds s [] (reverse vars) a t) (sym (c.settings_of_scenes.ensures.setting c.args.scene.now)) found in
-    let here : Finds (setting_at o) [] (spot_of c.args.place.now).vars a t = subst (λ vars. Finds (setting_at o) [] (reverse vars) a t) c.as_slice.ensures of_setting in
+    let found : Finds s [] at.vars a t = subst (λ r. IfSome r (λ t. Finds s [] at.vars a t)) c.in-Some.is c.in_ok-ty.ensures.some in
+    let here : Finds (setting_at o) [] at.vars a t = subst (λ s. Finds s [] at.vars a t) (sym (c.settings_of_scenes.ensures.setting c.args.scene.now)) found in
     let body = c.in_ok-body.ensures ∙ (λ i. case_of (shift (c.deref-2.ensures i) 0 1) (each_body (λ n f. app f (var n)) (shift_alts (alts_of (c.deref-3.ensures.value i)) 0 1))) in
     at_first_same {k = Case c.in-Case.on c.in-Case.alts} {b = OfTerm a} (app_case here) c.in-Case.is c.in-OfTerm.is
     (c.in_ok-let_one.ensures ∙ (λ i. letrec (bind t (shift a 0 1) no_bindings) (body i)))
