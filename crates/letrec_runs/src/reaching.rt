@@ -4,7 +4,7 @@ ghost use Rattle.std.specs.List.{slice_get};
 ghost use Rattle.chw_terms.specs.TermView.{group_of};
 ghost use Rattle.free_variables.specs.Gathered.{numbers_of};
 ghost use Rattle.kept_letrecs.specs.Resting.{AllReached};
-ghost use Rattle.letrec_runs.specs.Search.{KeepsSearch, ReachesAll, ReachesVariable};
+ghost use Rattle.letrec_runs.specs.Search.{IsSearch, KeepsSearch, ReachesAll, ReachesVariable};
 
 use chw_base::{NoMemory, VarIx};
 use chw_terms::{Binding, Term};
@@ -69,15 +69,26 @@ fn are_all(marks: &[bool]) -> bool
     true
 }
 
-// Whether the body reaches each binding. Time is linear in the letrec.
-pub(crate) fn all_reached(alloc: Global, group: &[Binding], body: &Term) -> Result<bool, NoMemory>
-    ensures { IfOk result (λ yes. IsTrue yes → AllReached (group_of group.now) body.now) }
+// The search, where the body alone was looked at.
+fn begin(alloc: Global, group: &[Binding], body: &Term) -> Result<Search, NoMemory>
+    ensures { IfOk result (IsSearch (group_of group.now) body.now) }
 {
     let mut search = Search {
         marks: vec![in alloc; false; group.len()]?,
         waiting: Vec::new(alloc),
     };
     look_at(alloc, body, &mut search)?;
+    Ok(search)
+}
+
+// Whether the body reaches each binding. Time is linear in the letrec; of one whose body names each binding, no right side is looked at.
+pub(crate) fn all_reached(alloc: Global, group: &[Binding], body: &Term) -> Result<bool, NoMemory>
+    ensures { IfOk result (λ yes. IsTrue yes → AllReached (group_of group.now) body.now) }
+{
+    let mut search = begin(alloc, group, body)?;
+    if are_all(search.marks.as_slice()) {
+        return Ok(true);
+    }
     for _ in 0..group.len() {
         let Some(place) = search.waiting.pop() else {
             return Ok(are_all(search.marks.as_slice()));
