@@ -20,7 +20,7 @@ pub fn enter_group(alloc: Global, place: &mut Place, bindings: &[Binding]) -> Re
 }
 
 /// Puts variables of these types into the scope of a place.
-pub fn enter(alloc: Global, place: &mut Place, types: Vec<Ty>) -> Result<(), NoMemory>
+pub fn enter(place: &mut Place, types: Vec<Ty>) -> Result<(), NoMemory>
     ensures { OnOk result (place.new ≡ with_variables place.old (place.old.vars ++ types.items)) }
 {
     let count = place.vars.len();
@@ -28,7 +28,7 @@ pub fn enter(alloc: Global, place: &mut Place, types: Vec<Ty>) -> Result<(), NoM
 }
 
 /// Takes variables out of the scope of a place, so that as many are left.
-pub fn leave(alloc: Global, place: &mut Place, left: usize)
+pub fn leave(place: &mut Place, left: usize)
     ensures { place.new ≡ with_variables place.old (take left place.old.vars) }
 {
     place.vars.truncate(left);

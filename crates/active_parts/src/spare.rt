@@ -99,7 +99,8 @@ pub fn leave_with_spare(
 ) -> Result<(), NoMemory>
     ensures { OnOk result (place.new ≡ with_variables place.old (take left place.old.vars)) }
 {
-    let mut gone = Vec::new(alloc);
+    let count = place.vars.len().saturating_sub(left);
+    let mut gone = Vec::with_capacity(alloc, count)?;
     while left < place.vars.len() {
         let Some(ty) = place.vars.pop() else {
             unreachable!()

@@ -55,7 +55,7 @@ fn in_lambdas(
             block: Block::Limit { what },
         }));
     }
-    enter(alloc, place, vec![in alloc; of.copy(alloc)?]?)?;
+    enter(place, vec![in alloc; of.copy(alloc)?]?)?;
     let found = in_lambdas(alloc, ground, body, to, place)?;
     behind_child(found, 0)
 }

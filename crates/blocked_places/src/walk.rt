@@ -59,7 +59,7 @@ fn below(
     let outside = place.vars.len();
     enter_group(alloc, place, group_around_parts(at))?;
     let found = first_part(alloc, ground, at, count, place)?;
-    leave(alloc, place, outside);
+    leave(place, outside);
     Ok(found)
 }
 
@@ -136,9 +136,9 @@ fn first_at(
     let outside = place.vars.len();
     let outer_mode = mem::replace(&mut place.mode, mode);
     let outer_result = mem::replace(&mut place.result, gives);
-    enter(alloc, place, more)?;
+    enter(place, more)?;
     let found = first_from(alloc, ground, term, place)?;
-    leave(alloc, place, outside);
+    leave(place, outside);
     place.mode = outer_mode;
     place.result = outer_result;
     Ok(found)

@@ -49,7 +49,7 @@ fn under_lambdas<L: Looks>(
     let Some(left) = begin_at_child(from, 0) else {
         return Ok(None);
     };
-    enter(alloc, place, vec![in alloc; of.copy(alloc)?]?)?;
+    enter(place, vec![in alloc; of.copy(alloc)?]?)?;
     let found = under_lambdas(alloc, table, ground, body, to, place, left, spare, looks)?;
     behind_child(found, 0)
 }

@@ -196,9 +196,9 @@ fn first_at<L: Looks>(
     let outside = place.vars.len();
     let outer_mode = mem::replace(&mut place.mode, mode);
     let outer_result = mem::replace(&mut place.result, gives);
-    enter(alloc, place, more)?;
+    enter(place, more)?;
     let found = first_from(alloc, table, ground, term, place, from, spare, looks)?;
-    leave(alloc, place, outside);
+    leave(place, outside);
     place.mode = outer_mode;
     place.result = outer_result;
     Ok(found)

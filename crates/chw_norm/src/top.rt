@@ -37,7 +37,7 @@ fn enter_top(
     let Head::Lam(of, body) = &at.head else {
         return Ok(false);
     };
-    enter(alloc, place, vec![in alloc; of.copy(alloc)?]?)?;
+    enter(place, vec![in alloc; of.copy(alloc)?]?)?;
     path.push(0)?;
     enter_top(alloc, body, to, place, path)
 }
