@@ -8,8 +8,8 @@ use Rattle.chw_base.specs.declared.index.ConId.{ConId}
 use Rattle.chw_types.specs.declared.declarations.Data.{Data}
 use Rattle.chw_types.specs.declared.kind.Kind.{Kind}
 use Rattle.chw_types.specs.Arguments.{arguments}
-use Rattle.chw_types.specs.Ports.{IsPort, Leaves, leaves_of_fields}
-use Rattle.chw_types.specs.declared.ports.Leaf.{Leaf}
+use Rattle.type_ports.specs.Ports.{IsPort, Leaves, leaves_of_fields}
+use Rattle.type_ports.specs.declared.ports.Leaf.{Leaf}
 use Rattle.chw_types.specs.TypeTree.{TypeTree, data_of, TypeTrees}
 use Rattle.chw_types.specs.TypeMoves.{raised, sub}
 use Rattle.chw_types.proofs.SameLaws.{same_turned}

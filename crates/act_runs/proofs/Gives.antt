@@ -2,7 +2,7 @@
 use Rattle.std.specs.Prelude.{slice_get}
 use Rattle.std.proofs.Common.{◌≡◌, ℕ, zero, suc, List, [], ◌∷◌, map, Some, refl, sym, ap, ◌∙◌, subst}
 use Rattle.chw_types.specs.TypeTree.{TypeTree, fun}
-use Rattle.chw_types.specs.Ports.{leaves_of_fields, one_leaf}
+use Rattle.type_ports.specs.Ports.{leaves_of_fields, one_leaf}
 use Rattle.chw_types.specs.declared.declarations.Data.{Data}
 use Rattle.chw_terms.specs.declared.program.Def.{Def}
 use Rattle.chw_terms.specs.declared.program.Program.{Program}

@@ -17,7 +17,8 @@ use crate::naming::is_unnamed;
 use chw_base::NoMemory;
 use chw_prims::{Prim, Row};
 use chw_terms::{Arg, Mode, Place, Term};
-use chw_types::{Ty, TyNode, representable};
+use chw_types::{Ty, TyNode};
+use type_ports::representable;
 use std::alloc::Global;
 use term_types::Signature;
 

@@ -6,10 +6,10 @@ use Rattle.std.proofs.lemmas.Option.{same_Some}
 use Rattle.chw_base.specs.declared.index.DomId.{DomId}
 use Rattle.chw_types.specs.declared.declarations.ConDecl.{ConDecl}
 use Rattle.chw_types.specs.declared.declarations.Data.{Data}
-use Rattle.chw_types.specs.declared.ports.Leaf.{Leaf}
-use Rattle.chw_types.specs.Ports.{leaf_of, Leaves, one_leaf, leaves_of_fields, LeavesOfAll}
-use Rattle.chw_types.specs.Ports.{no_leaves, leaves_and}
-use Rattle.chw_types.specs.Representable.{Representable}
+use Rattle.type_ports.specs.declared.ports.Leaf.{Leaf}
+use Rattle.type_ports.specs.Ports.{leaf_of, Leaves, one_leaf, leaves_of_fields, LeavesOfAll}
+use Rattle.type_ports.specs.Ports.{no_leaves, leaves_and}
+use Rattle.type_ports.specs.Representable.{Representable}
 use Rattle.chw_types.specs.TypeMoves.{Substitution}
 use Rattle.chw_types.specs.TypeTree.{TypeTree, domain, signal}
 use Rattle.chw_layout.specs.declared.outcome.NoLayout.{NoLayout}

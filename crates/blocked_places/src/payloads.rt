@@ -7,7 +7,8 @@ use crate::types::type_at;
 use chw_base::NoMemory;
 use chw_prims::Prim;
 use chw_terms::{Head, Term};
-use chw_types::{Data, Ty, representable};
+use chw_types::{Data, Ty};
+use type_ports::representable;
 use std::alloc::Global;
 
 // The number of the argument that is a primitive's payload.

@@ -1,7 +1,7 @@
 //! Limits that types pass.
 ghost use Rattle.std.specs.Prelude.{◌≡◌, IfOk};
 ghost use Rattle.chw_types.specs.References.{HasNoCycle};
-ghost use Rattle.chw_types.specs.declared.ports.Leaf.{Leaf};
+ghost use Rattle.type_ports.specs.declared.ports.Leaf.{Leaf};
 ghost use Rattle.chw_types.specs.TypeTree.{TypeTree};
 ghost use Rattle.chw_terms.specs.declared.term.Binding.{Binding};
 ghost use Rattle.normal_forms.specs.Blocked.{Passes};
@@ -12,7 +12,8 @@ use chw_base::{NoMemory, Or};
 use chw_layout::laws::{measured_types, one_measure};
 use chw_layout::{NoLayout, width};
 use chw_terms::Binding;
-use chw_types::{Data, Leaf, Ty, leaves};
+use chw_types::{Data, Ty};
+use type_ports::{Leaf, leaves};
 use std::alloc::Global;
 
 // Why a type has no width, where that is a limit that it passes.

@@ -2,14 +2,14 @@
 use Rattle.std.proofs.Common.{◌≡◌, ℕ, ◌+◌, ◌<◌, inl, inr, refl, ap, ◌∙◌, List, [], ◌∷◌, ◌++◌, length, length-append, arith}
 use Rattle.chw_check.specs.Counting.{CountsOn, HasLeaves, HasMoreLeaves}
 use Rattle.chw_types.specs.declared.declarations.Data.{Data}
-use Rattle.chw_types.specs.declared.ports.Leaf.{Leaf}
+use Rattle.type_ports.specs.declared.ports.Leaf.{Leaf}
 use Rattle.chw_base.specs.declared.index.DomId.{DomId}
 use Rattle.chw_types.specs.References.{HasNoCycle}
 use Rattle.chw_types.specs.TypeTree.{TypeTree, domain, signal}
-use Rattle.chw_types.specs.Ports.{leaf_of, IsNoPort}
-use Rattle.chw_types.specs.Representable.{Representable}
-use Rattle.chw_types.specs.PortsFound.{ProductOpened}
-use Rattle.chw_types.proofs.LeavesFound.{Searching, search_begins, search_goes_on, search_fails, search_ends, search_shrinks}
+use Rattle.type_ports.specs.Ports.{leaf_of, IsNoPort}
+use Rattle.type_ports.specs.Representable.{Representable}
+use Rattle.type_ports.specs.PortsFound.{ProductOpened}
+use Rattle.type_ports.proofs.LeavesFound.{Searching, search_begins, search_goes_on, search_fails, search_ends, search_shrinks}
 use Rattle.chw_types.proofs.Weights.{all_whole}
 
 pub single_counts : (datas : List Data) (t : TypeTree) (dom : DomId) (payload : TypeTree) (todo todo' : List TypeTree) → t ≡ signal (domain dom.number) payload → Representable datas payload → todo' ≡ todo → CountsOn datas t 1 todo todo'

@@ -10,7 +10,7 @@ use Rattle.chw_check.specs.declared.fault.TypeFault.TheVariants.{NotPorts}
 use Rattle.chw_terms.specs.Tidy.{IsTidy}
 use Rattle.chw_terms.specs.declared.program.Def.{Def}
 use Rattle.chw_terms.specs.declared.program.Program.{Program}
-use Rattle.chw_types.specs.TypeText.{type_text}
+use Rattle.type_ports.specs.TypeText.{type_text}
 use Rattle.chw_types.specs.declared.declarations.Data.{Data}
 use Rattle.chw_typing.specs.Programs.{LeadsToPort}
 use Rattle.chw_check.specs.Fits.{AllDeclarationsFit}

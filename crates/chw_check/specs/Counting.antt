@@ -1,10 +1,10 @@
 -- How many leaves types have.
 use Rattle.std.specs.Prelude.{◌≡◌, ℕ, ◌+◌, ◌≤◌, List, length}
 use Rattle.chw_types.specs.declared.declarations.Data.{Data}
-use Rattle.chw_types.specs.declared.ports.Leaf.{Leaf}
+use Rattle.type_ports.specs.declared.ports.Leaf.{Leaf}
 use Rattle.chw_types.specs.TypeTree.{TypeTree}
-use Rattle.chw_types.specs.Ports.{Leaves}
-use Rattle.chw_types.specs.PortsFound.{Looked}
+use Rattle.type_ports.specs.Ports.{Leaves}
+use Rattle.type_ports.specs.PortsFound.{Looked}
 
 -- the type is a port with so many leaves
 pub record HasLeaves (datas : List Data) (t : TypeTree) (n : ℕ) : Type 0 where

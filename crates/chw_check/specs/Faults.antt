@@ -15,7 +15,7 @@ use Rattle.chw_check.specs.declared.fault.TypeFault.TheVariants.{NoDefault, NotP
 use Rattle.chw_terms.specs.Constructors.{Constructor as Declared, con_at}
 use Rattle.chw_terms.specs.declared.program.Def.{Def}
 use Rattle.chw_terms.specs.declared.program.Program.{Program}
-use Rattle.chw_types.specs.TypeText.{type_text}
+use Rattle.type_ports.specs.TypeText.{type_text}
 use Rattle.chw_types.specs.declared.declarations.Data.{Data}
 use Rattle.chw_check.specs.Fits.{AllDeclarationsFit}
 use Rattle.chw_check.specs.Unkinded.{IsFirstUnkinded}

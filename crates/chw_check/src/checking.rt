@@ -18,7 +18,7 @@ use crate::names::{con_name, data_name, def_name};
 use crate::ports::leads_to_port;
 use chw_base::{Name, NoMemory, Or};
 use chw_terms::Program;
-use chw_types::type_text;
+use type_ports::type_text;
 use chw_typing::named_laws::data_types_in_order;
 use con_places::Constructors;
 use std::alloc::Global;

@@ -1,11 +1,12 @@
 //! How many leaves a port has.
 ghost use Rattle.std.specs.Prelude.{◌≡◌, ◌≤◌, IfOk, IfSome, IfNone, MatchOption};
 ghost use Rattle.chw_check.specs.Counting.{CountsOn, HasLeaves, HasMoreLeaves};
-ghost use Rattle.chw_types.specs.Ports.{IsNoPort};
+ghost use Rattle.type_ports.specs.Ports.{IsNoPort};
 ghost use Rattle.chw_types.specs.References.{HasNoCycle};
 
 use chw_base::NoMemory;
-use chw_types::{PortForm, PortTable, Ty};
+use chw_types::Ty;
+use type_ports::{PortForm, PortTable};
 use std::alloc::Global;
 
 /// How many leaves a closed type has, where it is a port with no more than so many. Nothing comes where it is no port, or has more.

@@ -11,7 +11,7 @@ use Rattle.chw_types.specs.TypeTree.{TypeTree, scalar, vector, data_of, TypeTree
 use Rattle.chw_types.specs.TypeMoves.{Substitution, sub}
 use Rattle.chw_types.specs.Arguments.{list_of, arguments, all_fields}
 use Rattle.chw_types.specs.Polynomials.{greatest, ended}
-use Rattle.chw_types.specs.Representable.{Representable, representable_scalar, representable_vector, representable_data, AllRepresentable, none_to_represent, represent_and}
+use Rattle.type_ports.specs.Representable.{Representable, representable_scalar, representable_vector, representable_data, AllRepresentable, none_to_represent, represent_and}
 use Rattle.chw_layout.specs.declared.outcome.NoLayout.TheVariants.{NotRepresentable, Scalar as OverScalar, Data as OverData, Length as OverLength}
 use Rattle.chw_layout.specs.Measured.{Measure, fits, too_wide, closed_value, tag_width, scalar_measure, data_measure, vector_measure, then_measure, or_measure, tagged_measure, Measured, measured_scalar, measured_vector, measured_data, MeasuredCons, no_cons_measured, con_measured, MeasuredFields, no_fields_measured, field_measured}
 

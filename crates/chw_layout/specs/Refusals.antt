@@ -2,7 +2,7 @@
 use Rattle.std.specs.Prelude.{◌≡◌, ℕ, ◌^◌, ◌≤◌, List}
 use Rattle.chw_types.specs.declared.declarations.Data.{Data}
 use Rattle.chw_types.specs.TypeTree.{TypeTree}
-use Rattle.chw_types.specs.Representable.{Representable}
+use Rattle.type_ports.specs.Representable.{Representable}
 use Rattle.chw_layout.specs.declared.outcome.NoLayout.{NoLayout}
 use Rattle.chw_layout.specs.declared.outcome.NoLayout.TheVariants.{NotRepresentable}
 use Rattle.chw_layout.specs.Measured.{Measure, too_wide, tag_width, Measured}

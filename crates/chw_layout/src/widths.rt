@@ -8,7 +8,8 @@ ghost use Rattle.chw_layout.specs.Refusals.{IsRefusal};
 use crate::measuring::closed_outcome;
 use crate::outcome::{NoLayout, Outcome};
 use chw_base::Or;
-use chw_types::{Data, Ty, representable};
+use chw_types::{Data, Ty};
+use type_ports::representable;
 use std::alloc::Global;
 
 /// How many bits each value of a closed type has.

@@ -6,7 +6,7 @@ use Rattle.chw_types.specs.declared.declarations.Data.{Data}
 use Rattle.chw_types.specs.TypeTree.{TypeTree}
 use Rattle.chw_types.specs.TypeMoves.{Substitution}
 use Rattle.chw_types.specs.Arguments.{all_fields}
-use Rattle.chw_types.specs.Representable.{Representable, representable_data, AllRepresentable, represent_and}
+use Rattle.type_ports.specs.Representable.{Representable, representable_data, AllRepresentable, represent_and}
 use Rattle.chw_terms.specs.declared.program.Program.{Program}
 use Rattle.chw_terms.specs.TermTree.{TermTree}
 use Rattle.chw_layout.specs.Datum.{Datum, word, built, elements, Datums, datum_and}

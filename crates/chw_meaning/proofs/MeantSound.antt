@@ -10,12 +10,12 @@ use Rattle.chw_clock.specs.declared.event.Ports.{Ports}
 use Rattle.chw_clock.specs.Histories.{ticks, has_reset, HaveWidths, FitsEvent, FitsPorts}
 use Rattle.chw_types.specs.declared.declarations.ConDecl.{ConDecl}
 use Rattle.chw_types.specs.declared.declarations.Data.{Data}
-use Rattle.chw_types.specs.declared.ports.Leaf.{Leaf}
+use Rattle.type_ports.specs.declared.ports.Leaf.{Leaf}
 use Rattle.chw_types.specs.declared.kind.Scalar.{Scalar}
 use Rattle.chw_types.specs.TypeTree.{TypeTree, ty_var, nat_lit, nat_sum, nat_product, domain, scalar, vector, data_of, fun, signal, for_all, TypeTrees, no_types}
 use Rattle.chw_types.specs.TypeMoves.{Substitution, sub}
 use Rattle.chw_types.specs.Arguments.{list_of, arguments}
-use Rattle.chw_types.specs.Ports.{leaf_of as port_leaf, Leaves, one_leaf, leaves_of_fields, LeavesOfAll, no_leaves, leaves_and}
+use Rattle.type_ports.specs.Ports.{leaf_of as port_leaf, Leaves, one_leaf, leaves_of_fields, LeavesOfAll, no_leaves, leaves_and}
 use Rattle.chw_terms.specs.declared.program.Program.{Program}
 use Rattle.chw_terms.specs.TermTree.{TermTree, global, con}
 use Rattle.chw_terms.specs.Constructors.{Constructor, con_at}

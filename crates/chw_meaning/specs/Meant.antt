@@ -8,11 +8,11 @@ use Rattle.chw_clock.specs.declared.event.Ports.{Ports}
 use Rattle.chw_clock.specs.Histories.{ticks, has_reset}
 use Rattle.chw_types.specs.declared.declarations.ConDecl.{ConDecl}
 use Rattle.chw_types.specs.declared.declarations.Data.{Data}
-use Rattle.chw_types.specs.declared.ports.Leaf.{Leaf}
+use Rattle.type_ports.specs.declared.ports.Leaf.{Leaf}
 use Rattle.chw_types.specs.TypeTree.{TypeTree, domain, scalar, vector, data_of, fun, signal, TypeTrees, no_types}
 use Rattle.chw_types.specs.TypeMoves.{Substitution, sub}
 use Rattle.chw_types.specs.Arguments.{list_of, arguments}
-use Rattle.chw_types.specs.Ports.{leaf_of as port_leaf}
+use Rattle.type_ports.specs.Ports.{leaf_of as port_leaf}
 use Rattle.chw_terms.specs.declared.program.Def.{Def}
 use Rattle.chw_terms.specs.declared.program.Program.{Program}
 use Rattle.chw_terms.specs.TermTree.{TermTree, global, con}

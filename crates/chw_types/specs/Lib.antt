@@ -6,12 +6,7 @@ pub mod KindFound
 pub mod Kinds
 pub mod NormalSums
 pub mod Polynomials
-pub mod Ports
-pub mod PortsFound
 pub mod References
-pub mod Representable
-pub mod RowsFound
-pub mod RowsRight
 pub mod SameFound
 pub mod SamePromises
 pub mod SameTypes
@@ -23,7 +18,6 @@ pub mod TypeFalls
 pub mod TypeMoves
 pub mod TypePromises
 pub mod TypeSize
-pub mod TypeText
 pub mod TypeTree
 pub mod TypeView
 pub mod Forms

@@ -26,8 +26,9 @@ pub fn put_arguments(alloc: Global, field: &Ty, args: &[Ty]) -> Result<Ty, NoMem
     Ok(put_arguments_within(alloc, field, args, &mut parts)?)
 }
 
-/// The same, but the parts of the result are taken from `parts`, and there is room for no more.
-pub(crate) fn put_arguments_within(
+/// The field with the arguments put in, as by `put_arguments`, whose parts are taken from `parts`: where fewer are left, the answer is
+/// want of memory.
+pub fn put_arguments_within(
     alloc: Global,
     field: &Ty,
     args: &[Ty],

@@ -7,8 +7,8 @@ use crate::ty::{Ty, TyNode};
 use chw_base::NoMemory;
 use std::alloc::Global;
 
-// The sort of a scalar.
-pub(crate) fn sort_of(t: &Ty) -> Scalar
+/// The sort of a scalar type, and `B` for any other.
+pub fn sort_of(t: &Ty) -> Scalar
     ensures { result ≡ sort_of t.now }
 {
     match &t.node {

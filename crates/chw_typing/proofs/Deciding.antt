@@ -6,13 +6,13 @@ use Rattle.std.proofs.lemmas.Bool.{eqb-true, eq-eqb}
 use Rattle.std.proofs.lemmas.Option.{none-some}
 use Rattle.chw_types.specs.declared.declarations.ConDecl.{ConDecl}
 use Rattle.chw_types.specs.declared.declarations.Data.{Data}
-use Rattle.chw_types.specs.declared.ports.Leaf.{Leaf}
+use Rattle.type_ports.specs.declared.ports.Leaf.{Leaf}
 use Rattle.chw_types.specs.TypeTree.{TypeTree, ty_var, nat_lit, nat_sum, nat_product, domain, scalar, vector, data_of, fun, signal, for_all, TypeTrees}
 use Rattle.chw_types.specs.TypeMoves.{Substitution, sub}
 use Rattle.chw_types.specs.Arguments.{list_of, arguments, all_fields}
 use Rattle.chw_types.specs.References.{HasNoCycle}
-use Rattle.chw_types.specs.Representable.{Representable, representable_scalar, representable_vector, representable_data, AllRepresentable, none_to_represent, represent_and}
-use Rattle.chw_types.specs.Ports.{Leaves, one_leaf, leaves_of_fields, LeavesOfAll, no_leaves, leaves_and, IsPort}
+use Rattle.type_ports.specs.Representable.{Representable, representable_scalar, representable_vector, representable_data, AllRepresentable, none_to_represent, represent_and}
+use Rattle.type_ports.specs.Ports.{Leaves, one_leaf, leaves_of_fields, LeavesOfAll, no_leaves, leaves_and, IsPort}
 use Rattle.chw_types.proofs.Weights.{whole, all_whole, unfolded, whole_vector}
 use Rattle.chw_typing.proofs.NamedParts.{fields_of_one, element_representable}
 

@@ -5,13 +5,13 @@ use Rattle.std.specs.List.{slice_get, AllByRecursion}
 use Rattle.chw_types.specs.declared.kind.Kind.{Kind}
 use Rattle.chw_types.specs.declared.kind.Kind.TheVariants.{Val, Cir}
 use Rattle.chw_types.specs.declared.declarations.Data.{Data}
-use Rattle.chw_types.specs.declared.ports.Leaf.{Leaf}
+use Rattle.type_ports.specs.declared.ports.Leaf.{Leaf}
 use Rattle.chw_types.specs.TypeTree.{TypeTree, data_of, TypeTrees}
 use Rattle.chw_types.specs.TypeMoves.{Substitution, sub}
 use Rattle.chw_types.specs.Arguments.{arguments, all_fields}
 use Rattle.chw_types.specs.Kinds.{KindOf, kind_scalar, kind_vector, kind_data, kind_signal, KindsOf}
-use Rattle.chw_types.specs.Representable.{Representable, representable_scalar, representable_vector, representable_data, AllRepresentable, none_to_represent, represent_and}
-use Rattle.chw_types.specs.Ports.{Leaves, one_leaf, leaves_of_fields, LeavesOfAll, leaves_and}
+use Rattle.type_ports.specs.Representable.{Representable, representable_scalar, representable_vector, representable_data, AllRepresentable, none_to_represent, represent_and}
+use Rattle.type_ports.specs.Ports.{Leaves, one_leaf, leaves_of_fields, LeavesOfAll, leaves_and}
 use Rattle.chw_terms.specs.References.{IsField}
 use Rattle.chw_terms.specs.Tidy.{HasCircuit}
 use Rattle.chw_typing.specs.Scopes.{Setting, HasKind}

@@ -5,12 +5,12 @@ use Rattle.std.specs.List.{slice_get, AllByRecursion}
 use Rattle.std.proofs.lemmas.List.{append-nil}
 use Rattle.chw_types.specs.declared.declarations.ConDecl.{ConDecl}
 use Rattle.chw_types.specs.declared.declarations.Data.{Data}
-use Rattle.chw_types.specs.declared.ports.Leaf.{Leaf}
+use Rattle.type_ports.specs.declared.ports.Leaf.{Leaf}
 use Rattle.chw_types.specs.TypeTree.{TypeTree, vector, data_of, TypeTrees}
 use Rattle.chw_types.specs.TypeMoves.{Substitution, sub}
 use Rattle.chw_types.specs.Arguments.{arguments, all_fields}
-use Rattle.chw_types.specs.Representable.{Representable, representable_vector, representable_data, AllRepresentable, none_to_represent, represent_and}
-use Rattle.chw_types.specs.Ports.{Leaves, one_leaf, leaves_of_fields, LeavesOfAll, no_leaves, leaves_and, IsPort}
+use Rattle.type_ports.specs.Representable.{Representable, representable_vector, representable_data, AllRepresentable, none_to_represent, represent_and}
+use Rattle.type_ports.specs.Ports.{Leaves, one_leaf, leaves_of_fields, LeavesOfAll, no_leaves, leaves_and, IsPort}
 use Rattle.chw_terms.specs.References.{IsField}
 
 one_of : {X : Type 0} (P : X → Type 0) (xs : List X) (i : ℕ) (x : X) → slice_get xs i ≡ Some x → AllByRecursion P xs → P x

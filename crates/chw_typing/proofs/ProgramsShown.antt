@@ -3,12 +3,12 @@ use Rattle.std.proofs.Common.{◌≡◌, ℕ, ◌<◌, Bool, ◌⊎◌, inl, inr
 use Rattle.std.specs.Prelude.{Option, Some, None, codes}
 use Rattle.std.specs.List.{slice_get}
 use Rattle.chw_types.specs.declared.declarations.Data.{Data}
-use Rattle.chw_types.specs.declared.ports.Leaf.{Leaf}
+use Rattle.type_ports.specs.declared.ports.Leaf.{Leaf}
 use Rattle.chw_types.specs.declared.kind.Kind.{Kind}
 use Rattle.chw_types.specs.declared.kind.Scalar.{Scalar}
 use Rattle.chw_types.specs.declared.kind.Scalar.TheVariants.{U}
 use Rattle.chw_types.specs.BuiltIn.{built_in, data_type_of, constructor_of}
-use Rattle.chw_types.specs.Ports.{Leaves, one_leaf, leaves_of_fields}
+use Rattle.type_ports.specs.Ports.{Leaves, one_leaf, leaves_of_fields}
 use Rattle.chw_types.specs.SameTypes.{SameTypes}
 use Rattle.chw_types.specs.TypeTree.{TypeTree, fun, scalar, nat_lit}
 use Rattle.chw_prims.specs.Schemas.{bool}

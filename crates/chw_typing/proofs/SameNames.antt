@@ -3,14 +3,14 @@ use Rattle.std.proofs.Common.{refl, sym, ap, subst, ◌∙◌, List, [], ◌∷�
 use Rattle.std.specs.List.{slice_get}
 use Rattle.chw_types.specs.declared.kind.Kind.{Kind}
 use Rattle.chw_types.specs.declared.kind.Kind.TheVariants.{Val}
-use Rattle.chw_types.specs.declared.ports.Leaf.{Leaf}
+use Rattle.type_ports.specs.declared.ports.Leaf.{Leaf}
 use Rattle.chw_types.specs.TypeTree.{TypeTree, domain, vector, signal}
 use Rattle.chw_types.specs.TypeMoves.{Substitution}
 use Rattle.chw_types.specs.Arguments.{arguments}
 use Rattle.chw_types.specs.Kinds.{kind_vector, kind_signal}
 use Rattle.chw_types.specs.SameTypes.{SameTypes}
-use Rattle.chw_types.specs.Representable.{Representable, representable_scalar, representable_vector, representable_data, AllRepresentable, none_to_represent, represent_and}
-use Rattle.chw_types.specs.Ports.{leaf_of, Leaves, one_leaf, leaves_of_fields, LeavesOfAll, no_leaves, leaves_and}
+use Rattle.type_ports.specs.Representable.{Representable, representable_scalar, representable_vector, representable_data, AllRepresentable, none_to_represent, represent_and}
+use Rattle.type_ports.specs.Ports.{leaf_of, Leaves, one_leaf, leaves_of_fields, LeavesOfAll, no_leaves, leaves_and}
 use Rattle.type_laws.specs.SameKept.{FieldsKeepSame}
 use Rattle.type_laws.proofs.SameForms.{as_domain, as_scalar, as_vector, as_data, as_signal}
 use Rattle.chw_typing.specs.Scopes.{Setting, HasKind}

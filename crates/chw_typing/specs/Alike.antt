@@ -1,11 +1,11 @@
 -- Closed types that are the same up to naturals are named alike.
 use Rattle.std.specs.Prelude.{◌≡◌, List, [], ◌∷◌}
 use Rattle.chw_types.specs.declared.kind.Kind.{Kind}
-use Rattle.chw_types.specs.declared.ports.Leaf.{Leaf}
+use Rattle.type_ports.specs.declared.ports.Leaf.{Leaf}
 use Rattle.chw_types.specs.TypeTree.{TypeTree}
 use Rattle.chw_types.specs.SameTypes.{SameTypes}
-use Rattle.chw_types.specs.Representable.{Representable}
-use Rattle.chw_types.specs.Ports.{Leaves}
+use Rattle.type_ports.specs.Representable.{Representable}
+use Rattle.type_ports.specs.Ports.{Leaves}
 use Rattle.chw_typing.specs.Scopes.{Setting, HasKind}
 use Rattle.chw_typing.specs.Programs.{IsSound}
 

@@ -9,8 +9,8 @@ use Rattle.chw_types.specs.TypeMoves.{sub}
 use Rattle.chw_types.specs.Arguments.{arguments}
 use Rattle.chw_types.specs.Kinds.{KindsOf}
 use Rattle.chw_types.specs.References.{HasNoCycle as HasOrder}
-use Rattle.chw_types.specs.Representable.{Representable}
-use Rattle.chw_types.specs.Ports.{IsPort, IsNoPort}
+use Rattle.type_ports.specs.Representable.{Representable}
+use Rattle.type_ports.specs.Ports.{IsPort, IsNoPort}
 use Rattle.chw_terms.specs.References.{IsField, DataRefers}
 use Rattle.graph_order.specs.References.{HasNoCycle}
 use Rattle.chw_typing.specs.Scopes.{Setting, HasKind}

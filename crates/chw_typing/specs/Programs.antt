@@ -2,10 +2,10 @@
 use Rattle.std.specs.Prelude.{◌≡◌, ℕ, ◌+◌, List, [], ◌++◌, map, length, reverse, Some}
 use Rattle.std.specs.List.{slice_get}
 use Rattle.chw_types.specs.declared.declarations.Data.{Data}
-use Rattle.chw_types.specs.declared.ports.Leaf.{Leaf}
+use Rattle.type_ports.specs.declared.ports.Leaf.{Leaf}
 use Rattle.chw_types.specs.TypeTree.{TypeTree, fun}
 use Rattle.chw_types.specs.BuiltIn.{built_in}
-use Rattle.chw_types.specs.Ports.{Leaves}
+use Rattle.type_ports.specs.Ports.{Leaves}
 use Rattle.chw_terms.specs.declared.program.Def.{Def}
 use Rattle.chw_terms.specs.declared.program.Program.{Program}
 use Rattle.chw_terms.specs.TermTree.{TermTree, Terms, Group, Alts}

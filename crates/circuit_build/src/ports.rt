@@ -1,13 +1,14 @@
 //! The parts of ports: one for each leaf.
 ghost use Rattle.std.specs.Prelude.{◌≡◌, ◌++◌, map, IfOk, OnOk};
 ghost use Rattle.chw_terms.specs.declared.scene.Sort.TheVariants.{Circuit, Value};
-ghost use Rattle.chw_types.specs.Ports.{Leaves};
+ghost use Rattle.type_ports.specs.Ports.{Leaves};
 ghost use Rattle.net_built.specs.Data.{HaveWidths, HasParts};
 ghost use Rattle.net_built.specs.Wires.{wire_count};
 
 use chw_base::NoMemory;
 use chw_terms::Sort;
-use chw_types::{Leaf, Ty, leaves};
+use chw_types::Ty;
+use type_ports::{Leaf, leaves};
 use net_pieces::parts;
 use std::alloc::Global;
 use value_build::Base;

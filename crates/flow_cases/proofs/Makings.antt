@@ -3,7 +3,7 @@ use Rattle.std.proofs.Common.{◌≡◌, ◌∙◌, ◌==◌, ℕ, suc, sym, ap,
 use Rattle.chw_base.specs.declared.index.ConId.{ConId}
 use Rattle.chw_types.specs.declared.declarations.Data.{Data}
 use Rattle.chw_types.specs.declared.kind.Scalar.{Scalar}
-use Rattle.chw_types.specs.Ports.{IsPort}
+use Rattle.type_ports.specs.Ports.{IsPort}
 use Rattle.chw_types.specs.TypeTree.{TypeTree, data_of}
 use Rattle.chw_types.specs.TypeView.{trees_of}
 use Rattle.chw_terms.specs.Constructors.{Constructor, con_at}

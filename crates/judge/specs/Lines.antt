@@ -6,7 +6,7 @@ use Rattle.chw_layout.specs.declared.outcome.NoLayout.{NoLayout}
 use Rattle.chw_layout.specs.declared.outcome.NoLayout.TheVariants.{NotRepresentable, Scalar}
 use Rattle.chw_layout.specs.declared.outcome.NoLayout.TheVariants.{Data, Length}
 use Rattle.chw_terms.specs.declared.program.Program.{Program}
-use Rattle.chw_types.specs.TypeText.{type_text}
+use Rattle.type_ports.specs.TypeText.{type_text}
 use Rattle.chw_types.specs.TypeTree.{TypeTree}
 use Rattle.normal_forms.specs.Blocked.{Block, recursion, payload, limit}
 use Rattle.blocked_places.specs.Answers.{block_of}

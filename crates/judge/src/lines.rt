@@ -8,7 +8,8 @@ use blocked_places::Block;
 use chw_base::{MadeId, NoMemory};
 use chw_layout::NoLayout;
 use chw_terms::Program;
-use chw_types::{Ty, type_text};
+use chw_types::Ty;
+use type_ports::type_text;
 use itoa::Buffer;
 use std::alloc::Global;
 

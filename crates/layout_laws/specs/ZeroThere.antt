@@ -2,7 +2,7 @@
 use Rattle.std.specs.Prelude.{ℕ, List}
 use Rattle.chw_types.specs.declared.declarations.Data.{Data}
 use Rattle.chw_types.specs.TypeTree.{TypeTree}
-use Rattle.chw_types.specs.Representable.{Representable}
+use Rattle.type_ports.specs.Representable.{Representable}
 use Rattle.chw_layout.specs.Datum.{Datum}
 use Rattle.chw_layout.specs.Measured.{HasWidth}
 use Rattle.chw_layout.specs.Encodes.{HaveConstructors}

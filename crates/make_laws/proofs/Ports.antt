@@ -14,9 +14,9 @@ use Rattle.chw_terms.specs.declared.program.Def.{Def}
 use Rattle.chw_terms.specs.declared.program.Program.{Program}
 use Rattle.chw_terms.specs.declared.program.Top.{Top}
 use Rattle.chw_types.specs.declared.declarations.Data.{Data}
-use Rattle.chw_types.specs.declared.ports.Leaf.{Leaf}
-use Rattle.chw_types.specs.Ports.{one_leaf}
-use Rattle.chw_types.specs.Representable.{representable_scalar}
+use Rattle.type_ports.specs.declared.ports.Leaf.{Leaf}
+use Rattle.type_ports.specs.Ports.{one_leaf}
+use Rattle.type_ports.specs.Representable.{representable_scalar}
 use Rattle.chw_types.specs.SamePromises.{natural_value}
 use Rattle.chw_types.specs.TypeTree.{TypeTree, domain, fun, signal}
 use Rattle.make_text.specs.MakeTree.{make_tree}

@@ -3,9 +3,9 @@ use Rattle.std.specs.Prelude.{◌≡◌, ℕ, List, [], ◌∷◌, codes}
 use Rattle.chw_clock.specs.declared.event.Port.{Port}
 use Rattle.chw_clock.specs.declared.event.Ports.{Ports}
 use Rattle.chw_types.specs.TypeTree.{TypeTree, nat_lit, scalar}
-use Rattle.chw_types.specs.Ports.{leaf_of}
+use Rattle.type_ports.specs.Ports.{leaf_of}
 use Rattle.chw_types.specs.declared.kind.Scalar.TheVariants.{U}
-use Rattle.chw_types.specs.declared.ports.Leaf.{Leaf}
+use Rattle.type_ports.specs.declared.ports.Leaf.{Leaf}
 use Rattle.chw_terms.specs.declared.program.Program.{Program}
 use Rattle.chw_meaning.specs.Means.{HasPorts}
 

@@ -6,7 +6,8 @@ ghost use Rattle.net_build.specs.Ports.{AddsLeaves, AddsPort, ArePorts, IsLedTo}
 use chw_base::{Name, NoMemory, Seq};
 use chw_clock::{Port, Ports};
 use chw_terms::Program;
-use chw_types::{Leaf, Ty, TyNode};
+use chw_types::{Ty, TyNode};
+use type_ports::Leaf;
 use circuit_build::ports::port_leaves;
 use std::alloc::Global;
 use value_build::Base;

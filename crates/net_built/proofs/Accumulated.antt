@@ -1,8 +1,8 @@
 -- The accumulator's net is built.
 use Rattle.std.proofs.Common.{refl, [], ◌∷◌}
 use Rattle.chw_types.specs.BuiltIn.{built_in}
-use Rattle.chw_types.specs.Ports.{Leaves, leaf_of, one_leaf}
-use Rattle.chw_types.specs.Representable.{representable_scalar}
+use Rattle.type_ports.specs.Ports.{Leaves, leaf_of, one_leaf}
+use Rattle.type_ports.specs.Representable.{representable_scalar}
 use Rattle.chw_types.specs.SamePromises.{natural_value}
 use Rattle.chw_terms.specs.declared.scene.Sort.TheVariants.{Circuit}
 use Rattle.chw_layout.specs.Datum.{word as Word}

@@ -2,8 +2,8 @@
 use Rattle.std.proofs.Common.{ℕ, true, false, refl, arith, List, [], ◌∷◌}
 use Rattle.chw_types.specs.BuiltIn.{built_in}
 use Rattle.chw_types.specs.declared.declarations.Data.{Data}
-use Rattle.chw_types.specs.Ports.{one_leaf, leaves_of_fields, no_leaves, leaves_and}
-use Rattle.chw_types.specs.Representable.{Representable, representable_scalar, representable_data, none_to_represent, represent_and}
+use Rattle.type_ports.specs.Ports.{one_leaf, leaves_of_fields, no_leaves, leaves_and}
+use Rattle.type_ports.specs.Representable.{Representable, representable_scalar, representable_data, none_to_represent, represent_and}
 use Rattle.chw_types.specs.SamePromises.{natural_value}
 use Rattle.chw_types.specs.TypeMoves.{rename, up, sub}
 use Rattle.chw_types.specs.TypeTree.{TypeTree, nat_lit, scalar, data_of, no_types}

@@ -3,11 +3,11 @@ use Rattle.std.specs.Prelude.{List, [], map, ◌++◌, ◌∷◌, ◌≡◌}
 use Rattle.chw_layout.specs.Datum.{Datum}
 use Rattle.chw_meaning.specs.Gives.{Input, LeafOf, PortGiven, PortLeaves, stream_in}
 use Rattle.chw_meaning.specs.Values.{Thunk}
-use Rattle.chw_types.specs.Ports.{Leaves}
+use Rattle.type_ports.specs.Ports.{Leaves}
 use Rattle.chw_types.specs.TypeTree.{TypeTree}
 use Rattle.chw_types.specs.declared.declarations.ConDecl.{ConDecl}
 use Rattle.chw_types.specs.declared.declarations.Data.{Data}
-use Rattle.chw_types.specs.declared.ports.Leaf.{Leaf}
+use Rattle.type_ports.specs.declared.ports.Leaf.{Leaf}
 use Rattle.layout_laws.specs.LeavesAgree.{AreStreams, payloads, result_payloads}
 
 -- facts on leaves of ports

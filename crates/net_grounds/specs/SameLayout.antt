@@ -3,12 +3,12 @@ use Rattle.std.specs.Prelude.{List, ◌≡◌}
 use Rattle.chw_layout.specs.Datum.{Datum}
 use Rattle.chw_layout.specs.Measured.{Measure, Measured, closed_value}
 use Rattle.chw_meaning.specs.Zeros.{IsZero}
-use Rattle.chw_types.specs.Ports.{Leaves}
-use Rattle.chw_types.specs.Representable.{Representable}
+use Rattle.type_ports.specs.Ports.{Leaves}
+use Rattle.type_ports.specs.Representable.{Representable}
 use Rattle.chw_types.specs.SamePromises.{SameValues}
 use Rattle.chw_types.specs.SameTypes.{SameTypes}
 use Rattle.chw_types.specs.TypeTree.{TypeTree}
-use Rattle.chw_types.specs.declared.ports.Leaf.{Leaf}
+use Rattle.type_ports.specs.declared.ports.Leaf.{Leaf}
 use Rattle.chw_typing.specs.Alike.{AreLike, AreSameLeaves}
 use Rattle.chw_typing.specs.Programs.{IsSound}
 use Rattle.chw_typing.specs.Scopes.{Setting}

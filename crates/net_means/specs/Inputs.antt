@@ -1,8 +1,8 @@
 -- The inputs of a built net's top at the histories of a program.
 use Rattle.std.specs.Prelude.{List}
 use Rattle.chw_types.specs.TypeTree.{TypeTree}
-use Rattle.chw_types.specs.Ports.{Leaves}
-use Rattle.chw_types.specs.declared.ports.Leaf.{Leaf}
+use Rattle.type_ports.specs.Ports.{Leaves}
+use Rattle.type_ports.specs.declared.ports.Leaf.{Leaf}
 use Rattle.chw_meaning.specs.Gives.{Input, OnInputs}
 use Rattle.chw_meaning.specs.Values.{History, Thunk}
 use Rattle.carrying.specs.TermLaws.{on_thunks}

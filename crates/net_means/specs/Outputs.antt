@@ -1,7 +1,7 @@
 -- What the outputs of a flat net are to have: the bits of what the program means.
 use Rattle.std.specs.Prelude.{◌≡◌, ℕ, ◌<◌, Bool, List, length, Some, slice_get}
 use Rattle.chw_base.specs.declared.index.WireId.{WireId}
-use Rattle.chw_types.specs.declared.ports.Leaf.{Leaf}
+use Rattle.type_ports.specs.declared.ports.Leaf.{Leaf}
 use Rattle.chw_terms.specs.declared.program.Program.{Program}
 use Rattle.chw_layout.specs.Datum.{Datum}
 use Rattle.chw_layout.specs.Encodes.{Encodes}

@@ -1,6 +1,6 @@
 -- Right sides of circuits, by their heads and arguments.
 use Rattle.std.proofs.Common.{◌≡◌, ◌∙◌, ◌↔◌, inl, inr, sym, ap, refl, subst, ℕ, suc, ◌≤◌, arith, Bool, IsTrue, List, [], ◌∷◌, length}
-use Rattle.chw_types.specs.Ports.{IsPort}
+use Rattle.type_ports.specs.Ports.{IsPort}
 use Rattle.chw_types.specs.TypeTree.{TypeTree}
 use Rattle.chw_prims.specs.declared.prim.Primitive.{Primitive as Prim}
 use Rattle.chw_prims.specs.declared.prim.Primitive.TheVariants.{Register, BlockRam, UnsafeSynchronizer, Pure, Fmap, Ap}

@@ -3,10 +3,10 @@ use Rattle.std.proofs.Common.{◌≡◌, ◌∙◌, sym, ap, refl, subst, ℕ, L
 use Rattle.std.specs.List.{AllByRecursion}
 use Rattle.chw_types.specs.declared.declarations.Data.{Data}
 use Rattle.chw_types.specs.declared.kind.Kind.{Kind}
-use Rattle.chw_types.specs.declared.ports.Leaf.{Leaf}
+use Rattle.type_ports.specs.declared.ports.Leaf.{Leaf}
 use Rattle.chw_types.specs.Kinds.{KindOf}
-use Rattle.chw_types.specs.Ports.{Leaves, one_leaf, leaves_of_fields}
-use Rattle.chw_types.specs.Representable.{Representable, representable_scalar, representable_vector, representable_data}
+use Rattle.type_ports.specs.Ports.{Leaves, one_leaf, leaves_of_fields}
+use Rattle.type_ports.specs.Representable.{Representable, representable_scalar, representable_vector, representable_data}
 use Rattle.chw_types.specs.SamePromises.{SameSymmetric}
 use Rattle.chw_types.specs.TypeTree.{TypeTree, fun}
 use Rattle.chw_terms.specs.declared.scene.Mode.{Mode}

@@ -1,7 +1,7 @@
 -- Right sides of circuits, by their heads.
 use Rattle.std.specs.Prelude.{◌⊎◌, ℕ, ◌<◌, List, [], ◌∷◌}
 use Rattle.chw_types.specs.declared.declarations.Data.{Data}
-use Rattle.chw_types.specs.Ports.{IsPort}
+use Rattle.type_ports.specs.Ports.{IsPort}
 use Rattle.chw_prims.specs.declared.prim.Primitive.{Primitive as Prim}
 use Rattle.chw_prims.specs.declared.prim.Primitive.TheVariants.{Register, BlockRam, Pure}
 use Rattle.chw_prims.specs.declared.prim.Primitive.TheVariants.{UnsafeSynchronizer, Fmap, Ap}

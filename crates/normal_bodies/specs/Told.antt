@@ -1,6 +1,6 @@
 -- What tests of forms tell of typed terms.
 use Rattle.std.specs.Prelude.{◌↔◌, Bool, IsTrue, List, []}
-use Rattle.chw_types.specs.Representable.{Representable}
+use Rattle.type_ports.specs.Representable.{Representable}
 use Rattle.chw_types.specs.TypeTree.{TypeTree}
 use Rattle.chw_terms.specs.declared.scene.Sort.{Sort}
 use Rattle.chw_terms.specs.declared.term.Binding.{Binding}

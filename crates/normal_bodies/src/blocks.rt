@@ -16,7 +16,7 @@ use crate::cycles::has_no_cycle;
 use crate::names::{are_none, is_variable, is_vector_on_names};
 use chw_base::NoMemory;
 use chw_terms::{Alt, Arg, Binding, Head, Scene, Sort, Term};
-use chw_types::representable;
+use type_ports::representable;
 use rewriting::scene_laws::settings_of_scenes;
 use std::alloc::Global;
 use term_types::Signature;

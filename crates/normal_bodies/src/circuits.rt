@@ -16,7 +16,7 @@ use crate::signals::is_signal_side;
 use chw_base::NoMemory;
 use chw_prims::Prim;
 use chw_terms::{Arg, Binding, Head, Scene, Sort, Term};
-use chw_types::leaves;
+use type_ports::leaves;
 use std::alloc::Global;
 use term_types::Signature;
 

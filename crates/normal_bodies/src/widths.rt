@@ -2,7 +2,7 @@
 ghost use Rattle.std.specs.Prelude.{◌↔◌, ℕ, map, IfOk, IsTrue};
 ghost use Rattle.std.specs.List.{AllByRecursion};
 ghost use Rattle.chw_types.specs.References.{HasNoCycle};
-ghost use Rattle.chw_types.specs.Representable.{Representable};
+ghost use Rattle.type_ports.specs.Representable.{Representable};
 ghost use Rattle.chw_layout.specs.Measured.{HasWidth};
 ghost use Rattle.normal_forms.specs.Normal.{HoldsWidths};
 ghost use Rattle.normal_forms.specs.Parts.{EachDeclared};
@@ -13,7 +13,8 @@ use chw_base::{NoMemory, Or};
 use chw_layout::laws::{measured_types, one_measure};
 use chw_layout::width;
 use chw_terms::Term;
-use chw_types::{Data, Leaf, Ty, leaves, representable};
+use chw_types::{Data, Ty};
+use type_ports::{Leaf, leaves, representable};
 use std::alloc::Global;
 
 /// Whether a type has a width.

@@ -6,10 +6,10 @@ use Rattle.chw_types.specs.BuiltIn.{built_in}
 use Rattle.chw_types.specs.declared.declarations.Data.{Data}
 use Rattle.chw_types.specs.declared.kind.Kind.{Kind}
 use Rattle.chw_types.specs.declared.kind.Kind.TheVariants.{Dom, Val, Cir}
-use Rattle.chw_types.specs.declared.ports.Leaf.{Leaf}
+use Rattle.type_ports.specs.declared.ports.Leaf.{Leaf}
 use Rattle.chw_types.specs.KindFound.{kind_found}
-use Rattle.chw_types.specs.Ports.{Leaves, one_leaf, leaves_of_fields}
-use Rattle.chw_types.specs.Representable.{Representable}
+use Rattle.type_ports.specs.Ports.{Leaves, one_leaf, leaves_of_fields}
+use Rattle.type_ports.specs.Representable.{Representable}
 use Rattle.chw_types.specs.SamePromises.{natural_value}
 use Rattle.chw_types.specs.TypeMoves.{sub, rename, up, up_by, put_at}
 use Rattle.chw_types.specs.TypeTree.{TypeTree, ty_var, domain, fun, signal, for_all}

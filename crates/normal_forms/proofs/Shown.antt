@@ -3,10 +3,10 @@ use Rattle.std.proofs.Common.{◌≡◌, inl, inr, ℕ, suc, zero, ◌<◌, ◌=
 use Rattle.std.proofs.lemmas.Bool.{eqb-true, or_cases}
 use Rattle.chw_types.specs.declared.declarations.Data.{Data}
 use Rattle.chw_types.specs.declared.kind.Scalar.TheVariants.{U}
-use Rattle.chw_types.specs.declared.ports.Leaf.{Leaf}
-use Rattle.chw_types.specs.Ports.{IsPort, Leaves, one_leaf, leaves_of_fields}
+use Rattle.type_ports.specs.declared.ports.Leaf.{Leaf}
+use Rattle.type_ports.specs.Ports.{IsPort, Leaves, one_leaf, leaves_of_fields}
 use Rattle.chw_types.specs.SamePromises.{natural_value}
-use Rattle.chw_types.specs.Representable.{representable_scalar}
+use Rattle.type_ports.specs.Representable.{representable_scalar}
 use Rattle.chw_types.specs.TypeTree.{TypeTree, nat_lit, domain, scalar, fun}
 use Rattle.chw_prims.specs.declared.prim.Primitive.TheVariants.{AddU, Register, Ap}
 use Rattle.chw_terms.specs.declared.scene.Made.{Made}

@@ -1,7 +1,7 @@
 -- The worked examples of blocked places.
 use Rattle.std.proofs.Common.{◌≡◌, inl, inr, ℕ, suc, zero, refl, sym, subst, arith, List, [], ◌∷◌, Some}
 use Rattle.chw_types.specs.declared.declarations.Data.{Data}
-use Rattle.chw_types.specs.Representable.{Representable, representable_scalar}
+use Rattle.type_ports.specs.Representable.{Representable, representable_scalar}
 use Rattle.chw_types.specs.SamePromises.{natural_value}
 use Rattle.chw_types.specs.TypeMoves.{sub}
 use Rattle.chw_types.specs.TypeTree.{TypeTree, nat_lit, domain, fun}

@@ -4,9 +4,9 @@ use Rattle.std.specs.Prelude.{Some}
 use Rattle.std.specs.List.{slice_get, AllByRecursion}
 use Rattle.chw_base.specs.declared.limits.TheConstants.{SCALAR_BITS, VECTOR_LENGTH}
 use Rattle.chw_types.specs.declared.declarations.Data.{Data}
-use Rattle.chw_types.specs.declared.ports.Leaf.{Leaf}
-use Rattle.chw_types.specs.Ports.{Leaves}
-use Rattle.chw_types.specs.Representable.{Representable}
+use Rattle.type_ports.specs.declared.ports.Leaf.{Leaf}
+use Rattle.type_ports.specs.Ports.{Leaves}
+use Rattle.type_ports.specs.Representable.{Representable}
 use Rattle.chw_types.specs.TypeTree.{TypeTree, nat_lit, scalar, vector, fun, for_all}
 use Rattle.chw_prims.specs.declared.prim.Primitive.{Primitive as Prim}
 use Rattle.chw_prims.specs.declared.prim.Primitive.TheVariants.{Register, BlockRam}

@@ -2,9 +2,9 @@
 use Rattle.std.specs.Prelude.{◌≡◌, ℕ, List, [], ◌∷◌, Some, Contains}
 use Rattle.std.specs.List.{slice_get, AllByRecursion}
 use Rattle.chw_types.specs.declared.declarations.Data.{Data}
-use Rattle.chw_types.specs.declared.ports.Leaf.{Leaf}
-use Rattle.chw_types.specs.Ports.{Leaves}
-use Rattle.chw_types.specs.Representable.{Representable}
+use Rattle.type_ports.specs.declared.ports.Leaf.{Leaf}
+use Rattle.type_ports.specs.Ports.{Leaves}
+use Rattle.type_ports.specs.Representable.{Representable}
 use Rattle.chw_types.specs.TypeTree.{TypeTree}
 use Rattle.chw_terms.specs.declared.program.Program.{Program}
 use Rattle.chw_terms.specs.declared.rule.Rule.{Rule}

@@ -2,8 +2,8 @@
 use Rattle.std.specs.Prelude.{◌≡◌, ◌⊎◌, ℕ, List, [], ◌∷◌, Some}
 use Rattle.std.specs.List.{AllByRecursion}
 use Rattle.chw_types.specs.declared.declarations.Data.{Data}
-use Rattle.chw_types.specs.Ports.{IsPort}
-use Rattle.chw_types.specs.Representable.{Representable}
+use Rattle.type_ports.specs.Ports.{IsPort}
+use Rattle.type_ports.specs.Representable.{Representable}
 use Rattle.chw_types.specs.TypeMoves.{Renaming}
 use Rattle.chw_types.specs.TypeTree.{TypeTree}
 use Rattle.chw_terms.specs.TermTree.{TermTree, lam, ty_lam, letrec, case_of}

@@ -5,8 +5,8 @@ use Rattle.std.specs.List.{AllByRecursion}
 use Rattle.std.proofs.lemmas.List.{append-nil, reverse-append}
 use Rattle.chw_types.specs.declared.declarations.Data.{Data}
 use Rattle.chw_types.specs.Arguments.{arguments}
-use Rattle.chw_types.specs.Ports.{IsPort}
-use Rattle.chw_types.specs.Representable.{Representable}
+use Rattle.type_ports.specs.Ports.{IsPort}
+use Rattle.type_ports.specs.Representable.{Representable}
 use Rattle.chw_types.specs.TypeMoves.{Substitution, sub}
 use Rattle.chw_types.specs.TypeTree.{TypeTree, data_of}
 use Rattle.chw_prims.specs.declared.prim.Primitive.{Primitive as Prim}

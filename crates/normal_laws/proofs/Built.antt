@@ -3,9 +3,9 @@ use Rattle.std.proofs.Common.{◌≡◌, ℕ, zero, suc, Bool, true, false, List
 use Rattle.std.specs.Prelude.{option_and_then}
 use Rattle.chw_types.specs.declared.declarations.Data.{Data}
 use Rattle.chw_types.specs.declared.kind.Kind.{Kind}
-use Rattle.chw_types.specs.declared.ports.Leaf.{Leaf}
-use Rattle.chw_types.specs.Representable.{Representable, representable_scalar, representable_vector, representable_data}
-use Rattle.chw_types.specs.Ports.{Leaves, one_leaf, leaves_of_fields}
+use Rattle.type_ports.specs.declared.ports.Leaf.{Leaf}
+use Rattle.type_ports.specs.Representable.{Representable, representable_scalar, representable_vector, representable_data}
+use Rattle.type_ports.specs.Ports.{Leaves, one_leaf, leaves_of_fields}
 use Rattle.chw_types.specs.SameTypes.{SameTypes}
 use Rattle.chw_types.specs.TypeTree.{TypeTree}
 use Rattle.chw_types.proofs.SameLaws.{same_self, same_turned, same_through}

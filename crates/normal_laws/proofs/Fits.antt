@@ -6,7 +6,7 @@ use Rattle.chw_base.specs.declared.limits.TheConstants.{DATA_BITS}
 use Rattle.chw_types.specs.declared.declarations.Data.{Data}
 use Rattle.chw_types.specs.declared.kind.Kind.{Kind}
 use Rattle.chw_types.specs.Arguments.{arguments}
-use Rattle.chw_types.specs.Representable.{Representable}
+use Rattle.type_ports.specs.Representable.{Representable}
 use Rattle.chw_types.specs.SameTypes.{SameTypes, SameAll}
 use Rattle.chw_types.specs.TypeMoves.{Substitution, sub}
 use Rattle.chw_types.specs.TypeTree.{TypeTree, TypeTrees, vector, data_of}

@@ -7,10 +7,10 @@ use Rattle.chw_types.specs.declared.declarations.Data.{Data}
 use Rattle.chw_types.specs.declared.kind.Kind.{Kind}
 use Rattle.chw_types.specs.declared.kind.Kind.TheVariants.{Nat, Dom, Val, Cir}
 use Rattle.chw_types.specs.declared.kind.Scalar.TheVariants.{U}
-use Rattle.chw_types.specs.declared.ports.Leaf.{Leaf}
+use Rattle.type_ports.specs.declared.ports.Leaf.{Leaf}
 use Rattle.chw_types.specs.KindFound.{kind_found}
-use Rattle.chw_types.specs.Ports.{IsPort, Leaves, one_leaf, leaves_of_fields}
-use Rattle.chw_types.specs.Representable.{Representable, representable_scalar, representable_vector, representable_data, represent_and, none_to_represent}
+use Rattle.type_ports.specs.Ports.{IsPort, Leaves, one_leaf, leaves_of_fields}
+use Rattle.type_ports.specs.Representable.{Representable, representable_scalar, representable_vector, representable_data, represent_and, none_to_represent}
 use Rattle.chw_types.specs.SamePromises.{natural_value}
 use Rattle.chw_types.specs.SameTypes.{same_vector}
 use Rattle.chw_types.specs.TypeMoves.{sub, rename, up, up_by, put_at}

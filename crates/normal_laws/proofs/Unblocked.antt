@@ -3,8 +3,8 @@ use Rattle.std.proofs.Common.{◌≡◌, ◌⊎◌, inl, inr, ℕ, true, List, [
 use Rattle.std.specs.Prelude.{option_and_then}
 use Rattle.std.specs.List.{slice_get, AllByRecursion}
 use Rattle.chw_types.specs.declared.declarations.Data.{Data}
-use Rattle.chw_types.specs.Ports.{IsPort}
-use Rattle.chw_types.specs.Representable.{Representable}
+use Rattle.type_ports.specs.Ports.{IsPort}
+use Rattle.type_ports.specs.Representable.{Representable}
 use Rattle.chw_types.specs.SameTypes.{SameTypes}
 use Rattle.chw_types.specs.TypeMoves.{sub}
 use Rattle.chw_types.specs.TypeTree.{TypeTree, ty_var, fun, signal}

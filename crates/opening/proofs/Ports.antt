@@ -1,6 +1,6 @@
 -- Types that lead from ports to a port.
 use Rattle.std.proofs.Common.{◌≡◌, ap, refl, ℕ, List}
-use Rattle.chw_types.specs.Ports.{leaves_of_fields, one_leaf}
+use Rattle.type_ports.specs.Ports.{leaves_of_fields, one_leaf}
 use Rattle.chw_types.specs.TypeTree.{TypeTree, fun}
 use Rattle.chw_types.specs.declared.declarations.Data.{Data}
 use Rattle.chw_terms.specs.Unrolled.{parameters}

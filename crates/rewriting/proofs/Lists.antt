@@ -3,7 +3,7 @@ use Rattle.std.proofs.Common.{◌≡◌, sym, refl, subst, inl, inr, ◌↔◌, 
 use Rattle.std.proofs.lemmas.Bool.{cases_order}
 use Rattle.std.proofs.lemmas.Option.{slice_get_within}
 use Rattle.chw_types.specs.declared.kind.Scalar.{Scalar}
-use Rattle.chw_types.specs.Representable.{Representable}
+use Rattle.type_ports.specs.Representable.{Representable}
 use Rattle.chw_types.specs.declared.declarations.Data.{Data}
 use Rattle.chw_types.specs.TypeTree.{TypeTree, nat_lit, fun}
 use Rattle.chw_terms.specs.TermTree.{TermTree}

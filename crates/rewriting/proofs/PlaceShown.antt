@@ -5,10 +5,10 @@ use Rattle.chw_types.specs.BuiltIn.{built_in}
 use Rattle.chw_types.specs.declared.declarations.Data.{Data}
 use Rattle.chw_types.specs.declared.kind.Scalar.{Scalar}
 use Rattle.chw_types.specs.declared.kind.Scalar.TheVariants.{U}
-use Rattle.chw_types.specs.declared.ports.Leaf.{Leaf}
+use Rattle.type_ports.specs.declared.ports.Leaf.{Leaf}
 use Rattle.chw_types.specs.TypeTree.{TypeTree, nat_lit, domain, scalar, fun, signal}
-use Rattle.chw_types.specs.Representable.{Representable, representable_data, none_to_represent}
-use Rattle.chw_types.specs.Ports.{Leaves, one_leaf, leaves_of_fields}
+use Rattle.type_ports.specs.Representable.{Representable, representable_data, none_to_represent}
+use Rattle.type_ports.specs.Ports.{Leaves, one_leaf, leaves_of_fields}
 use Rattle.chw_prims.specs.declared.prim.Primitive.TheVariants.{AddU, Ap, Register}
 use Rattle.chw_prims.specs.Schemas.{bool}
 use Rattle.chw_terms.specs.declared.scene.Mode.TheVariants.{V}

@@ -2,8 +2,8 @@
 use Rattle.std.proofs.Common.{◌≡◌, ℕ, zero, suc, ◌-◌, ◌<◌, true, false, refl, arith, subst, inl, inr, ◌↔◌, List, [], ◌∷◌, length, Some, slice_get, ◌++◌, replicate}
 use Rattle.chw_types.specs.declared.kind.Kind.TheVariants.{Val}
 use Rattle.chw_types.specs.KindFound.{kind_found}
-use Rattle.chw_types.specs.Ports.{IsPort, one_leaf, leaves_of_fields, no_leaves, leaves_and}
-use Rattle.chw_types.specs.Representable.{Representable, representable_data, none_to_represent, representable_vector}
+use Rattle.type_ports.specs.Ports.{IsPort, one_leaf, leaves_of_fields, no_leaves, leaves_and}
+use Rattle.type_ports.specs.Representable.{Representable, representable_data, none_to_represent, representable_vector}
 use Rattle.chw_types.specs.TypeMoves.{sub}
 use Rattle.chw_types.specs.TypeTree.{TypeTree, fun}
 use Rattle.chw_types.proofs.KindsFound.{found_is_kind}

@@ -3,10 +3,10 @@ use Rattle.std.proofs.Common.{◌≡◌, ℕ, refl, subst, List, [], ◌∷◌, 
 use Rattle.chw_types.specs.BuiltIn.{built_in}
 use Rattle.chw_types.specs.declared.kind.Kind.TheVariants.{Val, Cir}
 use Rattle.chw_types.specs.declared.declarations.Data.{Data}
-use Rattle.chw_types.specs.declared.ports.Leaf.{Leaf}
+use Rattle.type_ports.specs.declared.ports.Leaf.{Leaf}
 use Rattle.chw_types.specs.Kinds.{kind_domain, kind_data, kind_fun, kind_signal, no_kinds}
-use Rattle.chw_types.specs.Representable.{Representable, representable_data, none_to_represent}
-use Rattle.chw_types.specs.Ports.{Leaves, one_leaf, leaves_of_fields}
+use Rattle.type_ports.specs.Representable.{Representable, representable_data, none_to_represent}
+use Rattle.type_ports.specs.Ports.{Leaves, one_leaf, leaves_of_fields}
 use Rattle.chw_types.specs.TypeTree.{TypeTree, fun}
 use Rattle.chw_types.proofs.SameLaws.{same_self}
 use Rattle.chw_prims.specs.Schemas.{bool}

@@ -3,7 +3,7 @@ use Rattle.std.specs.Prelude.{◌≡◌, ℕ, ◌<◌, ◌⊎◌, Bool, List, []
 use Rattle.std.specs.List.{slice_get}
 use Rattle.chw_base.specs.declared.index.ConId.{ConId}
 use Rattle.chw_types.specs.declared.kind.Scalar.{Scalar}
-use Rattle.chw_types.specs.Ports.{IsPort}
+use Rattle.type_ports.specs.Ports.{IsPort}
 use Rattle.chw_types.specs.TypeTree.{TypeTree}
 use Rattle.chw_types.specs.TypeView.{trees_of}
 use Rattle.chw_terms.specs.Constructors.{Constructor, con_at}

@@ -1,6 +1,6 @@
 -- What rules make of functions on signals: the composed ones in one. In a circuit's places alone.
 use Rattle.std.specs.Prelude.{◌≡◌, []}
-use Rattle.chw_types.specs.Representable.{Representable}
+use Rattle.type_ports.specs.Representable.{Representable}
 use Rattle.chw_types.specs.TypeTree.{TypeTree, fun, signal}
 use Rattle.chw_terms.specs.TermMoves.{shift}
 use Rattle.chw_terms.specs.TermTree.{TermTree, var, lam, app}

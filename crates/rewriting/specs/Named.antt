@@ -3,8 +3,8 @@ use Rattle.std.specs.Prelude.{ℕ, List, [], ◌∷◌}
 use Rattle.chw_types.specs.declared.declarations.Data.{Data}
 use Rattle.chw_types.specs.TypeTree.{TypeTree, fun}
 use Rattle.chw_types.specs.SameTypes.{SameTypes}
-use Rattle.chw_types.specs.Representable.{Representable}
-use Rattle.chw_types.specs.Ports.{IsPort}
+use Rattle.type_ports.specs.Representable.{Representable}
+use Rattle.type_ports.specs.Ports.{IsPort}
 use Rattle.chw_terms.specs.declared.scene.Mode.{Mode}
 use Rattle.chw_terms.specs.declared.scene.Mode.TheVariants.{V, C, HV, HC, K}
 use Rattle.chw_terms.specs.declared.scene.Sort.{Sort}

@@ -2,12 +2,12 @@
 use Rattle.std.proofs.Common.{◌≡◌, ◌↔◌, ◌⊎◌, inl, inr, sym, subst, List, [], ◌∷◌, Bool, IsTrue, Result, IfOk, Ok, Err, Box, Global}
 use Rattle.chw_base.specs.declared.index.DomId.{DomId}
 use Rattle.chw_types.specs.declared.declarations.Data.{Data}
-use Rattle.chw_types.specs.declared.ports.Leaf.{Leaf}
+use Rattle.type_ports.specs.declared.ports.Leaf.{Leaf}
 use Rattle.chw_types.specs.declared.ty.Ty.{Ty}
 use Rattle.chw_types.specs.declared.ty.TyNode.{TyNode}
 use Rattle.chw_types.specs.declared.ty.TyNode.TheVariants.{Unsigned, Signed, BitVector}
-use Rattle.chw_types.specs.Ports.{IsPort, Leaves, leaf_of, one_leaf}
-use Rattle.chw_types.specs.Representable.{Representable, representable_scalar}
+use Rattle.type_ports.specs.Ports.{IsPort, Leaves, leaf_of, one_leaf}
+use Rattle.type_ports.specs.Representable.{Representable, representable_scalar}
 use Rattle.chw_types.specs.TypeTree.{TypeTree, domain, signal}
 use Rattle.chw_types.specs.TypeView.{tree_of}
 use Rattle.chw_terms.specs.declared.scene.Mode.{Mode}

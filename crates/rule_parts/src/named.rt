@@ -1,13 +1,14 @@
 //! Whether a type is named in a mode.
 ghost use Rattle.std.specs.Prelude.{◌↔◌, IfOk, IsTrue};
 ghost use Rattle.chw_types.specs.References.{HasNoCycle};
-ghost use Rattle.chw_types.specs.Ports.{IsPort};
-ghost use Rattle.chw_types.specs.Representable.{Representable};
+ghost use Rattle.type_ports.specs.Ports.{IsPort};
+ghost use Rattle.type_ports.specs.Representable.{Representable};
 ghost use Rattle.rewriting.specs.Named.{IsNamed};
 
 use chw_base::NoMemory;
 use chw_terms::Mode;
-use chw_types::{Data, Ty, TyNode, leaves, representable};
+use chw_types::{Data, Ty, TyNode};
+use type_ports::{leaves, representable};
 use std::alloc::Global;
 
 /// Whether a variable of a closed type has wires at a place of this mode: representable types where a value is built, ports where a

@@ -2,9 +2,9 @@
 use Rattle.std.proofs.Common.{◌∷◌, ◌≡◌, ◌≤◌, List, Some, [], arith, length, refl, subst, sym, ℕ}
 use Rattle.std.specs.List.{AllByRecursion, slice_get}
 use Rattle.chw_types.proofs.SameLaws.{same_self}
-use Rattle.chw_types.specs.Ports.{Leaves, leaves_of_fields, one_leaf}
-use Rattle.chw_types.specs.declared.ports.Leaf.{Leaf}
-use Rattle.chw_types.specs.Representable.{Representable, representable_data, representable_scalar, representable_vector}
+use Rattle.type_ports.specs.Ports.{Leaves, leaves_of_fields, one_leaf}
+use Rattle.type_ports.specs.declared.ports.Leaf.{Leaf}
+use Rattle.type_ports.specs.Representable.{Representable, representable_data, representable_scalar, representable_vector}
 use Rattle.chw_types.specs.TypeTree.{TypeTree}
 use Rattle.chw_types.specs.declared.declarations.Data.{Data}
 use Rattle.chw_terms.specs.TermTree.{TermTree, lam}

@@ -6,7 +6,7 @@ use Rattle.chw_base.specs.declared.index.ConId.{ConId}
 use Rattle.chw_types.proofs.SameLaws.{same_self, same_through, same_turned}
 use Rattle.chw_types.specs.Arguments.{arguments}
 use Rattle.chw_types.specs.Kinds.{HasFunctions, KindsOf, kind_data}
-use Rattle.chw_types.specs.Ports.{IsPort}
+use Rattle.type_ports.specs.Ports.{IsPort}
 use Rattle.chw_types.specs.SameTypes.{SameTypes}
 use Rattle.chw_types.specs.TypeMoves.{sub}
 use Rattle.chw_types.specs.TypeTree.{TypeTree, data_of}

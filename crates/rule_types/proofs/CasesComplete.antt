@@ -2,13 +2,13 @@
 use Rattle.std.proofs.Common.{◌+◌, ◌-◌, ◌<◌, ◌∙◌, ◌∷◌, ◌≡◌, ◌≤◌, ◌⊎◌, List, Some, [], ap, arith, inl, inr, length, map, refl, subst, suc, sym, zero, ℕ}
 use Rattle.std.specs.List.{AllByRecursion, range_with_len, slice_get}
 use Rattle.chw_base.specs.declared.index.ConId.{ConId}
-use Rattle.chw_types.specs.Ports.{IsPort, Leaves, leaves_of_fields, one_leaf}
+use Rattle.type_ports.specs.Ports.{IsPort, Leaves, leaves_of_fields, one_leaf}
 use Rattle.chw_types.specs.TypeMoves.{raised}
 use Rattle.chw_types.specs.TypeTree.{TypeTree, TypeTrees, data_of}
 use Rattle.chw_types.specs.TypeView.{trees_of}
 use Rattle.chw_types.specs.declared.declarations.ConDecl.{ConDecl}
 use Rattle.chw_types.specs.declared.declarations.Data.{Data}
-use Rattle.chw_types.specs.declared.ports.Leaf.{Leaf}
+use Rattle.type_ports.specs.declared.ports.Leaf.{Leaf}
 use Rattle.chw_terms.specs.Constructors.{Constructor, cons_of, constructors_from}
 use Rattle.chw_terms.specs.TermMoves.{shift}
 use Rattle.chw_terms.specs.TermTree.{Alts, TermTree, alt, case_of, con, no_alts, size_of, var}

@@ -8,7 +8,7 @@ use Rattle.chw_types.specs.declared.ty.TyNode.{TyNode}
 use Rattle.chw_types.specs.declared.ty.TyNode.TheVariants.{Var, NatLit, Sum, Times, DomOf}
 use Rattle.chw_types.specs.declared.ty.TyNode.TheVariants.{Unsigned, Signed, BitVector, Vec}
 use Rattle.chw_types.specs.declared.ty.TyNode.TheVariants.{DataOf, Fun, Signal, Forall}
-use Rattle.chw_types.specs.Representable.{Representable}
+use Rattle.type_ports.specs.Representable.{Representable}
 use Rattle.chw_types.specs.TypeTree.{TypeTree, fun}
 use Rattle.chw_types.specs.TypeView.{tree_of}
 use Rattle.chw_typing.specs.HeadTypes.{from_each}

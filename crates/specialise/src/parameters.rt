@@ -4,7 +4,8 @@ ghost use Rattle.chw_types.specs.References.{HasNoCycle};
 ghost use Rattle.specialise.specs.Seeds.{AnswersCount};
 
 use chw_base::NoMemory;
-use chw_types::{Data, Ty, TyNode, representable};
+use chw_types::{Data, Ty, TyNode};
+use type_ports::representable;
 use std::alloc::Global;
 
 // The next number.

@@ -3,7 +3,8 @@ ghost use Rattle.std.specs.Prelude.{IfOk};
 ghost use Rattle.chw_types.specs.References.{HasNoCycle};
 
 use chw_base::{Name, NoMemory, Or, Seq, TyIx};
-use chw_types::{ConDecl, Data, Kind, Ty, leaves, type_text};
+use chw_types::{ConDecl, Data, Kind, Ty};
+use type_ports::{leaves, type_text};
 use row_tables::{Unread, put};
 use std::alloc::Global;
 

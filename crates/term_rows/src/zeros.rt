@@ -1,6 +1,6 @@
 //! Types without zeros and ones.
 use chw_base::Or;
-use chw_types::type_text;
+use type_ports::type_text;
 use chw_typing::without_zeros;
 use row_notation::read;
 use row_tables::Unread;

@@ -4,7 +4,7 @@ use Rattle.std.specs.List.{AllByRecursion}
 use Rattle.chw_types.specs.declared.declarations.Data.{Data}
 use Rattle.chw_types.specs.declared.ty.TyNode.{TyNode}
 use Rattle.chw_types.specs.declared.ty.TyNode.TheVariants.{Var, NatLit, Sum, Times, DomOf, Unsigned, Signed, BitVector, Vec, DataOf, Fun, Signal, Forall}
-use Rattle.chw_types.specs.Representable.{Representable}
+use Rattle.type_ports.specs.Representable.{Representable}
 use Rattle.chw_types.specs.TypeTree.{TypeTree, fun}
 use Rattle.chw_types.specs.TypeView.{tree_of}
 use Rattle.chw_typing.specs.HeadTypes.{from_each}

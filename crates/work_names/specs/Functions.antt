@@ -2,7 +2,7 @@
 use Rattle.std.specs.Prelude.{◌≡◌, ◌<◌, List, ◌∷◌, length, Option, MatchOption}
 use Rattle.std.specs.List.{AllByRecursion}
 use Rattle.chw_types.specs.declared.declarations.Data.{Data}
-use Rattle.chw_types.specs.Representable.{Representable}
+use Rattle.type_ports.specs.Representable.{Representable}
 use Rattle.chw_types.specs.TypeTree.{TypeTree}
 use Rattle.chw_terms.specs.TermTree.{TermTree}
 use Rattle.chw_typing.specs.HeadTypes.{from_each}

@@ -4,7 +4,8 @@ ghost use Rattle.chw_types.specs.References.{HasNoCycle};
 ghost use Rattle.work_names.specs.Functions.{AnswersParameters};
 
 use chw_base::NoMemory;
-use chw_types::{Data, Ty, TyNode, representable};
+use chw_types::{Data, Ty, TyNode};
+use type_ports::representable;
 use std::alloc::Global;
 
 /// The types of the parameters, where the type is that of functions of values that give a value: all of these are representable.

@@ -19,7 +19,7 @@ use crate::views::{Lifted, as_ap, as_fmap, as_pure};
 use chw_base::NoMemory;
 use chw_prims::Prim;
 use chw_terms::{Place, Scene, Term};
-use chw_types::representable;
+use type_ports::representable;
 use std::alloc::Global;
 use term_types::Signature;
 

@@ -3,11 +3,11 @@ use Rattle.std.proofs.Common.{◌≡◌, ℕ, zero, suc, ◌*◌, List, [], ◌�
 use Rattle.std.specs.List.{AllByRecursion}
 use Rattle.std.specs.Prelude.{codes}
 use Rattle.chw_clock.specs.declared.event.Port.{Port}
-use Rattle.chw_types.specs.Ports.{leaf_of}
+use Rattle.type_ports.specs.Ports.{leaf_of}
 use Rattle.chw_types.specs.TypeTree.{TypeTree, scalar}
 use Rattle.chw_types.specs.declared.declarations.Data.{Data}
 use Rattle.chw_types.specs.declared.kind.Scalar.{Scalar}
-use Rattle.chw_types.specs.declared.ports.Leaf.{Leaf}
+use Rattle.type_ports.specs.declared.ports.Leaf.{Leaf}
 use Rattle.chw_layout.specs.Datum.{word}
 use Rattle.chw_layout.specs.Encodes.{scalar_bits}
 use Rattle.chw_layout.specs.Measured.{HasWidth}

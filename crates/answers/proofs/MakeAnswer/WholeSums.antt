@@ -8,7 +8,7 @@ use Rattle.chw_clock.specs.declared.event.Event.{Event}
 use Rattle.chw_clock.specs.declared.event.Port.{Port}
 use Rattle.chw_clock.specs.declared.event.Ports.{Ports}
 use Rattle.chw_types.specs.declared.declarations.Data.{Data}
-use Rattle.chw_types.specs.declared.ports.Leaf.{Leaf}
+use Rattle.type_ports.specs.declared.ports.Leaf.{Leaf}
 use Rattle.chw_terms.specs.declared.program.Program.{Program}
 use Rattle.chw_layout.specs.EncodingPromises.{EncodingHasWidth}
 use Rattle.chw_layout.specs.Measured.{HasWidth}

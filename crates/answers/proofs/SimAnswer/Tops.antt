@@ -2,11 +2,11 @@
 use Rattle.std.proofs.Common.{◌≡◌, ℕ, suc, List, [], ◌∷◌, ◌++◌, refl, sym, ap, ◌∙◌, subst}
 use Rattle.chw_base.specs.declared.index.DomId.{DomId}
 use Rattle.chw_clock.specs.declared.event.Ports.{Ports}
-use Rattle.chw_types.specs.Ports.{leaf_of, Leaves, one_leaf, leaves_of_fields, LeavesOfAll, no_leaves, leaves_and}
+use Rattle.type_ports.specs.Ports.{leaf_of, Leaves, one_leaf, leaves_of_fields, LeavesOfAll, no_leaves, leaves_and}
 use Rattle.chw_types.specs.TypeMoves.{Substitution}
 use Rattle.chw_types.specs.TypeTree.{TypeTree, domain, signal}
 use Rattle.chw_types.specs.declared.declarations.Data.{Data}
-use Rattle.chw_types.specs.declared.ports.Leaf.{Leaf}
+use Rattle.type_ports.specs.declared.ports.Leaf.{Leaf}
 use Rattle.chw_terms.specs.declared.program.Def.{Def}
 use Rattle.chw_terms.specs.declared.program.Program.{Program}
 use Rattle.chw_meaning.specs.Means.{LeadsFrom, leads_to, leads_from, IsPortAt, port_here, port_later, port_past, IsTop}

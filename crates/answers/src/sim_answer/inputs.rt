@@ -7,7 +7,8 @@ ghost use Rattle.answers.specs.SimAnswer.Types.{AddsPort, AddsTypes, AreInputs, 
 use chw_base::{NoMemory, Or};
 use chw_layout::width;
 use chw_terms::Program;
-use chw_types::{Data, Leaf, Ty, TyNode, leaves};
+use chw_types::{Data, Ty, TyNode};
+use type_ports::{Leaf, leaves};
 use std::alloc::Global;
 
 /// The width of a type that has one.

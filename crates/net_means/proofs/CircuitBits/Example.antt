@@ -1,8 +1,8 @@
 -- The accumulator's register, by hand.
 use Rattle.std.proofs.Common.{◌≡◌, ℕ, Bool, List, [], ◌∷◌, length, refl, arith}
 use Rattle.chw_bits.specs.Bits.{bits_of}
-use Rattle.chw_types.specs.Ports.{one_leaf}
-use Rattle.chw_types.specs.Representable.{representable_scalar}
+use Rattle.type_ports.specs.Ports.{one_leaf}
+use Rattle.type_ports.specs.Representable.{representable_scalar}
 use Rattle.chw_types.specs.SamePromises.{natural_value}
 use Rattle.chw_types.specs.TypeMoves.{sub, rename, up}
 use Rattle.chw_terms.specs.Evaluated.{evaluated}

@@ -5,8 +5,8 @@ use Rattle.std.proofs.lemmas.List.{length-map}
 use Rattle.chw_types.specs.Arguments.{arguments}
 use Rattle.chw_types.specs.declared.declarations.ConDecl.{ConDecl}
 use Rattle.chw_types.specs.declared.declarations.Data.{Data}
-use Rattle.chw_types.specs.declared.ports.Leaf.{Leaf}
-use Rattle.chw_types.specs.Ports.{Leaves, leaves_of_fields, LeavesOfAll, no_leaves, leaves_and}
+use Rattle.type_ports.specs.declared.ports.Leaf.{Leaf}
+use Rattle.type_ports.specs.Ports.{Leaves, leaves_of_fields, LeavesOfAll, no_leaves, leaves_and}
 use Rattle.chw_types.specs.TypeMoves.{Substitution, sub}
 use Rattle.chw_types.specs.TypeTree.{TypeTree, TypeTrees, data_of}
 use Rattle.chw_terms.specs.Constructors.{Constructor, con_at}

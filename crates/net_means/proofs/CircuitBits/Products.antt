@@ -6,7 +6,7 @@ use Rattle.chw_base.specs.declared.index.WireId.{WireId}
 use Rattle.chw_types.specs.Arguments.{arguments}
 use Rattle.chw_types.specs.declared.declarations.Data.{Data}
 use Rattle.chw_types.specs.Kinds.{kind_data}
-use Rattle.chw_types.specs.Ports.{one_leaf, leaves_of_fields}
+use Rattle.type_ports.specs.Ports.{one_leaf, leaves_of_fields}
 use Rattle.chw_types.specs.SamePromises.{SameValues}
 use Rattle.chw_types.specs.SameTypes.{SameTypes}
 use Rattle.chw_types.specs.TypeMoves.{Substitution, sub}

@@ -4,7 +4,7 @@ use Rattle.std.proofs.Common.{◌≡◌, ◌<◌, ℕ, zero, suc, ◌+◌, ◌-�
 use Rattle.chw_base.specs.declared.index.WireId.{WireId}
 use Rattle.chw_clock.specs.declared.event.Event.{Event}
 use Rattle.chw_types.specs.declared.declarations.Data.{Data}
-use Rattle.chw_types.specs.Ports.{one_leaf}
+use Rattle.type_ports.specs.Ports.{one_leaf}
 use Rattle.chw_types.specs.SamePromises.{SameValues}
 use Rattle.chw_types.specs.SameTypes.{SameTypes}
 use Rattle.chw_types.specs.TypeTree.{TypeTree, TypeTrees, signal}

@@ -28,8 +28,8 @@ use Rattle.net_means.specs.CircuitBits.Memories.{HasWidths, IsEarlier, further_b
 use Rattle.chw_meaning.specs.Values.{History, Thunks, body_at}
 use Rattle.net_means.specs.NetBits.Whole.{IsPast}
 use Rattle.net_means.proofs.NetBits.Context.{Known, Situation, Stands}
-use Rattle.chw_types.specs.declared.ports.Leaf.{Leaf}
-use Rattle.chw_types.specs.Ports.{Leaves, leaves_and, leaves_of_fields, one_leaf}
+use Rattle.type_ports.specs.declared.ports.Leaf.{Leaf}
+use Rattle.type_ports.specs.Ports.{Leaves, leaves_and, leaves_of_fields, one_leaf}
 use Rattle.net_built.specs.Wires.{Piece}
 use Rattle.chw_typing.specs.Scopes.{Setting, declared}
 use Rattle.chw_types.specs.TypeTree.{TypeTree, fun}

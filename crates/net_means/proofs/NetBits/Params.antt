@@ -16,11 +16,11 @@ use Rattle.normal_forms.specs.Normal.{HasForm}
 use Rattle.chw_typing.specs.Typing.{HasType, HasTypeUpTo, h_app, h_made}
 use Rattle.rewriting.specs.Named.{IsNamed, UnderLambdas, mode_of, under_none, under_one}
 use Rattle.normal_forms.specs.Values.{IsSide, on_names, side_call, side_case, side_constructor, side_literal, side_primitive, side_variable, side_vector}
-use Rattle.chw_types.specs.declared.ports.Leaf.{Leaf}
-use Rattle.chw_types.specs.Ports.{Leaves, leaves_of_fields, one_leaf}
+use Rattle.type_ports.specs.declared.ports.Leaf.{Leaf}
+use Rattle.type_ports.specs.Ports.{Leaves, leaves_of_fields, one_leaf}
 use Rattle.chw_terms.specs.declared.scene.Made.{Made}
 use Rattle.rewriting.specs.Origins.{MadeOf, Origins, made_of}
-use Rattle.chw_types.specs.Representable.{Representable, representable_data, representable_scalar, representable_vector}
+use Rattle.type_ports.specs.Representable.{Representable, representable_data, representable_scalar, representable_vector}
 use Rattle.layout_laws.specs.SameLayout.{SameKeepsMeasure}
 use Rattle.chw_types.specs.SameTypes.{SameTypes}
 use Rattle.chw_terms.specs.declared.scene.Sort.{Sort}

@@ -25,8 +25,8 @@ use Rattle.chw_layout.specs.Measured.{HasWidth, Measure, Measured, MeasuredCons,
 use Rattle.chw_meaning.specs.Values.{History, Thunk, Thunks, body_at}
 use Rattle.net_means.specs.SideBits.Cases.{IsFirst, first_here, first_later}
 use Rattle.chw_types.specs.declared.kind.Kind.{Kind}
-use Rattle.chw_types.specs.declared.ports.Leaf.{Leaf}
-use Rattle.chw_types.specs.Ports.{Leaves, leaves_and, leaves_of_fields, one_leaf}
+use Rattle.type_ports.specs.declared.ports.Leaf.{Leaf}
+use Rattle.type_ports.specs.Ports.{Leaves, leaves_and, leaves_of_fields, one_leaf}
 use Rattle.chw_terms.specs.declared.scene.Made.{Made}
 use Rattle.chw_terms.specs.declared.term.Pattern.{Pattern}
 use Rattle.chw_typing.specs.HeadTypes.{PatternOf, fields_at, from_each, of_any, of_con, of_lit}

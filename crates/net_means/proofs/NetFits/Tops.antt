@@ -5,8 +5,8 @@ use Rattle.std.proofs.lemmas.List.{length-map}
 use Rattle.std.proofs.lemmas.Option.{slice_get_within}
 use Rattle.chw_clock.specs.declared.event.Port.{Port}
 use Rattle.chw_types.specs.declared.declarations.Data.{Data}
-use Rattle.chw_types.specs.declared.ports.Leaf.{Leaf}
-use Rattle.chw_types.specs.Ports.{Leaves}
+use Rattle.type_ports.specs.declared.ports.Leaf.{Leaf}
+use Rattle.type_ports.specs.Ports.{Leaves}
 use Rattle.chw_types.specs.TypeTree.{TypeTree}
 use Rattle.type_laws.specs.SameKept.{FieldsKeepSame}
 use Rattle.chw_terms.specs.declared.program.Program.{Program}

@@ -8,10 +8,10 @@ use Rattle.chw_base.specs.declared.index.WireId.{WireId}
 use Rattle.chw_types.specs.declared.declarations.Data.{Data}
 use Rattle.chw_types.specs.declared.kind.Kind.{Kind}
 use Rattle.chw_types.specs.declared.kind.Kind.TheVariants.{Dom, Val}
-use Rattle.chw_types.specs.declared.ports.Leaf.{Leaf}
+use Rattle.type_ports.specs.declared.ports.Leaf.{Leaf}
 use Rattle.chw_types.specs.Arguments.{arguments}
 use Rattle.chw_types.specs.Kinds.{KindsOf, kind_and}
-use Rattle.chw_types.specs.Ports.{LeavesOfAll, no_leaves, leaves_and}
+use Rattle.type_ports.specs.Ports.{LeavesOfAll, no_leaves, leaves_and}
 use Rattle.chw_types.specs.SameTypes.{SameTypes}
 use Rattle.chw_types.specs.TypeMoves.{Substitution, sub}
 use Rattle.chw_types.specs.TypeTree.{TypeTree, TypeTrees, no_types, type_and, ty_var, data_of, signal}

@@ -1,5 +1,5 @@
 use Rattle.std.proofs.Common.{subst, arith}
-use Rattle.chw_types.specs.declared.ports.Leaf.{Leaf}
+use Rattle.type_ports.specs.declared.ports.Leaf.{Leaf}
 use Rattle.chw_types.specs.TypeTree.{TypeTree}
 use Rattle.blocked_places.specs.Firsts.{FindsOf}
 use Rattle.blocked_places.specs.Limits.{IsTooWide, IsLeafTooWide}

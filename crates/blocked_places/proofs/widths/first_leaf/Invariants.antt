@@ -1,5 +1,5 @@
 -- none of the leaves so far passes a limit
-use Rattle.chw_types.specs.declared.ports.Leaf.{Leaf}
+use Rattle.type_ports.specs.declared.ports.Leaf.{Leaf}
 use Rattle.blocked_places.specs.Firsts.{NonePasses}
 use Rattle.blocked_places.specs.Limits.{IsLeafTooWide}
 use Rattle.blocked_places.proofs.widths.first_leaf.Given as goal

@@ -1,5 +1,5 @@
 use Rattle.std.proofs.Common.{IfSome, IfNone, subst}
-use Rattle.chw_types.specs.Ports.{Leaves, IsNoPort}
+use Rattle.type_ports.specs.Ports.{Leaves, IsNoPort}
 use Rattle.chw_types.specs.TypeTree.{TypeTree}
 use Rattle.blocked_places.specs.Firsts.{FindsOf}
 use Rattle.blocked_places.specs.Limits.{IsTooWide}

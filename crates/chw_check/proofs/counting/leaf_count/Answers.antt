@@ -1,6 +1,6 @@
 use Rattle.std.proofs.Common.{◌+◌, ◌<◌, refl, sym, ap, subst, ◌∙◌, List, ◌++◌, ◌∷◌, [], arith}
 use Rattle.chw_types.specs.declared.declarations.Data.{Data}
-use Rattle.chw_types.specs.Ports.{IsNoPort}
+use Rattle.type_ports.specs.Ports.{IsNoPort}
 use Rattle.chw_check.specs.Counting.{CountsOn}
 use Rattle.chw_check.proofs.LeavesCounted.{count_begins, count_goes_on, count_shrinks, count_fails, counts_too_many, count_ends}
 use Rattle.chw_check.proofs.counting.leaf_count.Goals as goal

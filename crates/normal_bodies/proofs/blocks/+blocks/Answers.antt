@@ -5,7 +5,7 @@ use Rattle.chw_terms.specs.TermView.{tree_of, applied, group_of, alts_of}
 use Rattle.rule_parts.proofs.Heads.{bare}
 use Rattle.rewriting.specs.Origins.{origins_of}
 use Rattle.normal_forms.specs.Values.{IsBlock, AreSides, IsSide, AreBlocks, block_variable}
-use Rattle.chw_types.specs.Representable.{Representable}
+use Rattle.type_ports.specs.Representable.{Representable}
 use Rattle.chw_typing.specs.Programs.{IsSound}
 use Rattle.chw_typing.specs.Scopes.{with_more, declared}
 use Rattle.rewriting.specs.Shapes.{IsVariable}

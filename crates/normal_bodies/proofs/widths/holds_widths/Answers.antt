@@ -1,5 +1,5 @@
 use Rattle.std.proofs.Common.{◌↔◌, IsTrue, IfSome, subst, sym}
-use Rattle.chw_types.specs.Ports.{Leaves}
+use Rattle.type_ports.specs.Ports.{Leaves}
 use Rattle.std.specs.List.{AllByRecursion}
 use Rattle.normal_forms.specs.Normal.{HoldsWidths}
 use Rattle.normal_bodies.proofs.Leaves.{PayloadHasWidth, widths_of_leaves, leaves_of_widths}

@@ -1,6 +1,6 @@
 use Rattle.std.proofs.Common.{arith}
 use Rattle.std.specs.List.{AllByRecursion}
-use Rattle.chw_types.specs.declared.ports.Leaf.{Leaf}
+use Rattle.type_ports.specs.declared.ports.Leaf.{Leaf}
 use Rattle.normal_bodies.proofs.Leaves.{PayloadHasWidth}
 use Rattle.normal_bodies.proofs.Loops.{all_of, none_below, one_more, all_hold, one_fails}
 use Rattle.normal_bodies.proofs.Truths.{never, always, not_told}

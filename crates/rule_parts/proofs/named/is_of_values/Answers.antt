@@ -1,5 +1,5 @@
 use Rattle.std.proofs.Common.{refl, subst}
-use Rattle.chw_types.specs.Representable.{Representable}
+use Rattle.type_ports.specs.Representable.{Representable}
 use Rattle.rule_parts.proofs.Ports.{scalars_are_bits}
 use Rattle.rule_parts.proofs.named.is_of_values.Goals as goal
 
