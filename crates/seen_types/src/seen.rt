@@ -175,11 +175,7 @@ pub fn raised<'t>(alloc: Global, ty: &'t Ty, by: u32) -> Result<Seen<'t>, NoMemo
 ///
 /// Where a type variable would pass 32 bits, the answer is want of memory.
 #[tactic(auto, using(crate::proofs::Staying::not_raised))]
-pub fn raised_again<'t>(
-    alloc: Global,
-    seen: &Seen<'t>,
-    by: u32,
-) -> Result<Seen<'t>, NoMemory>
+pub fn raised_again<'t>(alloc: Global, seen: &Seen<'t>, by: u32) -> Result<Seen<'t>, NoMemory>
     ensures { IfOk result (λ r. r ≡ shift seen.now 0 by) }
 {
     if by == 0 {

@@ -117,12 +117,7 @@ impl<'f, 't> Vars<'f, 't> {
     /// The type of the variable of this number with its kind, where it is in scope, raised by so many type binders.
     ///
     /// Where a type variable would pass 32 bits, the answer is want of memory.
-    pub fn at(
-        &self,
-        alloc: Global,
-        number: usize,
-        by: u32,
-    ) -> Result<Option<Found<'t>>, NoMemory>
+    pub fn at(&self, alloc: Global, number: usize, by: u32) -> Result<Option<Found<'t>>, NoMemory>
         ensures { IfOk result (IsAt (map (λ t. shift t 0 by) self.now.vars) self.now.kinds number) }
     {
         match &self.frame {
