@@ -8,7 +8,7 @@ use Rattle.chw_typing.specs.Programs.{IsSound}
 use Rattle.chw_typing.specs.Scopes.{Setting, setting_in, AreTermTypes}
 use Rattle.chw_typing.specs.Typing.{HasType}
 use Rattle.rewriting.specs.Spots.{Spot}
-use Rattle.term_types.specs.Signatures.{IsSignature}
+use Rattle.term_frames.specs.Signatures.{IsSignature}
 use Rattle.active_parts.specs.declared.ground.Ground.{Ground}
 
 -- a sound scene over data types without cycles, with the signature of its program

@@ -7,7 +7,7 @@ ghost use Rattle.chw_terms.specs.declared.scene.Mode.{Mode};
 ghost use Rattle.chw_typing.specs.Scopes.{setting_in, AreTermTypes};
 ghost use Rattle.rewriting.specs.Origins.{origins_of};
 ghost use Rattle.rewriting.specs.Spots.{spot_of, asked_for, LooksAt, BeginsWith, IsOnWords, TakesElement};
-ghost use Rattle.term_types.specs.Signatures.{IsSignature};
+ghost use Rattle.term_frames.specs.Signatures.{IsSignature};
 ghost use Rattle.active_parts.specs.Below.{IsConstantAt, IsDemandedAt, IsContentAt, WhyActive};
 ghost use Rattle.active_parts.specs.Grounds.{IsGround};
 

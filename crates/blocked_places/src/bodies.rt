@@ -4,7 +4,7 @@ ghost use Rattle.chw_typing.specs.Scopes.{setting_in};
 ghost use Rattle.rewriting.specs.Named.{mode_of};
 ghost use Rattle.rewriting.specs.Origins.{made_of, origins_of};
 ghost use Rattle.rewriting.specs.Typed.{IsTypedScene};
-ghost use Rattle.term_types.specs.Signatures.{IsSignature};
+ghost use Rattle.term_frames.specs.Signatures.{IsSignature};
 ghost use Rattle.active_parts.specs.Grounds.{IsGround};
 ghost use Rattle.blocked_places.specs.Walks.{AnswersBody, FindsFirst, InBody, IsPartOf, LeadsToTyped};
 

@@ -5,7 +5,7 @@ ghost use Rattle.chw_prims.specs.Schemas.{schema_type};
 ghost use Rattle.chw_terms.specs.declared.program.Program.{Program};
 ghost use Rattle.chw_terms.specs.declared.scene.Mode.TheVariants.{K};
 ghost use Rattle.rewriting.specs.Spots.{spot_of};
-ghost use Rattle.term_types.specs.Signatures.{IsSignature};
+ghost use Rattle.term_frames.specs.Signatures.{IsSignature};
 ghost use Rattle.normal_forms.specs.Blocked.{SizesCount};
 ghost use Rattle.blocked_places.specs.Limits.{FindsType, FindsTypes};
 

@@ -8,7 +8,7 @@ ghost use Rattle.rewriting.specs.Origins.{origins_of, setting_at};
 ghost use Rattle.rewriting.specs.Spots.{spot_of};
 ghost use Rattle.rule_parts.specs.Cores.{HasTypeAt};
 ghost use Rattle.term_types.specs.Answers.{IsReady};
-ghost use Rattle.term_types.specs.Signatures.{IsSignature};
+ghost use Rattle.term_frames.specs.Signatures.{IsSignature};
 
 use crate::calls::type_of_call;
 use chw_base::NoMemory;

@@ -1,7 +1,7 @@
 //! The first definition whose body hasn't its declared type.
 ghost use Rattle.std.specs.Prelude.{IfOk, MatchBool, MatchOption};
 ghost use Rattle.chw_check.specs.Bodies.{AllHaveTheirTypes, IsFirstUntyped};
-ghost use Rattle.term_types.specs.Signatures.{IsSignature};
+ghost use Rattle.term_frames.specs.Signatures.{IsSignature};
 ghost use Rattle.chw_typing.specs.Programs.{HasItsType, IsSound, setting_of};
 
 use chw_base::NoMemory;

@@ -8,7 +8,7 @@ ghost use Rattle.chw_check.specs.Incomplete.{AllKeep};
 ghost use Rattle.chw_check.specs.Tops.{TopIsOfPorts};
 ghost use Rattle.chw_terms.specs.Tidy.{IsTidy};
 ghost use Rattle.chw_typing.specs.Programs.{IsTyped};
-ghost use Rattle.term_types.specs.Signatures.{IsSignature};
+ghost use Rattle.term_frames.specs.Signatures.{IsSignature};
 
 use crate::bodies::first_untyped;
 use crate::cases::{Lacks, first_incomplete};

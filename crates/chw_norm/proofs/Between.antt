@@ -11,7 +11,7 @@ use Rattle.chw_terms.specs.Tidy.{IsTidy}
 use Rattle.chw_typing.specs.Programs.{IsTyped}
 use Rattle.rewriting.specs.Origins.{made_of}
 use Rattle.rewriting.specs.Typed.{IsTypedScene}
-use Rattle.term_types.specs.Signatures.{IsSignature}
+use Rattle.term_frames.specs.Signatures.{IsSignature}
 use Rattle.rewriting.specs.Runs.{IsOpening, StepsTo}
 use Rattle.rewriting.specs.Steps.{IsFirst, origins_in}
 use Rattle.rule_types.specs.States.{IsTypedState}

@@ -30,7 +30,7 @@ use Rattle.rule_trials.specs.Trials.{built, HasSomeType}
 use Rattle.rule_types.specs.Laws.{AreTypedOrigins}
 use Rattle.rule_types.specs.States.{IsTypedState, StatesHaveTypedOrigins}
 use Rattle.term_types.specs.Answers.{IsReady}
-use Rattle.term_types.specs.Signatures.{IsSignature}
+use Rattle.term_frames.specs.Signatures.{IsSignature}
 use Rattle.chw_norm.specs.Bounds.{AreBounds, IsBound}
 use Rattle.chw_norm.specs.FoundSteps.{LeadsToTyped}
 use Rattle.chw_norm.specs.Finding.{Suits}

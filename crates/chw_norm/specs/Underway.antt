@@ -13,7 +13,7 @@ use Rattle.chw_terms.specs.Depth.{depth}
 use Rattle.chw_terms.specs.TermTree.{TermTree}
 use Rattle.chw_typing.specs.Paths.{with_part}
 use Rattle.chw_typing.specs.PartSpines.{spine_at}
-use Rattle.term_types.specs.Signatures.{IsSignature}
+use Rattle.term_frames.specs.Signatures.{IsSignature}
 use Rattle.rewriting.specs.Instances.{HasInstance}
 use Rattle.rewriting.specs.Origins.{Origins}
 use Rattle.rewriting.specs.Runs.{Step, StepsTo}

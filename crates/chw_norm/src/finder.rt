@@ -3,7 +3,7 @@ ghost use Rattle.std.specs.Prelude.{◌≡◌, List, [], IfOk};
 ghost use Rattle.chw_terms.specs.declared.program.Program.{Program};
 ghost use Rattle.chw_terms.specs.declared.scene.Made.{Made};
 ghost use Rattle.rewriting.specs.Typed.{IsTypedScene};
-ghost use Rattle.term_types.specs.Signatures.{IsSignature};
+ghost use Rattle.term_frames.specs.Signatures.{IsSignature};
 ghost use Rattle.rule_trials.specs.Trials.{built};
 ghost use Rattle.chw_norm.specs.Finding.{Moves, Suits};
 ghost use Rattle.chw_norm.specs.FoundSteps.{FindsNext};

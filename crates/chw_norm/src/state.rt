@@ -1,7 +1,7 @@
 //! The search in a state: its made definitions in turn.
 ghost use Rattle.std.specs.Prelude.{◌≡◌, ◌≤◌, IfOk, Some, slice_get};
 ghost use Rattle.rewriting.specs.Typed.{IsTypedScene};
-ghost use Rattle.term_types.specs.Signatures.{IsSignature};
+ghost use Rattle.term_frames.specs.Signatures.{IsSignature};
 ghost use Rattle.rule_trials.specs.Trials.{built};
 ghost use Rattle.active_parts.specs.Grounds.{IsGround};
 ghost use Rattle.chw_norm.specs.FoundSteps.{FindsFrom, FindsNext, FindsIn, IsFoundIn};

@@ -10,7 +10,7 @@ ghost use Rattle.chw_typing.specs.HeadTypes.{PatternOf};
 ghost use Rattle.rewriting.specs.Origins.{origins_of};
 ghost use Rattle.rewriting.specs.Spots.{spot_of};
 ghost use Rattle.rewriting.specs.Shapes.{or_body, projections, IsDefaultOrNone};
-ghost use Rattle.term_types.specs.Signatures.{IsSignature};
+ghost use Rattle.term_frames.specs.Signatures.{IsSignature};
 ghost use Rattle.flow_cases.specs.Answered.{AnswersCase};
 ghost use Rattle.flow_cases.specs.Moves.{fields_put};
 ghost use Rattle.flow_cases.specs.Ports.{IsPortCase};

@@ -10,7 +10,7 @@ ghost use Rattle.rewriting.specs.Origins.{origins_of};
 ghost use Rattle.rewriting.specs.Spots.{spot_of};
 ghost use Rattle.rewriting.specs.Shapes.{shift_alts};
 ghost use Rattle.term_types.specs.Answers.{IsReady};
-ghost use Rattle.term_types.specs.Signatures.{IsSignature};
+ghost use Rattle.term_frames.specs.Signatures.{IsSignature};
 ghost use Rattle.flow_functions.specs.AtFirst.{AnswersAt};
 ghost use Rattle.flow_functions.specs.Moves.{at_type, at_name};
 

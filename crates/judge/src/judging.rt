@@ -2,7 +2,7 @@
 ghost use Rattle.std.specs.Prelude.{IfOk};
 ghost use Rattle.rewriting.specs.Origins.{made_of, origins_of};
 ghost use Rattle.rewriting.specs.Typed.{IsTypedScene};
-ghost use Rattle.term_types.specs.Signatures.{IsSignature};
+ghost use Rattle.term_frames.specs.Signatures.{IsSignature};
 ghost use Rattle.normal_bodies.specs.Results.{IsMadeOf};
 ghost use Rattle.judge.specs.Verdicts.{Judges};
 

@@ -3,7 +3,7 @@ ghost use Rattle.std.specs.Prelude.{◌≡◌, IfOk, Some, slice_get};
 ghost use Rattle.chw_base.specs.Outcome.{IfFault};
 ghost use Rattle.rewriting.specs.Steps.{HasNoStep};
 ghost use Rattle.rewriting.specs.Typed.{IsTypedScene};
-ghost use Rattle.term_types.specs.Signatures.{IsSignature};
+ghost use Rattle.term_frames.specs.Signatures.{IsSignature};
 ghost use Rattle.normal_forms.specs.Normal.{IsNormal, all_rules};
 ghost use Rattle.judge.specs.States.{FindsBlocked, FindsBlockedIn, FindsFault, FindsOther, FindsOtherIn, IsBlockedNowhere, IsFinished, IsNumbered, IsPlacedIn, RefusesState};
 

@@ -8,7 +8,7 @@ ghost use Rattle.rewriting.specs.Origins.{origins_of};
 ghost use Rattle.rewriting.specs.Spots.{spot_of, HasLets};
 ghost use Rattle.rule_types.specs.Laws.{AreTypedOrigins};
 ghost use Rattle.term_types.specs.Answers.{IsReady};
-ghost use Rattle.term_types.specs.Signatures.{IsSignature};
+ghost use Rattle.term_frames.specs.Signatures.{IsSignature};
 ghost use Rattle.rule_trials.specs.Trials.{HasSomeType};
 ghost use Rattle.letrec_steps.specs.Local.{IsTypedHere};
 ghost use Rattle.open_letrec.specs.Opened.{whole};

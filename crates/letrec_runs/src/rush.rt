@@ -7,7 +7,7 @@ ghost use Rattle.rewriting.specs.Origins.{origins_of};
 ghost use Rattle.rewriting.specs.Shapes.{IsLet};
 ghost use Rattle.rewriting.specs.Spots.{spot_of, HasLets};
 ghost use Rattle.rule_types.specs.Laws.{AreTypedOrigins};
-ghost use Rattle.term_types.specs.Signatures.{IsSignature};
+ghost use Rattle.term_frames.specs.Signatures.{IsSignature};
 ghost use Rattle.open_letrec.specs.Opened.{with_side};
 ghost use Rattle.letrec_runs.specs.Rush.{place_in, Goes, IsChange, IsJoinedOne, IsResting, IsRestingLet};
 ghost use Rattle.letrec_runs.specs.Traced.{Traces, TracesJoin};

@@ -8,7 +8,7 @@ ghost use Rattle.kept_letrecs.specs.Resting.{KeepsVariables};
 ghost use Rattle.rewriting.specs.Origins.{origins_of};
 ghost use Rattle.rewriting.specs.Spots.{spot_of};
 ghost use Rattle.term_types.specs.Answers.{IsReady};
-ghost use Rattle.term_types.specs.Signatures.{IsSignature};
+ghost use Rattle.term_frames.specs.Signatures.{IsSignature};
 ghost use Rattle.rule_trials.specs.Trials.{HasSomeType};
 ghost use Rattle.rule_trials.specs.declared.trial.Change.TheVariants.{Put};
 ghost use Rattle.letrec_runs.specs.Rush.{IsSideStep};

@@ -7,7 +7,7 @@ ghost use Rattle.chw_terms.specs.TermView.{tree_of, applied, group_of, alts_of};
 ghost use Rattle.chw_typing.specs.Programs.{IsSound};
 ghost use Rattle.chw_typing.specs.Scopes.{setting_in};
 ghost use Rattle.rewriting.specs.Origins.{origins_of};
-ghost use Rattle.term_types.specs.Signatures.{IsSignature};
+ghost use Rattle.term_frames.specs.Signatures.{IsSignature};
 ghost use Rattle.normal_forms.specs.Values.{IsSide};
 ghost use Rattle.normal_bodies.specs.Told.{IsCase, TellsBlock, TellsBinding, TellsBlocks, TellsSide, TellsSides};
 

@@ -5,7 +5,7 @@ ghost use Rattle.chw_typing.specs.Programs.{IsSound};
 ghost use Rattle.chw_typing.specs.Scopes.{setting_in};
 ghost use Rattle.rewriting.specs.Origins.{made_of, origins_of};
 ghost use Rattle.rewriting.specs.Typed.{IsTypedScene};
-ghost use Rattle.term_types.specs.Signatures.{IsSignature};
+ghost use Rattle.term_frames.specs.Signatures.{IsSignature};
 ghost use Rattle.normal_forms.specs.Normal.{IsNormalBody};
 ghost use Rattle.normal_bodies.specs.Results.{IsMadeOf, IsResultOf, IsUnder};
 ghost use Rattle.normal_bodies.specs.Told.{TellsForm};

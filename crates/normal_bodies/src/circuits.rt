@@ -4,7 +4,7 @@ ghost use Rattle.chw_types.specs.References.{HasNoCycle};
 ghost use Rattle.chw_terms.specs.TermTree.{letrec, prim};
 ghost use Rattle.chw_terms.specs.TermView.{applied, group_of};
 ghost use Rattle.rewriting.specs.Origins.{origins_of};
-ghost use Rattle.term_types.specs.Signatures.{IsSignature};
+ghost use Rattle.term_frames.specs.Signatures.{IsSignature};
 ghost use Rattle.normal_forms.specs.Circuits.{IsCircuitSide, AreCircuitSides, IsCircuitBody};
 ghost use Rattle.normal_bodies.specs.Signals.{IsCircuitBinding, IsLifting, IsPrimSide};
 

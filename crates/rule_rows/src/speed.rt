@@ -8,7 +8,7 @@ ghost use Rattle.rewriting.specs.Spots.{spot_of};
 ghost use Rattle.rule_parts.specs.Cores.{HasTypeAt};
 ghost use Rattle.rules_flow.specs.Rules.{IsOfFlow};
 ghost use Rattle.term_types.specs.Answers.{IsReady};
-ghost use Rattle.term_types.specs.Signatures.{IsSignature};
+ghost use Rattle.term_frames.specs.Signatures.{IsSignature};
 
 use crate::names::flow_named;
 use crate::programs::{DESCRIPTION, program_of};

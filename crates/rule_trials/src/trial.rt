@@ -7,7 +7,7 @@ ghost use Rattle.looks.specs.Looking.{looked};
 ghost use Rattle.rewriting.specs.Origins.{origins_of};
 ghost use Rattle.rewriting.specs.Spots.{spot_of};
 ghost use Rattle.term_types.specs.Answers.{IsReady};
-ghost use Rattle.term_types.specs.Signatures.{IsSignature};
+ghost use Rattle.term_frames.specs.Signatures.{IsSignature};
 ghost use Rattle.rule_parts.specs.Cores.{HasTypeAt, IsInstanceAnswer};
 ghost use Rattle.rule_trials.specs.Trials.{built, joined_if, put, put_special, HasSomeType, AnswersRule, IsFirstRule};
 

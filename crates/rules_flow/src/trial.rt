@@ -6,7 +6,7 @@ ghost use Rattle.looks.specs.Looking.{looked};
 ghost use Rattle.rewriting.specs.Origins.{origins_of};
 ghost use Rattle.rewriting.specs.Spots.{spot_of};
 ghost use Rattle.term_types.specs.Answers.{IsReady};
-ghost use Rattle.term_types.specs.Signatures.{IsSignature};
+ghost use Rattle.term_frames.specs.Signatures.{IsSignature};
 ghost use Rattle.rule_parts.specs.Cores.{Answers, HasTypeAt, IsInstanceAnswer};
 ghost use Rattle.rules_flow.specs.Rules.{IsOfFlow, Joins};
 ghost use Rattle.rule_parts.specs.Kept.{KeepsTypes};

@@ -10,7 +10,7 @@ ghost use Rattle.chw_typing.specs.Given.{types_then};
 ghost use Rattle.rewriting.specs.Spots.{spot_of};
 ghost use Rattle.rewriting.specs.Shapes.{IsClosed, IsMade, IsOfCircuit, fmap_of, leading_lambdas};
 ghost use Rattle.term_types.specs.Answers.{HasNoType, IsReady};
-ghost use Rattle.term_types.specs.Signatures.{IsSignature};
+ghost use Rattle.term_frames.specs.Signatures.{IsSignature};
 ghost use Rattle.specialise.specs.Seeds.{AnswersLambdas, IsOfValues};
 
 use crate::parameters::parameter_count;

@@ -16,7 +16,7 @@ ghost use Rattle.rewriting.specs.Shapes.{fmap_of};
 ghost use Rattle.rewriting.specs.Spots.{HasLets, spot_of};
 ghost use Rattle.rule_parts.specs.Cores.{HasTypeAt};
 ghost use Rattle.term_types.specs.Answers.{IsReady};
-ghost use Rattle.term_types.specs.Signatures.{IsSignature};
+ghost use Rattle.term_frames.specs.Signatures.{IsSignature};
 ghost use Rattle.specialise.specs.Calls.{IsOnGlobal, IsPlain};
 ghost use Rattle.specialise.specs.Closed.{closed, numbers};
 ghost use Rattle.specialise.specs.Seeds.{HasLambdas, IsNumbered, IsOfCall, made_of_seed};

@@ -33,14 +33,14 @@ use Rattle.chw_typing.proofs.PutKinds.{same_kind_put}
 use Rattle.chw_typing.proofs.SameScopes.{same_at}
 use Rattle.chw_typing.specs.Finding.{settled}
 use Rattle.term_types.specs.Binding.{BindsFound, BindsKinded, BindsNothing, IsLiteralOf, AreSettled, AreBoundSettled, NoneSettled, is_looked_at}
-use Rattle.term_types.specs.Kinding.{LacksKindUpTo, IsSettled, HaveKinds}
-use Rattle.term_types.specs.VarsView.{found_types, found_kinds}
-use Rattle.term_types.specs.declared.found.Found.{Found}
-use Rattle.term_types.specs.declared.fields.Bound.{Bound}
-use Rattle.term_types.specs.declared.fields.Bound.TheVariants.{OfFields, Settled}
-use Rattle.term_types.proofs.EachItem.{next_taken}
+use Rattle.term_spines.specs.Kinding.{LacksKindUpTo, IsSettled, HaveKinds}
+use Rattle.term_frames.specs.VarsView.{found_types, found_kinds}
+use Rattle.seen_types.specs.declared.found.Found.{Found}
+use Rattle.term_frames.specs.declared.fields.Bound.{Bound}
+use Rattle.term_frames.specs.declared.fields.Bound.TheVariants.{OfFields, Settled}
+use Rattle.seen_types.proofs.EachItem.{next_taken}
 use Rattle.chw_typing.proofs.Settling.{same_settled, all_same_settled}
-use Rattle.term_types.proofs.VarsFound.{read_at}
+use Rattle.term_frames.proofs.VarsFound.{read_at}
 
 pub looked_found : (t : TypeTree) → is_looked_at t ≡ true → IsLookedAt t
 looked_found (scalar s w) e = tt

@@ -22,9 +22,9 @@ use Rattle.chw_typing.specs.Finding.{f_case}
 use Rattle.term_types.specs.Answers.{HasNoType, IsTyped, IsAnswer, IsReady}
 use Rattle.term_types.specs.Binding.{BindsFound}
 use Rattle.term_types.specs.Cases.{Gives, GivesNothing, GiveTogether, IsJoined}
-use Rattle.term_types.specs.declared.found.Found.{Found}
+use Rattle.seen_types.specs.declared.found.Found.{Found}
 use Rattle.term_types.proofs.Bound.{binds}
-use Rattle.term_types.proofs.EachItem.{next_taken}
+use Rattle.seen_types.proofs.EachItem.{next_taken}
 use Rattle.chw_typing.proofs.FoundTyped.{found_is_type}
 use Rattle.term_types.proofs.Ready.{one, kept, ready_more}
 

@@ -10,9 +10,9 @@ use Rattle.chw_terms.specs.declared.term.Arg.{Arg}
 use Rattle.chw_terms.proofs.Spines.{applied_last, applied_more}
 use Rattle.chw_typing.specs.Scopes.{Setting}
 use Rattle.term_types.specs.Answers.{HasNoType, IsTyped}
-use Rattle.term_types.specs.declared.found.Found.{Found}
+use Rattle.seen_types.specs.declared.found.Found.{Found}
 use Rattle.term_types.proofs.Applied.{applied_none}
-use Rattle.term_types.proofs.EachItem.{next_taken}
+use Rattle.seen_types.proofs.EachItem.{next_taken}
 
 one_more : (h : TermTree) (args : List Arg) (i : ℕ) (a d : Arg) → i < length args → a ≡ get_or args i d → applied h (take (i + 1) args) ≡ applied_to (applied h (take i args)) a
 one_more h args i a d l is = ap (applied h) (next_taken args i a d l is) ∙ applied_last h (take i args) a

@@ -6,10 +6,10 @@ use Rattle.chw_terms.specs.declared.term.Alt.{Alt}
 use Rattle.chw_terms.specs.declared.term.Pattern.{Pattern}
 use Rattle.chw_terms.specs.TermView.{alts_of}
 use Rattle.chw_typing.specs.Alternatives.{Hides, HidesNone, NoneHidden}
-use Rattle.term_types.specs.Each.{Each}
-use Rattle.term_types.proofs.EachItem.{next_taken}
+use Rattle.seen_types.specs.Each.{Each}
+use Rattle.seen_types.proofs.EachItem.{next_taken}
 use Rattle.term_types.proofs.Keyed.{SomeHides}
-use Rattle.term_types.proofs.VarsFound.{read_at}
+use Rattle.term_frames.proofs.VarsFound.{read_at}
 use Rattle.std.proofs.lemmas.List.{take_all}
 
 hides_none_at : (p : Pattern) (alts : List Alt) (j : ℕ) (b : Alt) → slice_get alts j ≡ Some b → HidesNone p (alts_of alts) → Hides p b.pattern → ⊥

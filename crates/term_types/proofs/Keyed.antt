@@ -6,7 +6,7 @@ use Rattle.chw_terms.specs.declared.term.Alt.{Alt}
 use Rattle.chw_terms.specs.declared.term.Pattern.{Pattern}
 use Rattle.chw_terms.specs.declared.term.Pattern.TheVariants.{Default}
 use Rattle.chw_typing.specs.Alternatives.{Hides}
-use Rattle.term_types.specs.Each.{Each}
+use Rattle.seen_types.specs.Each.{Each}
 
 -- how keys are compared, which pattern each is for, and that equal keys are those of patterns that hide each other
 pub record Keys (K : Type 0) : Type 1 where

@@ -12,8 +12,8 @@ use Rattle.chw_typing.specs.Typing.{HasType, h_lam, h_ty_lam}
 use Rattle.chw_typing.specs.Finding.{Finds, f_lam, f_ty_lam}
 use Rattle.chw_typing.proofs.Kinded.{term_type, function_parts, function_takes}
 use Rattle.term_types.specs.Answers.{HasNoType, IsTyped, IsReady}
-use Rattle.term_types.specs.Kinding.{has_functions}
-use Rattle.term_types.specs.declared.found.Found.{Found}
+use Rattle.term_spines.specs.Kinding.{has_functions}
+use Rattle.seen_types.specs.declared.found.Found.{Found}
 use Rattle.chw_typing.proofs.FoundTyped.{found_is_type}
 use Rattle.term_types.proofs.Ready.{one, of_terms}
 

@@ -15,15 +15,15 @@ use Rattle.chw_typing.specs.Typing.{count, HasType, HasTypeUpTo, h_letrec, h_vec
 use Rattle.chw_typing.proofs.Kinded.{term_type, typed_append, bound_typed}
 use Rattle.chw_typing.specs.Finding.{Finds, f_letrec, f_vec}
 use Rattle.term_types.specs.Answers.{HasNoType, IsTyped, IsReady}
-use Rattle.term_types.specs.Each.{Each}
+use Rattle.seen_types.specs.Each.{Each}
 use Rattle.term_types.specs.Groups.{AreOfTerms, NotAllOfTerms, GoesWith, GoWith, IsGroupKind, HaveTheirTypes, together}
-use Rattle.term_types.specs.Kinding.{has_functions}
-use Rattle.term_types.specs.declared.found.Found.{Found}
-use Rattle.term_types.proofs.EachItem.{each_append, next_taken}
+use Rattle.term_spines.specs.Kinding.{has_functions}
+use Rattle.seen_types.specs.declared.found.Found.{Found}
+use Rattle.seen_types.proofs.EachItem.{each_append, next_taken}
 use Rattle.chw_typing.proofs.FoundTyped.{found_is_type}
 use Rattle.term_types.proofs.Lambdas.{functions_found, functions_none}
 use Rattle.term_types.proofs.Ready.{one, of_terms}
-use Rattle.term_types.proofs.VarsFound.{types_of}
+use Rattle.term_frames.proofs.VarsFound.{types_of}
 
 declared_of : (bs : List Binding) → declared (group_of bs) ≡ types_of bs
 declared_of [] = refl

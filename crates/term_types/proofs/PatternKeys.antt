@@ -19,7 +19,7 @@ use Rattle.term_types.specs.Keying.{IsFor}
 use Rattle.term_types.specs.contracts.alternatives.KeyPartialEq.TheImpl.{eq-value}
 use Rattle.term_types.specs.declared.alternatives.Key.{Key}
 use Rattle.term_types.specs.declared.alternatives.Key.TheVariants.{Constructor, Literal}
-use Rattle.term_types.proofs.EachItem.{next_taken}
+use Rattle.seen_types.proofs.EachItem.{next_taken}
 use Rattle.term_types.proofs.Keyed.{Keys, AreFor, keys_last}
 
 test_of_numbers : (c d : ℕ) → eq-value.it (Constructor c) (Constructor d) ≡ eqb c d

@@ -18,10 +18,10 @@ use Rattle.chw_typing.specs.HeadTypes.{con_type, widest, literal_type}
 use Rattle.chw_typing.specs.Typing.{HasType, h_var, h_global, h_made, h_con, h_prim, h_lit}
 use Rattle.chw_typing.specs.Finding.{Finds, f_var, f_made, f_con, f_prim, f_lit}
 use Rattle.term_types.specs.Answers.{HasNoType, IsTyped, IsAnswer, IsReady, IsSet}
-use Rattle.term_types.specs.InScope.{InScope}
-use Rattle.term_types.specs.VarsView.{IsAt}
-use Rattle.term_types.specs.Kinding.{LacksKind, IsWithKind}
-use Rattle.term_types.specs.declared.found.Found.{Found}
+use Rattle.term_frames.specs.InScope.{InScope}
+use Rattle.term_frames.specs.VarsView.{IsAt}
+use Rattle.term_spines.specs.Kinding.{LacksKind, IsWithKind}
+use Rattle.seen_types.specs.declared.found.Found.{Found}
 use Rattle.term_types.proofs.Ready.{without_kind}
 use Rattle.term_types.proofs.Scoped.{kind_at}
 

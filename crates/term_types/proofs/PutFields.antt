@@ -1,5 +1,5 @@
 -- The fields of a constructor, where the arguments of the data type are put in when a field is named.
-use Rattle.std.proofs.Common.{◌≡◌, ℕ, suc, zero, ◌≤◌, ◌<◌, ◌-◌, arith, get_or, inl, inr, refl, sym, ap, ◌∙◌, subst, List, [], ◌∷◌, map, length, reverse}
+use Rattle.std.proofs.Common.{◌≡◌, ℕ, suc, zero, ◌≤◌, ◌-◌, arith, inl, inr, refl, sym, ap, subst, List, [], ◌∷◌, map, length, reverse}
 use Rattle.std.specs.Prelude.{Some}
 use Rattle.std.specs.List.{slice_get}
 use Rattle.std.proofs.lemmas.List.{reverse-append}
@@ -9,13 +9,12 @@ use Rattle.chw_types.specs.declared.kind.Kind.{Kind}
 use Rattle.chw_types.specs.Arguments.{list_of, given, arguments}
 use Rattle.chw_types.specs.declared.declarations.Data.{Data}
 use Rattle.chw_types.specs.Kinds.{degree, KindsOf, KindOf, no_kinds, kind_and, kind_var, kind_nat, kind_sum, kind_product, kind_domain, kind_scalar, kind_vector, kind_data, kind_fun, kind_signal, kind_for_all}
-use Rattle.chw_types.specs.TypeMoves.{Substitution, sub, sub_all, up, up_by}
-use Rattle.chw_types.specs.TypeTree.{TypeTree, ty_var, data_of, TypeTrees}
+use Rattle.chw_types.specs.TypeMoves.{Substitution, sub, sub_all, up}
+use Rattle.chw_types.specs.TypeTree.{TypeTree, data_of, TypeTrees}
 use Rattle.chw_types.specs.TypeView.{trees_of}
-use Rattle.chw_types.proofs.Filled.{list_of_trees, filled_here}
+use Rattle.chw_types.proofs.Filled.{list_of_trees}
 use Rattle.chw_types.proofs.KindsFound.{kind_is_found}
 use Rattle.chw_types.proofs.KindsKept.{Puts, kind_put}
-use Rattle.chw_types.proofs.TypeLaws.{same, sub_ids, rename_by_none}
 use Rattle.type_laws.proofs.Arguing.{kinds_of_arguments}
 use Rattle.type_laws.proofs.KindsExact.{PutsKinds, kinds_under}
 use Rattle.chw_terms.specs.declared.term.Pattern.TheVariants.{OfCon}
@@ -28,23 +27,13 @@ use Rattle.chw_typing.proofs.Patterns.{fields_typed, constructor_arguments}
 use Rattle.chw_typing.specs.Finding.{settled}
 use Rattle.chw_typing.proofs.Settling.{settled_kinded}
 use Rattle.term_types.specs.Binding.{BindsFound, BindsKinded}
-use Rattle.term_types.specs.Each.{Each}
-use Rattle.term_types.specs.Keeping.{IsLinear, HasNoSums, HaveNoSums, KeepKinds}
-use Rattle.term_types.specs.Kinding.{HaveKinds}
-use Rattle.term_types.specs.FieldTypes.{args_seen, kind_by_form, kind_declared, kind_or_val, put_types, put_kinds}
-use Rattle.term_types.specs.declared.fields.Fields.{Fields}
-use Rattle.term_types.specs.declared.fields.Bound.TheVariants.{OfFields}
-use Rattle.term_types.proofs.EachItem.{each_append}
-
--- without arguments a field is as it is
-pub put_none : (f : TypeTree) (args : List TypeTree) → args ≡ [] → f ≡ sub f (arguments (trees_of args))
-put_none f args e =
-    sym (ap (λ us. sub f (arguments (trees_of us))) e ∙ ap (sub f) (same (given []) ty_var (λ x. refl)) ∙ sub_ids f)
-
--- the same of each of some fields
-pub each_put_none : (fs args : List TypeTree) → args ≡ [] → map (λ f. sub f (arguments (trees_of args))) fs ≡ fs
-each_put_none [] args e = refl
-each_put_none (f ∷ fs) args e = λ i. sym (put_none f args e) i ∷ each_put_none fs args e i
+use Rattle.seen_types.specs.Each.{Each}
+use Rattle.seen_types.specs.Keeping.{IsLinear, HasNoSums, HaveNoSums, KeepKinds}
+use Rattle.term_spines.specs.Kinding.{HaveKinds}
+use Rattle.term_frames.specs.FieldTypes.{args_seen, kind_by_form, kind_declared, kind_or_val, put_types, put_kinds}
+use Rattle.term_frames.specs.declared.fields.Fields.{Fields}
+use Rattle.term_frames.specs.declared.fields.Bound.TheVariants.{OfFields}
+use Rattle.seen_types.proofs.EachItem.{each_append}
 
 each_turned : (ts : List TypeTree) → Each IsLinear ts → Each IsLinear (reverse ts)
 each_turned [] h = tt
@@ -63,13 +52,6 @@ puts_arguments s kinds params args d linear x k e = (
   linear_given (reverse (list_of (trees_of args))) x (subst (λ us. Each IsLinear (reverse us)) (sym (list_of_trees args)) (each_turned args linear)),
 )
 
--- what stands for a variable among the parameters
-pub parameter_put : (args : List TypeTree) (x : ℕ) (a : TypeTree) → x < length args → a ≡ get_or args (length args - 1 - x) a → a ≡ sub (ty_var x) (arguments (trees_of args))
-unfolding sub up_by
-parameter_put args x a l e =
-    let here : a ≡ get_or args (length args - 1 - (x - 0)) a = e ∙ ap (λ n. get_or args (length args - 1 - n) a) (omega arith) in
-    sym (rename_by_none a) ∙ filled_here 0 x args a (omega arith) (omega (arith, l)) here ∙ ap (λ us. given (reverse us) x) (sym (list_of_trees args))
-
 -- a type that has a kind has the one of its form
 pub kind_is_by_form : {datas : List Data} {domains : ℕ} {scope : List Kind} {t : TypeTree} {k : Kind} → KindOf datas domains scope t k → kind_by_form datas domains scope t ≡ k
 unfolding kind_by_form
@@ -84,11 +66,6 @@ kind_is_by_form (kind_data e ds) = ap kind_declared e
 kind_is_by_form (kind_fun d e o) = kind_is_by_form e
 kind_is_by_form (kind_signal d e) = refl
 kind_is_by_form (kind_for_all d o) = ap kind_or_val (kind_is_found (kind_for_all d o))
-
--- no sum and no product is in a list of trees
-pub no_sums_in_trees : (ts : List TypeTree) → Each HasNoSums ts → HaveNoSums (trees_of ts)
-no_sums_in_trees [] h = tt
-no_sums_in_trees (t ∷ ts) h = (h.0, no_sums_in_trees ts h.1)
 
 -- a type without sums and products keeps its kind, whatever is put of the variables' kinds
 mutual

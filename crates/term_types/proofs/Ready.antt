@@ -1,6 +1,5 @@
 -- What types are found over, and that a term has one type.
-use Rattle.std.proofs.Common.{◌≡◌, sym, ap, ◌∙◌, subst, List, [], ◌∷◌, ◌++◌, reverse}
-use Rattle.std.proofs.lemmas.List.{reverse-append}
+use Rattle.std.proofs.Common.{◌≡◌, sym, subst, List, [], ◌∷◌, ◌++◌, reverse}
 use Rattle.chw_types.specs.declared.kind.Kind.{Kind}
 use Rattle.chw_types.specs.TypeTree.{TypeTree}
 use Rattle.chw_types.specs.Kinds.{IsOfTerms}
@@ -15,9 +14,10 @@ use Rattle.chw_typing.proofs.OneType.{one_type}
 use Rattle.chw_typing.proofs.SameScopes.{are_same_self}
 use Rattle.chw_typing.proofs.TermsPut.{term_put, puts_same}
 use Rattle.term_types.specs.Answers.{HasNoType, IsTyped, IsReady}
-use Rattle.term_types.specs.Kinding.{LacksKind}
-use Rattle.term_types.specs.declared.found.Found.{Found}
+use Rattle.term_spines.specs.Kinding.{LacksKind}
+use Rattle.seen_types.specs.declared.found.Found.{Found}
 use Rattle.chw_typing.proofs.FoundTyped.{found_is_type}
+use Rattle.term_spines.proofs.Waiting.{reverse_last}
 
 pub one : {s : Setting} {kinds : List Kind} {vars : List TypeTree} {e : TermTree} {t u : TypeTree} → IsReady s kinds vars → HasType s kinds vars e t → HasType s kinds vars e u → SameTypes t u
 one {vars = vars} h d g = one_type d g h.0 h.1 h.1 (are_same_self vars)
@@ -36,9 +36,6 @@ ready_under s kinds vars k h = (h.0, typed_under s kinds k vars h.1)
 -- with more variables
 pub ready_more : (s : Setting) (kinds : List Kind) (vars new : List TypeTree) → IsReady s kinds vars → AreTermTypes s kinds new → IsReady s kinds (with_more new vars)
 ready_more s kinds vars new h g = (h.0, typed_more s kinds new vars g h.1)
-
-pub reverse_last : {A : Type 0} (xs ys : List A) (x : A) → ys ≡ xs ++ x ∷ [] → x ∷ reverse xs ≡ reverse ys
-reverse_last xs ys x e = sym (ap reverse e ∙ reverse-append xs (x ∷ []))
 
 -- the kinds with one more at the end
 pub inner_kinds : (kinds inner : List Kind) (k : Kind) → inner ≡ kinds ++ k ∷ [] → reverse inner ≡ k ∷ reverse kinds

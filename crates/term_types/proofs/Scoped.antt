@@ -14,19 +14,19 @@ use Rattle.chw_typing.specs.Scopes.{Setting, HasKind, AreTermTypes, under_binder
 use Rattle.chw_typing.proofs.Kinded.{typed_reverse}
 use Rattle.chw_typing.proofs.Lists.{reverse_cons}
 use Rattle.term_types.specs.Answers.{IsReady, IsSet}
-use Rattle.term_types.specs.FieldTypes.{kinds_by_form}
+use Rattle.term_frames.specs.FieldTypes.{kinds_by_form}
 use Rattle.term_types.specs.Groups.{AreKinded, IsGroup}
-use Rattle.term_types.specs.InScope.{InScope}
-use Rattle.term_types.specs.Kinding.{HaveKinds}
-use Rattle.term_types.specs.VarsView.{written_types, written_kinds, bound_types, bound_kinds}
-use Rattle.term_types.specs.declared.fields.Bound.{Bound}
-use Rattle.term_types.specs.declared.found.Kinded.{Kinded}
+use Rattle.term_frames.specs.InScope.{InScope}
+use Rattle.term_spines.specs.Kinding.{HaveKinds}
+use Rattle.term_frames.specs.VarsView.{written_types, written_kinds, bound_types, bound_kinds}
+use Rattle.term_frames.specs.declared.fields.Bound.{Bound}
+use Rattle.seen_types.specs.declared.found.Kinded.{Kinded}
 use Rattle.term_types.specs.declared.groups.Group.{Group}
-use Rattle.term_types.proofs.EachItem.{next_taken}
+use Rattle.seen_types.proofs.EachItem.{next_taken}
 use Rattle.term_types.proofs.Lambdas.{lam_ready}
 use Rattle.term_types.proofs.PutFields.{kind_is_by_form}
 use Rattle.term_types.proofs.Ready.{ready_under, ready_more}
-use Rattle.term_types.proofs.VarsFound.{types_of}
+use Rattle.term_frames.proofs.VarsFound.{types_of}
 
 pub kinds_append : (s : Setting) (kinds : List Kind) (ts us : List TypeTree) (ks ls : List Kind) → HaveKinds s kinds ts ks → HaveKinds s kinds us ls → HaveKinds s kinds (ts ++ us) (ks ++ ls)
 kinds_append s kinds [] us [] ls h g = g

@@ -8,7 +8,7 @@ use Rattle.chw_terms.specs.TermTree.{TermTree}
 use Rattle.chw_typing.specs.Scopes.{Setting}
 use Rattle.chw_typing.specs.Typing.{HasTypeUpTo}
 use Rattle.term_types.specs.Answers.{HasNoType, IsTyped, IsReady}
-use Rattle.term_types.specs.declared.found.Found.{Found}
+use Rattle.seen_types.specs.declared.found.Found.{Found}
 use Rattle.chw_typing.proofs.FoundTyped.{found_is_type}
 use Rattle.term_types.proofs.Ready.{one}
 

@@ -5,9 +5,10 @@ use Rattle.chw_types.specs.TypeTree.{TypeTree}
 use Rattle.chw_terms.specs.TermTree.{TermTree, app, ty_app}
 use Rattle.chw_typing.specs.Scopes.{Setting}
 use Rattle.term_types.specs.Answers.{HasNoType, IsTyped, IsAnswer, IsReady}
-use Rattle.term_types.specs.Spines.{spine_found, AtTerm, AtType, IsSpineOf}
-use Rattle.term_types.specs.declared.found.Found.{Found}
-use Rattle.term_types.specs.declared.spines.Spine.{Spine}
+use Rattle.term_spines.specs.Spines.{spine_found, AtTerm, AtType}
+use Rattle.term_types.specs.AtArguments.{IsSpineOf}
+use Rattle.seen_types.specs.declared.found.Found.{Found}
+use Rattle.term_spines.specs.declared.spines.Spine.{Spine}
 use Rattle.term_types.proofs.Applied.{app_typed, app_untyped, ty_app_typed, ty_app_untyped}
 
 pub answer_some : (s : Setting) (kinds : List Kind) (vars : List TypeTree) (e : TermTree) (o : Option Found) (f : Found) → o ≡ Some f → IsAnswer s kinds vars e o → IsTyped s kinds vars e f

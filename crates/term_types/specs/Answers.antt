@@ -7,9 +7,9 @@ use Rattle.chw_typing.specs.Scopes.{Setting, HasKind, AreTermTypes}
 use Rattle.chw_typing.specs.Programs.{IsSound}
 use Rattle.chw_typing.specs.Typing.{HasType}
 use Rattle.chw_typing.specs.Finding.{Finds}
-use Rattle.term_types.specs.InScope.{InScope}
-use Rattle.term_types.specs.Kinding.{HaveKinds}
-use Rattle.term_types.specs.declared.found.Found.{Found}
+use Rattle.term_frames.specs.InScope.{InScope}
+use Rattle.term_spines.specs.Kinding.{HaveKinds}
+use Rattle.seen_types.specs.declared.found.Found.{Found}
 
 -- the term has no type
 abbrev pub HasNoType : Setting → List Kind → List TypeTree → TermTree → Type 0

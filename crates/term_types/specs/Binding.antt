@@ -13,11 +13,11 @@ use Rattle.chw_typing.specs.Scopes.{Setting, AreTermTypes}
 use Rattle.chw_typing.specs.HeadTypes.{widest, literal_type, PatternOf}
 use Rattle.chw_typing.specs.Typing.{Binds}
 use Rattle.chw_typing.specs.Finding.{settled}
-use Rattle.term_types.specs.Kinding.{LacksKindUpTo, IsSettled, HaveKinds}
-use Rattle.term_types.specs.VarsView.{bound_types, bound_kinds}
-use Rattle.term_types.specs.declared.fields.Bound.{Bound}
-use Rattle.term_types.specs.declared.fields.Bound.TheVariants.{Settled}
-use Rattle.term_types.specs.declared.found.Found.{Found}
+use Rattle.term_spines.specs.Kinding.{LacksKindUpTo, IsSettled, HaveKinds}
+use Rattle.term_frames.specs.VarsView.{bound_types, bound_kinds}
+use Rattle.term_frames.specs.declared.fields.Bound.{Bound}
+use Rattle.term_frames.specs.declared.fields.Bound.TheVariants.{Settled}
+use Rattle.seen_types.specs.declared.found.Found.{Found}
 
 -- the pattern is none for values of the type, or a field has no kind
 abbrev pub BindsNothing : Setting → List Kind → TypeTree → Pattern → Type 0

@@ -8,7 +8,7 @@ use Rattle.chw_terms.specs.declared.term.Alt.{Alt}
 use Rattle.chw_terms.specs.TermView.{alts_of}
 use Rattle.chw_typing.specs.Scopes.{Setting, with_more}
 use Rattle.chw_typing.specs.Typing.{Binds, HasType, AllGive}
-use Rattle.term_types.specs.declared.found.Found.{Found}
+use Rattle.seen_types.specs.declared.found.Found.{Found}
 use Rattle.term_types.specs.Answers.{IsTyped}
 use Rattle.term_types.specs.Binding.{BindsFound}
 

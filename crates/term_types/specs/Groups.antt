@@ -7,8 +7,8 @@ use Rattle.chw_types.specs.Kinds.{IsOfTerms, HasFunctions}
 use Rattle.chw_terms.specs.declared.term.Binding.{Binding}
 use Rattle.chw_typing.specs.Scopes.{Setting, HasKind, AreTermTypes}
 use Rattle.chw_typing.specs.Typing.{HasTypeUpTo}
-use Rattle.term_types.specs.Each.{Each}
-use Rattle.term_types.specs.declared.found.Kinded.{Kinded}
+use Rattle.seen_types.specs.Each.{Each}
+use Rattle.seen_types.specs.declared.found.Kinded.{Kinded}
 use Rattle.term_types.specs.declared.groups.Group.{Group}
 
 -- terms have each of the declared types

@@ -6,12 +6,13 @@ ghost use Rattle.chw_terms.specs.declared.term.Pattern.TheVariants.{Default};
 ghost use Rattle.term_types.specs.Cases.{IsJoined};
 ghost use Rattle.term_types.specs.Keying.{IsFor};
 
-use crate::found::{Found, has_functions};
 use chw_base::NoMemory;
 use chw_terms::{Alt, Pattern};
 use chw_types::{Scalar, same};
 use indexmap::IndexSet;
+use seen_types::found::Found;
 use std::alloc::Global;
+use term_spines::kinding::has_functions;
 
 /// What the alternatives so far give and what the next one gives, joined: the type of the first one, where the others have it too and its
 /// kind goes with that of what is looked at.

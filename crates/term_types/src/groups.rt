@@ -3,11 +3,12 @@ ghost use Rattle.std.specs.Prelude.{◌≡◌, reverse, IfOk, MatchOption};
 ghost use Rattle.chw_typing.specs.Scopes.{setting_in};
 ghost use Rattle.term_types.specs.Groups.{NotAllOfTerms, IsGroup, together};
 
-use crate::found::{Kinded, kind_of_terms};
 use chw_base::NoMemory;
 use chw_terms::{Binding, Scene};
 use chw_types::Kind;
+use seen_types::found::Kinded;
 use std::alloc::Global;
+use term_spines::kinding::kind_of_terms;
 
 /// The declared types of the bindings of a letrec with their kinds, and the kind that stands for them: a circuit where one of them is.
 #[derive(Drop)]

@@ -4,20 +4,21 @@ ghost use Rattle.chw_typing.specs.HeadTypes.{widest, literal_type};
 ghost use Rattle.chw_terms.specs.TermTree.{var, global, made, con, prim, lit};
 ghost use Rattle.chw_typing.specs.Scopes.{setting_in};
 ghost use Rattle.term_types.specs.Answers.{IsAnswer, IsSet};
-ghost use Rattle.term_types.specs.Signatures.{IsSignature};
+ghost use Rattle.term_frames.specs.Signatures.{IsSignature};
 
-use crate::constructors::con_type;
-use crate::found::{Found, with_kind};
-use crate::seen::Seen;
-use crate::signature::{HeadType, Signature, place_in_all};
-use crate::vars::Vars;
 use chw_base::limits::SCALAR_BITS;
 use chw_base::{ConId, DefId, MadeId, NoMemory, VarIx};
 use chw_bits::Bits;
 use chw_prims::Prim;
 use chw_terms::Scene;
 use chw_types::{Kind, Scalar, Ty};
+use seen_types::found::Found;
+use seen_types::seen::Seen;
 use std::alloc::Global;
+use term_frames::constructors::con_type;
+use term_frames::signature::{HeadType, Signature, place_in_all};
+use term_frames::vars::Vars;
+use term_spines::kinding::with_kind;
 
 /// A variable's type.
 pub(crate) fn variable<'t>(

@@ -5,21 +5,12 @@
 #![tactic(auto)]
 
 mod alternatives;
-mod closed;
-mod constructors;
-mod fields;
-mod found;
 mod groups;
 mod heads;
-mod kept;
-mod numbering;
 mod patterns;
-mod seen;
-pub mod signature;
-mod spines;
 pub mod typing;
-mod vars;
 mod walk;
 
-pub use signature::Signature;
+pub use term_frames::signature;
+pub use term_frames::signature::Signature;
 pub use typing::{type_in_scope, type_of, type_of_in};

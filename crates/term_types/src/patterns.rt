@@ -5,21 +5,21 @@ ghost use Rattle.chw_types.specs.TypeView.{trees_of};
 ghost use Rattle.chw_typing.specs.Scopes.{HasKind, setting_in};
 ghost use Rattle.chw_typing.specs.Programs.{IsSound};
 ghost use Rattle.term_types.specs.Binding.{BindsKinded, BindsNothing, IsLiteralOf, AreBoundSettled, NoneSettled, is_looked_at};
-ghost use Rattle.term_types.specs.FieldTypes.{args_seen};
-ghost use Rattle.term_types.specs.Signatures.{IsSignature};
+ghost use Rattle.term_frames.specs.FieldTypes.{args_seen};
+ghost use Rattle.term_frames.specs.Signatures.{IsSignature};
 ghost use Rattle.chw_terms.specs.declared.term.Pattern.TheVariants.{OfCon};
 
-use crate::fields::{Args, Bound, Fields};
-use crate::found::settled;
 use crate::heads::literal_type;
-use crate::kept::keep_kinds;
-use crate::seen::Seen;
-use crate::signature::Signature;
 use chw_base::{ConId, DataId, NoMemory};
 use chw_bits::Bits;
 use chw_terms::{Pattern, Scene};
 use chw_types::{Kind, Scalar, Ty, TyNode, put_arguments, same};
+use seen_types::kept::keep_kinds;
+use seen_types::seen::Seen;
 use std::alloc::Global;
+use term_frames::fields::{Args, Bound, Fields};
+use term_frames::signature::Signature;
+use term_spines::kinding::settled;
 
 /// The types of the variables that a pattern binds, the first one first, where it is one for values of this type.
 pub(crate) fn bound_types<'f, 't>(

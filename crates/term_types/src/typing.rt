@@ -3,16 +3,16 @@ ghost use Rattle.std.specs.Prelude.{◌≡◌, [], reverse, IfOk, IfSome, IfNone
 ghost use Rattle.chw_typing.specs.Scopes.{setting_in};
 ghost use Rattle.chw_typing.specs.Finding.{Finds};
 ghost use Rattle.term_types.specs.Answers.{HasNoType, IsReady, IsSet};
-ghost use Rattle.term_types.specs.Signatures.{IsSignature};
+ghost use Rattle.term_frames.specs.Signatures.{IsSignature};
 
-use crate::fields::outside;
-use crate::signature::Signature;
-use crate::vars::Vars;
 use crate::walk::infer;
 use chw_base::NoMemory;
 use chw_terms::{GapBuffer, Scene, Term};
 use chw_types::{Kind, Ty};
 use std::alloc::Global;
+use term_frames::fields::outside;
+use term_frames::signature::Signature;
+use term_frames::vars::Vars;
 
 /// The type of a term, with variables of these types in scope, the outermost first, and no type variables. Nothing comes exactly where the
 /// term has no type.

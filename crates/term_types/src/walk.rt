@@ -9,23 +9,25 @@ ghost use Rattle.chw_typing.specs.Typing.{HasTypeUpTo};
 ghost use Rattle.term_types.specs.Answers.{IsAnswer, IsSet, IsTyped};
 ghost use Rattle.term_types.specs.Cases.{Gives, GivesNothing};
 ghost use Rattle.term_types.specs.Groups.{HaveTheirTypes};
-ghost use Rattle.term_types.specs.Signatures.{IsSignature};
-ghost use Rattle.term_types.specs.Spines.{spine_found, IsNumbered, IsSpineOf};
+ghost use Rattle.term_frames.specs.Signatures.{IsSignature};
+ghost use Rattle.term_spines.specs.Spines.{spine_found, IsNumbered};
+ghost use Rattle.term_types.specs.AtArguments.{IsSpineOf};
 
 use crate::alternatives::{joined, none_hidden};
-use crate::found::{Found, has_functions, kind_of_terms};
 use crate::groups::group_types;
 use crate::heads::{definition, literal, made_definition, of_constructor, primitive, variable};
-use crate::numbering::{number_of_head, number_of_term};
 use crate::patterns::{bound_types, is_looked_at};
-use crate::seen::{for_all, function, vector};
-use crate::signature::Signature;
-use crate::spines::{Spine, at_term, at_type, finished, started};
-use crate::vars::Vars;
 use chw_base::{NoMemory, narrow};
 use chw_terms::{Alt, Arg, Binding, Head, Scene, Term};
 use chw_types::{Kind, Ty, same};
+use seen_types::found::Found;
+use seen_types::seen::{for_all, function, vector};
 use std::alloc::Global;
+use term_frames::numbering::{number_of_head, number_of_term};
+use term_frames::signature::Signature;
+use term_frames::vars::Vars;
+use term_spines::kinding::{has_functions, kind_of_terms};
+use term_spines::spines::{Spine, at_term, at_type, finished, started};
 
 /// The type of a term with its kind, where it has one.
 #[cycle(infer)]

@@ -14,7 +14,7 @@ ghost use Rattle.rewriting.specs.Spots.{spot_of};
 ghost use Rattle.rewriting.specs.Shapes.{IsClosed, IsMade, IsOfCircuit, fmap_of, leading_lambdas};
 ghost use Rattle.rule_parts.specs.Cores.{AnswersCore};
 ghost use Rattle.term_types.specs.Answers.{HasNoType, IsReady};
-ghost use Rattle.term_types.specs.Signatures.{IsSignature};
+ghost use Rattle.term_frames.specs.Signatures.{IsSignature};
 ghost use Rattle.work_names.specs.Functions.{AnswersLambdas};
 
 use crate::parameters::parameters;

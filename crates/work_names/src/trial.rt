@@ -10,7 +10,7 @@ ghost use Rattle.rewriting.specs.Origins.{origins_of};
 ghost use Rattle.rewriting.specs.Spots.{spot_of};
 ghost use Rattle.rule_parts.specs.Cores.{Answers};
 ghost use Rattle.term_types.specs.Answers.{IsReady};
-ghost use Rattle.term_types.specs.Signatures.{IsSignature};
+ghost use Rattle.term_frames.specs.Signatures.{IsSignature};
 ghost use Rattle.work_names.specs.Rules.{IsOfNames};
 
 use crate::eta::eta;

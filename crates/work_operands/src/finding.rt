@@ -9,7 +9,7 @@ ghost use Rattle.rewriting.specs.Spots.{spot_of};
 ghost use Rattle.rewriting.specs.Shapes.{IsVariable, IsLet};
 ghost use Rattle.rule_parts.specs.Cores.{HasTypeAt};
 ghost use Rattle.term_types.specs.Answers.{IsReady};
-ghost use Rattle.term_types.specs.Signatures.{IsSignature};
+ghost use Rattle.term_frames.specs.Signatures.{IsSignature};
 ghost use Rattle.call_types.specs.Arguments.{AllTyped};
 ghost use Rattle.work_operands.specs.Firsts.{AllElementsTyped, AnswersName, AnswersFirstArg, AnswersFirstElement, AnswersArg};
 

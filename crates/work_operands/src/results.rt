@@ -7,7 +7,7 @@ ghost use Rattle.rewriting.specs.Spots.{spot_of, HasLets};
 ghost use Rattle.rewriting.specs.Operands.{NoneNeedsName};
 ghost use Rattle.rule_parts.specs.Cores.{HasTypeAt};
 ghost use Rattle.term_types.specs.Answers.{IsReady};
-ghost use Rattle.term_types.specs.Signatures.{IsSignature};
+ghost use Rattle.term_frames.specs.Signatures.{IsSignature};
 ghost use Rattle.work_operands.specs.Firsts.{AnswersWhole};
 
 use crate::arguments::new_name;

@@ -5,7 +5,7 @@ ghost use Rattle.chw_terms.specs.TermTree.{prim};
 ghost use Rattle.chw_terms.specs.TermView.{applied};
 ghost use Rattle.chw_typing.specs.Scopes.{setting_in};
 ghost use Rattle.term_types.specs.Answers.{IsReady};
-ghost use Rattle.term_types.specs.Signatures.{IsSignature};
+ghost use Rattle.term_frames.specs.Signatures.{IsSignature};
 ghost use Rattle.rewriting.specs.Origins.{origins_of};
 ghost use Rattle.rewriting.specs.Spots.{spot_of};
 ghost use Rattle.rule_parts.specs.Cores.{Answers, AnswersCore};

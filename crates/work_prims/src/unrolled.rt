@@ -9,7 +9,7 @@ ghost use Rattle.chw_terms.specs.TermView.{applied};
 ghost use Rattle.chw_terms.specs.Unrolled.{CanUnroll, body_of, unrolled};
 ghost use Rattle.chw_typing.specs.Scopes.{setting_in};
 ghost use Rattle.term_types.specs.Answers.{IsReady};
-ghost use Rattle.term_types.specs.Signatures.{IsSignature};
+ghost use Rattle.term_frames.specs.Signatures.{IsSignature};
 ghost use Rattle.rewriting.specs.Origins.{origins_of};
 ghost use Rattle.rewriting.specs.Primitives.{AreInRange};
 ghost use Rattle.rewriting.specs.Spots.{spot_of};

@@ -9,7 +9,7 @@ ghost use Rattle.rewriting.specs.Spots.{spot_of};
 ghost use Rattle.rewriting.specs.Lifted.{IsFused, IsNotPure};
 ghost use Rattle.rewriting.specs.Shapes.{fmap_of, pure_of};
 ghost use Rattle.term_types.specs.Answers.{IsReady};
-ghost use Rattle.term_types.specs.Signatures.{IsSignature};
+ghost use Rattle.term_frames.specs.Signatures.{IsSignature};
 ghost use Rattle.work_signals.specs.Joined.{fmap_seen, ap_seen, AnswersJoin, both_mapped};
 
 use crate::building::{lifted, lifted_between, mapped_to_composing, mapped_to_results};

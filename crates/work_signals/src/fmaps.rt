@@ -9,7 +9,7 @@ ghost use Rattle.rewriting.specs.Spots.{spot_of};
 ghost use Rattle.rewriting.specs.Lifted.{IsFused};
 ghost use Rattle.rewriting.specs.Shapes.{pure_of};
 ghost use Rattle.term_types.specs.Answers.{IsReady};
-ghost use Rattle.term_types.specs.Signatures.{IsSignature};
+ghost use Rattle.term_frames.specs.Signatures.{IsSignature};
 ghost use Rattle.work_signals.specs.Joined.{fmap_seen, ap_seen, AnswersJoin};
 
 use crate::building::{constant, lifted, lifted_between};

@@ -2,9 +2,9 @@ use Rattle.std.proofs.Common.{◌≡◌, ◌∙◌, None, length, refl, sym, ap,
 use Rattle.std.proofs.lemmas.Bool.{ltb-true, ltb-false}
 use Rattle.std.proofs.lemmas.Option.{slice_get_read, slice_get_past, same_Some}
 use Rattle.chw_prims.specs.Schemas.{schema_type}
-use Rattle.term_types.specs.Signatures.{head_type}
-use Rattle.term_types.specs.declared.signature.HeadType.{HeadType}
-use Rattle.term_types.proofs.Signed.{primitive_placed}
+use Rattle.term_frames.specs.Signatures.{head_type}
+use Rattle.term_frames.specs.declared.signature.HeadType.{HeadType}
+use Rattle.term_frames.proofs.Signed.{primitive_placed}
 use Rattle.active_parts.proofs.demands.schema_of.Goals as goal
 
 pub unreachable-requires : goal.unreachable-requires

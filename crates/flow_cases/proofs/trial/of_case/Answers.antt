@@ -3,7 +3,7 @@ use Rattle.chw_terms.specs.declared.rule.Rule.TheVariants.{CaseCon, CaseLet}
 use Rattle.chw_terms.specs.TermTree.{TermTree}
 use Rattle.rewriting.specs.Origins.{origins_of}
 use Rattle.rewriting.specs.Spots.{spot_of}
-use Rattle.term_types.proofs.Matched.{ok_more}
+use Rattle.seen_types.proofs.Matched.{ok_more}
 use Rattle.flow_cases.specs.Answered.{AnswersAnywhere, AnswersOver, AnswersCase}
 use Rattle.flow_cases.proofs.trial.of_case.Goals as goal
 

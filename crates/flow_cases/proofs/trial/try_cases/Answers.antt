@@ -4,7 +4,7 @@ use Rattle.chw_terms.specs.TermTree.{TermTree, case_of}
 use Rattle.chw_terms.specs.TermView.{tree_of, alts_of, applied}
 use Rattle.rewriting.specs.Origins.{origins_of}
 use Rattle.rewriting.specs.Spots.{spot_of}
-use Rattle.term_types.proofs.Matched.{ok_more}
+use Rattle.seen_types.proofs.Matched.{ok_more}
 use Rattle.rule_parts.specs.Cores.{Answers, AnswersCore}
 use Rattle.flow_cases.proofs.Forms.{no_case}
 use Rattle.flow_cases.proofs.Trials.{nothing_else, behind_head}

@@ -6,7 +6,7 @@ use Rattle.chw_terms.specs.TermTree.{TermTree, prim}
 use Rattle.chw_terms.specs.TermView.{tree_of, applied}
 use Rattle.rewriting.specs.Origins.{origins_of}
 use Rattle.rewriting.specs.Spots.{spot_of, asked_for}
-use Rattle.term_types.proofs.Matched.{ok_more}
+use Rattle.seen_types.proofs.Matched.{ok_more}
 use Rattle.rule_parts.specs.Cores.{Answers}
 use Rattle.rule_parts.proofs.Heads.{bare, of_few_args, of_named_args, of_other_head}
 use Rattle.flow_demanded.proofs.Whole.{of_prims, looks_at_none, other_prim}

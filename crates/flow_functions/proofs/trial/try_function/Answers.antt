@@ -5,7 +5,7 @@ use Rattle.chw_terms.specs.TermTree.{TermTree}
 use Rattle.chw_terms.specs.TermView.{tree_of, applied}
 use Rattle.rewriting.specs.Origins.{origins_of}
 use Rattle.rewriting.specs.Spots.{spot_of}
-use Rattle.term_types.proofs.Matched.{ok_more}
+use Rattle.seen_types.proofs.Matched.{ok_more}
 use Rattle.rule_parts.specs.Cores.{Answers}
 use Rattle.flow_functions.proofs.Firsts.{nothing_alone, behind_first}
 use Rattle.flow_functions.proofs.trial.try_function.Goals as goal

@@ -4,7 +4,7 @@ use Rattle.chw_terms.specs.declared.rule.Rule.TheVariants.{Anf}
 use Rattle.chw_terms.specs.TermTree.{TermTree}
 use Rattle.rewriting.specs.Origins.{origins_of}
 use Rattle.rewriting.specs.Spots.{spot_of}
-use Rattle.term_types.proofs.Matched.{ok_more}
+use Rattle.seen_types.proofs.Matched.{ok_more}
 use Rattle.rule_parts.specs.Cores.{IsInstanceAnswer}
 use Rattle.work_operands.specs.Firsts.{AnswersWhole}
 use Rattle.rules_work.proofs.Wholes.{are_instances}

@@ -2,7 +2,7 @@ use Rattle.std.specs.Prelude.{Option}
 use Rattle.chw_terms.specs.TermTree.{TermTree}
 use Rattle.rewriting.specs.Origins.{origins_of}
 use Rattle.rewriting.specs.Spots.{spot_of}
-use Rattle.term_types.proofs.Matched.{ok_more}
+use Rattle.seen_types.proofs.Matched.{ok_more}
 use Rattle.rule_parts.specs.Kept.{KeepsTypes}
 use Rattle.rule_parts.specs.Cores.{IsInstanceAnswer}
 use Rattle.rules_work.proofs.Rules.{no_spec}

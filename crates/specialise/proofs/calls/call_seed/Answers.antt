@@ -5,7 +5,7 @@ use Rattle.rewriting.specs.Calls.{IsCall}
 use Rattle.rewriting.specs.Named.{IsNamed}
 use Rattle.rewriting.specs.Origins.{origins_of, setting_at}
 use Rattle.rewriting.specs.Spots.{spot_of}
-use Rattle.term_types.proofs.Matched.{of_none, of_some}
+use Rattle.seen_types.proofs.Matched.{of_none, of_some}
 use Rattle.specialise.proofs.calls.call_seed.Goals as goal
 
 pub returns-in_default : goal.returns-in_default

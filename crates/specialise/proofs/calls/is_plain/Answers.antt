@@ -1,6 +1,6 @@
 use Rattle.std.proofs.Common.{◌↔◌, IsTrue, subst, sym}
 use Rattle.rule_parts.specs.Cores.{HasTypeAt}
-use Rattle.term_types.proofs.Matched.{ok_more}
+use Rattle.seen_types.proofs.Matched.{ok_more}
 use Rattle.rewriting.specs.Origins.{origins_of}
 use Rattle.rewriting.specs.Spots.{spot_of}
 use Rattle.chw_terms.specs.TermView.{tree_of}

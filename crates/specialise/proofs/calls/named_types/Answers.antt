@@ -2,7 +2,7 @@ use Rattle.std.proofs.Common.{arith}
 use Rattle.chw_types.specs.TypeTree.{TypeTree}
 use Rattle.rewriting.specs.Origins.{origins_of}
 use Rattle.rewriting.specs.Spots.{spot_of}
-use Rattle.term_types.proofs.Matched.{of_none, of_some}
+use Rattle.seen_types.proofs.Matched.{of_none, of_some}
 use Rattle.specialise.specs.Calls.{HasNamedType}
 use Rattle.specialise.specs.Closed.{numbers}
 use Rattle.specialise.proofs.Scoped.{typed_more, none_have, number_at, all_typed}

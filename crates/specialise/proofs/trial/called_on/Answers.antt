@@ -2,7 +2,7 @@ use Rattle.chw_types.specs.TypeTree.{TypeTree}
 use Rattle.rewriting.specs.Calls.{IsCall}
 use Rattle.rewriting.specs.Origins.{origins_of}
 use Rattle.rewriting.specs.Spots.{spot_of}
-use Rattle.term_types.proofs.Matched.{of_none, of_some}
+use Rattle.seen_types.proofs.Matched.{of_none, of_some}
 use Rattle.specialise.specs.declared.numbers.Seed.{Seed}
 use Rattle.specialise.specs.Seeds.{made_of_seed, IsOfCall}
 use Rattle.specialise.proofs.trial.called_on.Goals as goal

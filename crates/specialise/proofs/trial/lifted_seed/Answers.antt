@@ -2,7 +2,7 @@ use Rattle.std.proofs.Common.{refl}
 use Rattle.chw_types.specs.TypeTree.{TypeTree}
 use Rattle.rewriting.specs.Origins.{origins_of}
 use Rattle.rewriting.specs.Spots.{spot_of}
-use Rattle.term_types.proofs.Matched.{of_none, of_some}
+use Rattle.seen_types.proofs.Matched.{of_none, of_some}
 use Rattle.specialise.specs.Seeds.{HasLambdas}
 use Rattle.specialise.proofs.trial.lifted_seed.Goals as goal
 

@@ -2,7 +2,7 @@ use Rattle.std.proofs.Common.{◌∙◌, ap}
 use Rattle.std.proofs.lemmas.Result.{IfOk-weaker}
 use Rattle.rewriting.specs.Origins.{origins_of}
 use Rattle.rewriting.specs.Spots.{spot_of}
-use Rattle.term_types.proofs.Matched.{not_true}
+use Rattle.seen_types.proofs.Matched.{not_true}
 use Rattle.specialise.specs.Special.{AnswersSpecial}
 use Rattle.specialise.specs.Closed.{numbers}
 use Rattle.specialise.proofs.Called.{called_plain}

@@ -1,7 +1,7 @@
 use Rattle.chw_types.specs.TypeTree.{TypeTree}
 use Rattle.rewriting.specs.Origins.{origins_of}
 use Rattle.rewriting.specs.Spots.{spot_of}
-use Rattle.term_types.proofs.Matched.{of_none, of_some, not_true}
+use Rattle.seen_types.proofs.Matched.{of_none, of_some, not_true}
 use Rattle.specialise.specs.declared.numbers.Seed.{Seed}
 use Rattle.specialise.specs.Seeds.{HasLambdas}
 use Rattle.specialise.proofs.Numbering.{IsLiftedSeed, none_special, lifted_in, none_lifted, lifted_done}

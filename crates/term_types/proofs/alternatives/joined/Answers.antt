@@ -3,7 +3,7 @@ use Rattle.chw_types.specs.SameTypes.{SameTypes}
 use Rattle.chw_types.specs.TypeTree.{TypeTree}
 use Rattle.term_types.specs.Cases.{IsJoined}
 use Rattle.term_types.proofs.Lambdas.{functions_found, functions_none}
-use Rattle.term_types.proofs.Matched.{not_true}
+use Rattle.seen_types.proofs.Matched.{not_true}
 use Rattle.term_types.proofs.alternatives.joined.Goals as goal
 
 pub returns-then-branch : goal.returns-then-branch

@@ -4,7 +4,7 @@ use Rattle.std.proofs.lemmas.Bool.{false≢true}
 use Rattle.chw_terms.specs.declared.term.Alt.{Alt}
 use Rattle.chw_typing.specs.Alternatives.{Hides}
 use Rattle.term_types.specs.contracts.alternatives.KeyPartialEq.TheImpl.{eq-value}
-use Rattle.term_types.specs.Each.{Each}
+use Rattle.seen_types.specs.Each.{Each}
 use Rattle.term_types.proofs.HiddenFound.{hidden_at, none_next, none_all, some_next}
 use Rattle.term_types.proofs.Keyed.{AreFor, found_hides, none_hides, no_default}
 use Rattle.term_types.proofs.PatternKeys.{pattern_keys, keys_of_none, keyed_next, not_new, is_new}

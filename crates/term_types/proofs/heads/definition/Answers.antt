@@ -6,7 +6,7 @@ use Rattle.std.proofs.lemmas.Option.{slice_get_read, slice_get_past}
 use Rattle.chw_terms.specs.declared.program.Def.{Def}
 use Rattle.chw_typing.specs.Scopes.{setting_in}
 use Rattle.term_types.proofs.Plain.{global_missing, missing_in_map}
-use Rattle.term_types.proofs.Signed.{global_signed, global_unsigned}
+use Rattle.term_types.proofs.HeadsSigned.{global_signed, global_unsigned}
 use Rattle.term_types.proofs.heads.definition.Goals as goal
 
 pub returns-in_default : goal.returns-in_default

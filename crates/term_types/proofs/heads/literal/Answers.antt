@@ -1,7 +1,7 @@
 use Rattle.std.proofs.Common.{◌≡◌, ◌<◌, ◌≤◌, length, ◌∙◌}
 use Rattle.chw_types.specs.TypeTree.{TypeTree}
 use Rattle.chw_typing.specs.HeadTypes.{widest, literal_type}
-use Rattle.term_types.proofs.Matched.{of_some, is_none}
+use Rattle.seen_types.proofs.Matched.{of_some, is_none}
 use Rattle.term_types.proofs.Plain.{lit_typed, lit_wide}
 use Rattle.term_types.proofs.heads.literal.Goals as goal
 

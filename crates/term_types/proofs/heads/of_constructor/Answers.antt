@@ -1,9 +1,9 @@
 use Rattle.std.proofs.Common.{Some, ap, sym, ◌∙◌}
 use Rattle.std.specs.Prelude.{reverse}
 use Rattle.chw_typing.specs.Scopes.{setting_in}
-use Rattle.term_types.specs.Signatures.{head_type}
-use Rattle.term_types.specs.declared.signature.HeadType.{HeadType}
-use Rattle.term_types.proofs.Signed.{head_kinded, kept_answered}
+use Rattle.term_frames.specs.Signatures.{head_type}
+use Rattle.term_frames.specs.declared.signature.HeadType.{HeadType}
+use Rattle.term_types.proofs.HeadsSigned.{head_kinded, kept_answered}
 use Rattle.term_types.proofs.heads.of_constructor.Goals as goal
 
 pub returns-in-Some : goal.returns-in-Some

@@ -5,9 +5,10 @@ use Rattle.std.proofs.lemmas.Bool.{ltb-true, ltb-false}
 use Rattle.std.proofs.lemmas.Option.{slice_get_read, slice_get_past, same_Some}
 use Rattle.chw_prims.specs.Schemas.{schema_type}
 use Rattle.chw_typing.specs.Scopes.{setting_in}
-use Rattle.term_types.specs.Signatures.{head_type}
-use Rattle.term_types.specs.declared.signature.HeadType.{HeadType}
-use Rattle.term_types.proofs.Signed.{head_kinded, primitive_answered, primitive_placed}
+use Rattle.term_frames.specs.Signatures.{head_type}
+use Rattle.term_frames.specs.declared.signature.HeadType.{HeadType}
+use Rattle.term_types.proofs.HeadsSigned.{head_kinded, primitive_answered}
+use Rattle.term_frames.proofs.Signed.{primitive_placed}
 use Rattle.term_types.proofs.heads.primitive.Goals as goal
 
 pub returns-in-Some : goal.returns-in-Some

@@ -4,8 +4,8 @@ use Rattle.chw_types.specs.TypeMoves.{shift}
 use Rattle.chw_terms.specs.TermTree.{var}
 use Rattle.chw_typing.specs.Scopes.{setting_in}
 use Rattle.term_types.specs.Answers.{IsAnswer}
-use Rattle.term_types.specs.VarsView.{IsAt}
-use Rattle.term_types.proofs.Matched.{ok_more}
+use Rattle.term_frames.specs.VarsView.{IsAt}
+use Rattle.seen_types.proofs.Matched.{ok_more}
 use Rattle.term_types.proofs.Plain.{var_told}
 use Rattle.term_types.proofs.heads.variable.Goals as goal
 

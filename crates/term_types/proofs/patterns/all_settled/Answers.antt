@@ -1,10 +1,10 @@
 use Rattle.std.proofs.Common.{arith}
 use Rattle.std.specs.Prelude.{reverse}
 use Rattle.chw_typing.specs.Scopes.{setting_in}
-use Rattle.term_types.specs.Kinding.{LacksKindUpTo, IsSettled}
-use Rattle.term_types.specs.declared.found.Found.{Found}
+use Rattle.term_spines.specs.Kinding.{LacksKindUpTo, IsSettled}
+use Rattle.seen_types.specs.declared.found.Found.{Found}
 use Rattle.term_types.proofs.Bound.{settled_more, settled_all, unsettled_at}
-use Rattle.term_types.proofs.Matched.{of_some, is_none}
+use Rattle.seen_types.proofs.Matched.{of_some, is_none}
 use Rattle.term_types.proofs.patterns.all_settled.Goals as goal
 
 pub loop-field-preserved : goal.loop-field-preserved

@@ -1,15 +1,15 @@
 use Rattle.std.proofs.Common.{sym, subst, List}
 use Rattle.std.specs.Prelude.{IfOk, MatchOption, reverse}
-use Rattle.term_types.specs.declared.found.Found.{Found}
+use Rattle.seen_types.specs.declared.found.Found.{Found}
 use Rattle.chw_terms.specs.declared.term.Pattern.TheVariants.{OfLit, Default}
 use Rattle.term_types.specs.Binding.{BindsFound, BindsKinded, BindsNothing, IsLiteralOf}
-use Rattle.term_types.specs.Kinding.{HaveKinds}
-use Rattle.term_types.specs.VarsView.{found_types, found_kinds}
-use Rattle.term_types.specs.declared.fields.Bound.{Bound}
-use Rattle.term_types.specs.declared.fields.Bound.TheVariants.{Settled}
+use Rattle.term_spines.specs.Kinding.{HaveKinds}
+use Rattle.term_frames.specs.VarsView.{found_types, found_kinds}
+use Rattle.term_frames.specs.declared.fields.Bound.{Bound}
+use Rattle.term_frames.specs.declared.fields.Bound.TheVariants.{Settled}
 use Rattle.chw_typing.specs.Scopes.{setting_in}
 use Rattle.term_types.proofs.Bound.{default_binds, literal_binds, literal_none}
-use Rattle.term_types.proofs.Matched.{not_true}
+use Rattle.seen_types.proofs.Matched.{not_true}
 use Rattle.term_types.proofs.patterns.bound_types.Goals as goal
 
 pub returns-in-OfCon : goal.returns-in-OfCon

@@ -1,12 +1,12 @@
 use Rattle.std.proofs.Common.{◌≡◌, Some, None, length, refl, sym, ap, ◌∙◌, subst}
 use Rattle.std.specs.Prelude.{MatchOption, reverse}
-use Rattle.term_types.specs.declared.fields.Bound.{Bound}
-use Rattle.term_types.specs.declared.fields.Fields.{Fields}
+use Rattle.term_frames.specs.declared.fields.Bound.{Bound}
+use Rattle.term_frames.specs.declared.fields.Fields.{Fields}
 use Rattle.chw_terms.specs.Constructors.{con_at}
 use Rattle.con_places.specs.Constructing.{constructor_of}
 use Rattle.term_types.specs.Binding.{AreBoundSettled, NoneSettled}
-use Rattle.term_types.specs.FieldTypes.{args_seen}
-use Rattle.term_types.specs.Keeping.{KeepKinds}
+use Rattle.term_frames.specs.FieldTypes.{args_seen}
+use Rattle.seen_types.specs.Keeping.{KeepKinds}
 use Rattle.chw_typing.specs.Scopes.{setting_in}
 use Rattle.term_types.proofs.Bound.{con_missing, con_other, con_names, fields_told}
 use Rattle.term_types.proofs.PutFields.{con_put}

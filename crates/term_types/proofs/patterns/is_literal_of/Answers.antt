@@ -3,7 +3,7 @@ use Rattle.std.specs.Prelude.{MatchOption}
 use Rattle.chw_types.specs.TypeTree.{TypeTree}
 use Rattle.chw_typing.specs.HeadTypes.{widest, literal_type}
 use Rattle.term_types.proofs.Bound.{literal_same, literal_wide}
-use Rattle.term_types.proofs.Matched.{of_some}
+use Rattle.seen_types.proofs.Matched.{of_some}
 use Rattle.term_types.proofs.patterns.is_literal_of.Goals as goal
 
 pub returns-in_ok-same-in-Some : goal.returns-in_ok-same-in-Some

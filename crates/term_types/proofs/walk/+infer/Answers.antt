@@ -17,24 +17,25 @@ use Rattle.term_types.specs.Answers.{HasNoType, IsTyped, IsAnswer}
 use Rattle.term_types.specs.Binding.{BindsKinded, BindsNothing, is_looked_at}
 use Rattle.term_types.specs.Cases.{Gives, GivesNothing, IsJoined}
 use Rattle.term_types.specs.Groups.{HaveTheirTypes, NotAllOfTerms, IsGroup}
-use Rattle.term_types.specs.Spines.{spine_found, AtTerm, AtType, IsNumbered, IsSpineOf}
-use Rattle.term_types.specs.VarsView.{bound_types}
-use Rattle.term_types.specs.declared.fields.Bound.{Bound}
+use Rattle.term_spines.specs.Spines.{spine_found, AtTerm, AtType, IsNumbered}
+use Rattle.term_types.specs.AtArguments.{IsSpineOf}
+use Rattle.term_frames.specs.VarsView.{bound_types}
+use Rattle.term_frames.specs.declared.fields.Bound.{Bound}
 use Rattle.term_types.specs.declared.groups.Group.{Group}
-use Rattle.term_types.specs.declared.spines.Spine.{Spine}
+use Rattle.term_spines.specs.declared.spines.Spine.{Spine}
 use Rattle.term_types.proofs.Applied.{applied_none, app_argument_untyped}
 use Rattle.term_types.proofs.Bound.{looked_found, looked_none}
 use Rattle.term_types.proofs.Cased.{case_on, case_looked, case_hidden, case_alt, gives_told, joined_next, joined_none, nothing_joined, together_told}
-use Rattle.term_types.proofs.EachItem.{each_next, each_all, each_at}
+use Rattle.seen_types.proofs.EachItem.{each_next, each_all, each_at}
 use Rattle.term_types.proofs.HeadsApplied.{spine_next, spine_none, spine_all}
 use Rattle.term_types.proofs.Lambdas.{lam_ready, lam_typed, lam_parameter, lam_body, lam_kinds, ty_lam_typed, ty_lam_body}
 use Rattle.term_types.proofs.Lets.{let_typed, let_group, let_body, let_kind, let_types, vec_element, vec_elements, vec_typed}
-use Rattle.term_types.proofs.Numbered.{numbered_start, unnumbered}
-use Rattle.term_types.proofs.Matched.{of_some, of_none, ok_more, not_true}
+use Rattle.term_spines.proofs.Waiting.{numbered_start, unnumbered}
+use Rattle.seen_types.proofs.Matched.{of_some, of_none, ok_more, not_true}
 use Rattle.term_types.proofs.Ready.{inner_kinds, ready_more, ready_under}
 use Rattle.term_types.proofs.Scoped.{lam_set, set_under, group_inside, fields_inside}
 use Rattle.term_types.proofs.Told.{up_to_told, up_to_none}
-use Rattle.term_types.proofs.VarsFound.{types_of}
+use Rattle.term_frames.proofs.VarsFound.{types_of}
 use Rattle.term_types.proofs.Walked.{answer_some, answer_none, answer_is_none, app_told, ty_app_told}
 use Rattle.term_types.proofs.walk.+infer.Goals as goal
 

@@ -6,9 +6,9 @@ use Rattle.chw_terms.specs.TermView.{tree_of, applied, terms_of, group_of, alts_
 use Rattle.chw_typing.specs.Typing.{HasTypeUpTo}
 use Rattle.term_types.specs.Answers.{IsTyped}
 use Rattle.term_types.specs.Cases.{GiveTogether}
-use Rattle.term_types.specs.Each.{Each}
+use Rattle.seen_types.specs.Each.{Each}
 use Rattle.term_types.specs.Groups.{HaveTheirTypes}
-use Rattle.term_types.specs.Spines.{spine_found, IsNumbered}
+use Rattle.term_spines.specs.Spines.{spine_found, IsNumbered}
 use Rattle.chw_typing.specs.Scopes.{setting_in}
 use Rattle.term_types.proofs.walk.+infer.Given as goal
 

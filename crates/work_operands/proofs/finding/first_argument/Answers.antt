@@ -4,7 +4,7 @@ use Rattle.chw_terms.specs.TermTree.{TermTree}
 use Rattle.rewriting.specs.Origins.{origins_of}
 use Rattle.rewriting.specs.Spots.{spot_of}
 use Rattle.rewriting.specs.Operands.{NeedsName}
-use Rattle.term_types.proofs.Matched.{of_none}
+use Rattle.seen_types.proofs.Matched.{of_none}
 use Rattle.work_operands.specs.Firsts.{IsAmong, IsNamedPart, AnswersArg}
 use Rattle.work_operands.proofs.Searching.{item, none_more, first_arg}
 use Rattle.work_operands.proofs.finding.first_argument.Goals as goal

@@ -2,7 +2,7 @@ use Rattle.std.proofs.Common.{subst}
 use Rattle.rewriting.specs.Origins.{origins_of}
 use Rattle.rewriting.specs.Spots.{spot_of}
 use Rattle.rewriting.specs.Operands.{NeedsName}
-use Rattle.term_types.proofs.Matched.{of_none}
+use Rattle.seen_types.proofs.Matched.{of_none}
 use Rattle.work_operands.specs.Firsts.{AnswersName, NeedsNameOf}
 use Rattle.work_operands.proofs.Searching.{item, no_element_more, first_element}
 use Rattle.work_operands.proofs.finding.first_element.Goals as goal

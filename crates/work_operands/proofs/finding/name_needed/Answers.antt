@@ -3,7 +3,7 @@ use Rattle.rewriting.specs.Named.{IsNamed}
 use Rattle.rewriting.specs.Origins.{origins_of, setting_at}
 use Rattle.rewriting.specs.Spots.{spot_of}
 use Rattle.term_types.specs.Answers.{IsReady}
-use Rattle.term_types.proofs.Matched.{not_true}
+use Rattle.seen_types.proofs.Matched.{not_true}
 use Rattle.work_operands.proofs.Needs.{needs_found, found_is_named}
 use Rattle.work_operands.proofs.finding.name_needed.Goals as goal
 

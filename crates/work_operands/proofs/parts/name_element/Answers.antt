@@ -6,7 +6,7 @@ use Rattle.chw_terms.specs.TermView.{terms_of}
 use Rattle.rewriting.specs.Origins.{origins_of}
 use Rattle.rewriting.specs.Spots.{spot_of}
 use Rattle.rewriting.specs.Operands.{OfOperands}
-use Rattle.term_types.proofs.Matched.{of_none, not_true}
+use Rattle.seen_types.proofs.Matched.{of_none, not_true}
 use Rattle.work_operands.specs.Firsts.{AnswersFirstElement, NoElementBefore, IsFirstElement}
 use Rattle.work_operands.proofs.CasesAndVectors.{element_named, elements_stay}
 use Rattle.work_operands.proofs.Typed.{elements_typed}

@@ -5,7 +5,7 @@ use Rattle.chw_terms.specs.TermView.{alts_of}
 use Rattle.rewriting.specs.Origins.{origins_of}
 use Rattle.rewriting.specs.Spots.{spot_of}
 use Rattle.rewriting.specs.Operands.{NeedsName, OfOperands}
-use Rattle.term_types.proofs.Matched.{of_none}
+use Rattle.seen_types.proofs.Matched.{of_none}
 use Rattle.work_operands.specs.Firsts.{AnswersName, NeedsNameOf}
 use Rattle.work_operands.specs.Named.{let_of}
 use Rattle.work_operands.proofs.CasesAndVectors.{scrutinee_named, scrutinee_stays}

@@ -3,7 +3,7 @@ use Rattle.chw_terms.specs.declared.rule.Rule.TheVariants.{Anf}
 use Rattle.rewriting.specs.Origins.{origins_of}
 use Rattle.rewriting.specs.Spots.{spot_of}
 use Rattle.rewriting.specs.Calls.{OfWhole, anf_result}
-use Rattle.term_types.proofs.Matched.{not_true}
+use Rattle.seen_types.proofs.Matched.{not_true}
 use Rattle.work_operands.specs.Named.{let_of}
 use Rattle.work_operands.proofs.AtResults.{only_results}
 use Rattle.work_operands.proofs.results.name_result.Goals as goal

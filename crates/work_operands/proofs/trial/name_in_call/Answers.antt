@@ -1,6 +1,6 @@
 use Rattle.rewriting.specs.Origins.{origins_of}
 use Rattle.rewriting.specs.Spots.{spot_of}
-use Rattle.term_types.proofs.Matched.{not_true}
+use Rattle.seen_types.proofs.Matched.{not_true}
 use Rattle.work_operands.proofs.Heads.{call_answers, call_stays}
 use Rattle.call_types.proofs.Arguments.{arguments_typed}
 use Rattle.work_operands.proofs.trial.name_in_call.Goals as goal

@@ -4,7 +4,7 @@ use Rattle.chw_terms.specs.TermTree.{con}
 use Rattle.con_places.specs.Constructing.{constructor_of}
 use Rattle.rewriting.specs.Origins.{origins_of}
 use Rattle.rewriting.specs.Spots.{spot_of}
-use Rattle.term_types.proofs.Matched.{not_true}
+use Rattle.seen_types.proofs.Matched.{not_true}
 use Rattle.work_operands.proofs.Heads.{con_answers, con_stays}
 use Rattle.call_types.proofs.Arguments.{arguments_typed}
 use Rattle.work_operands.proofs.trial.name_of_con.Goals as goal

@@ -5,7 +5,7 @@ use Rattle.rewriting.specs.Spots.{spot_of}
 use Rattle.rewriting.specs.Calls.{OfWhole}
 use Rattle.rewriting.specs.Operands.{NoneNeedsName}
 use Rattle.rule_parts.specs.Cores.{MakesOf}
-use Rattle.term_types.proofs.Matched.{of_none}
+use Rattle.seen_types.proofs.Matched.{of_none}
 use Rattle.work_operands.proofs.trial.try_operands.Goals as goal
 
 pub name_result-requires-clause-none : goal.name_result-requires-clause-none

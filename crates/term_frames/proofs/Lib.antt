@@ -1,0 +1,5 @@
+pub mod Built
+pub mod FieldsPut
+pub mod Numbered
+pub mod Signed
+pub mod VarsFound
