@@ -67,9 +67,9 @@ AreFirstOrder p state =
     → IsMonomorphic it.body × IsFirstOrder p.datas it.body
 
 -- the net is one that the program is compiled to by so many steps at most: the state of which it is
--- built is monomorphic and first-order; the net is well formed, and its text, read again, denotes it
--- and no other; its flat net is sound, and at each history of the program the outputs of that have
--- the bits of what they mean
+-- built is monomorphic and first-order; the net is well formed, and its text, read again, denotes
+-- it and no other; its flat net is sound, and at each history of the program the outputs of that
+-- have the bits of what they mean
 pub record IsNetFor (p : Program) (budget : ℕ) (net : Net) : Type 0 where
   pub flat : Flat
   pub compiles : CompilesTo p budget net flat

@@ -1,5 +1,5 @@
--- How an answer is written: in pieces, one call of `put` for each. `gives` is what a call of `put` may do, `written` the bytes that a
--- sink tells.
+-- How an answer is written: in pieces, one call of `put` for each. `gives` is what a call of `put`
+-- may do, `written` the bytes that a sink tells.
 use Rattle.std.specs.Prelude.{◌≡◌, ◌≢◌, ℕ, zero, suc, ◌+◌, ◌*◌, ◌/◌, ◌-◌, ◌<◌, List, length, take, drop, Option, Result, Ok, Err}
 use Rattle.chw_base.specs.Writing.{GrewBy, Writes}
 use Rattle.chw_base.specs.declared.limits.TheConstants.{PIECE_BYTES}
@@ -16,7 +16,8 @@ abbrev pub piece : List ℕ → ℕ → List ℕ
 piece bytes k = take PIECE_BYTES (drop (PIECE_BYTES * k) bytes)
 
 module _ {S : Type 0} (gives : S → List ℕ → Result (Unit {0}) (Or SinkFault) → S → Type 0) where
-  -- the second sink is the first one after one call for each of the first k pieces, in order, each taken whole
+  -- the second sink is the first one after one call for each of the first k pieces, in order, each
+  -- taken whole
   pub data PutsFirst (bytes : List ℕ) : ℕ → S → S → Type 0 where
     none : (s : S) → PutsFirst bytes zero s s
     more : (k : ℕ) (s t u : S) → PutsFirst bytes k s t → gives t (piece bytes k) (Ok tt) u → PutsFirst bytes (suc k) s u
@@ -27,8 +28,8 @@ module _ {S : Type 0} (gives : S → List ℕ → Result (Unit {0}) (Or SinkFaul
     pub grew : GrewBy bytes (written s) (written t)
     pub faults_same : faults t ≡ faults s
 
-  -- the call for some piece gave this answer, after those before it were taken whole; so some first part of the answer was written,
-  -- which is whole pieces where memory was wanting
+  -- the call for some piece gave this answer, after those before it were taken whole; so some first
+  -- part of the answer was written, which is whole pieces where memory was wanting
   pub record StopsAt (written : S → Option (List ℕ)) (answer : Or SinkFault) (bytes : List ℕ) (s u : S) : Type 0 where
     pub k : ℕ
     pub within : k < pieces bytes
@@ -44,8 +45,8 @@ module _ {S : Type 0} (gives : S → List ℕ → Result (Unit {0}) (Or SinkFaul
     pub memory : answer ≢ Err Memory
     pub writes : Writes line (written s) (written t) (faults s) (faults t) answer
 
-  -- where memory was wanting: nothing was put, which happens to lines that take memory to make alone; or the line was put in one call,
-  -- which found no memory
+  -- where memory was wanting: nothing was put, which happens to lines that take memory to make
+  -- alone; or the line was put in one call, which found no memory
   pub data TellsNothing (line : List ℕ) (Takes : Type 0) : S → S → Type 0 where
     silent : (s : S) → Takes → TellsNothing line Takes s s
     failed : (s t : S) → gives s line (Err Memory) t → TellsNothing line Takes s t

@@ -88,14 +88,16 @@ pub data AreHeld (files : Files) : List Wanted → List (List ℕ) → Type 0 wh
       → IsHeld files file text → AreHeld files wanted texts
       → AreHeld files (file ∷ wanted) (text ∷ texts)
 
--- the command comes to a file that isn't held: those before it are, and with each of them it goes on
+-- the command comes to a file that isn't held: those before it are, and with each of them it goes
+-- on
 pub data Misses (files : Files) (command : Command) : List Wanted → Type 0 where
   here : (file : Wanted) (wanted : List Wanted) → file_of files file.name ≡ None
       → Misses files command (file ∷ wanted)
   later : (file : Wanted) (wanted : List Wanted) (text : List ℕ) → IsHeld files file text
       → GoesOn command text → Misses files command wanted → Misses files command (file ∷ wanted)
 
--- by the files where they are told, the words, and whether the faults of the shelf and of `out` rose
+-- by the files where they are told, the words, and whether the faults of the shelf and of `out`
+-- rose
 pub record IsExact (told : Option Files) (words : List (List ℕ)) (ShelfRose OutRose : Type 0)
     (s : Status) : Type 0 where
   -- the words are refused exactly where they are no command

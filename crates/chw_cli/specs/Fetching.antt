@@ -25,8 +25,8 @@ module _ {S : Type 0} (gives : FetchGives S) (told : S → Option Files) (faults
         → Gets gives told faults name limit answer bytes s t → IsUnread answer
         → ReadsNothing name limit s t (refusal.Read name)
 
-  -- why the command doesn't go on after a wanted file: nothing was read, the file is too long, or its
-  -- text is wrong
+  -- why the command doesn't go on after a wanted file: nothing was read, the file is too long, or
+  -- its text is wrong
   pub data RefusesFile (file : Wanted) (IsWrong : List ℕ → Refusal → Type 0) (s t : S)
       : Refusal → Type 0 where
     nothing : (r : Refusal) → ReadsNothing file.name file.limit s t r

@@ -123,8 +123,8 @@ line_of (Loop cycle) = codes "chw: E16 loop" ++ wire_texts cycle ++ codes "\n"
 line_of Write = codes "chw: write\n"
 line_of Memory = codes "chw: memory\n"
 
--- the line of a refusal takes memory to make, if it shows a place, a number of steps, a file's name,
--- names, a type or wires
+-- the line of a refusal takes memory to make, if it shows a place, a number of steps, a file's
+-- name, names, a type or wires
 abbrev pub TakesMemory : Refusal → Type 0
 TakesMemory (Read name) = Unit {0}
 TakesMemory (Lex at) = Unit {0}

@@ -20,8 +20,8 @@ use Rattle.answers.specs.SimAnswer.Simulation.{IsSimFault}
 use Rattle.answers.specs.declared.sim_answer.fault.SimFault.{SimFault}
 
 -- the answer to a program and a stimulus: why the program can't be compiled by so many steps as a
--- budget has at most; or, where it can, why the text is no stimulus of values for it; or, where it is
--- one, the lines of what is counted and summed up
+-- budget has at most; or, where it can, why the text is no stimulus of values for it; or, where it
+-- is one, the lines of what is counted and summed up
 pub data TallyAnswer (p : Program) (stimulus : List ℕ) : Result (List ℕ) Refusal → Type 0 where
   not_compiled : (fault : CompileFault) → IsCompileFault p MOST_BUDGET fault
       → TallyAnswer p stimulus (Err (refusal_of_compile p fault))
@@ -30,14 +30,14 @@ pub data TallyAnswer (p : Program) (stimulus : List ℕ) : Result (List ℕ) Ref
   tallied : (tally : Tally) → IsTally p MOST_BUDGET stimulus tally
       → TallyAnswer p stimulus (Ok (tally_lines tally))
 
--- the answer to a text and a stimulus: why the text is no description that is typed; or, where it is
--- one, the answer to its program
+-- the answer to a text and a stimulus: why the text is no description that is typed; or, where it
+-- is one, the answer to its program
 pub data MadeAnswer (text stimulus : List ℕ) : List Read → Result (List ℕ) Refusal → Type 0 where
   wrong_text : (r : Refusal) → IsWrongText text r → MadeAnswer text stimulus [] (Err r)
   typed : (tree : Tree) (p : Program) (answer : Result (List ℕ) Refusal) → IsTypedText text tree
       → HasProgram tree p → TallyAnswer p stimulus answer → MadeAnswer text stimulus [] answer
 
--- the answer of `make`: that to the text of the filter with so many taps and to its stimulus. No file
--- is read.
+-- the answer of `make`: that to the text of the filter with so many taps and to its stimulus. No
+-- file is read.
 abbrev pub MakeAnswer : ℕ → List Read → Result (List ℕ) Refusal → Type 0
 MakeAnswer taps = MadeAnswer (make_text taps) (make_stimulus taps)

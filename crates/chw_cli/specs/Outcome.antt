@@ -29,16 +29,16 @@ abbrev pub stopped : Or SinkFault → Refusal
 stopped Memory = refusal.Memory
 stopped (Fault f) = refusal.Write
 
--- the refusal was told: its line was put in one call, and the status is its own; or memory was wanting for
--- that call or, if the line takes memory to make, for the line
+-- the refusal was told: its line was put in one call, and the status is its own; or memory was
+-- wanting for that call or, if the line takes memory to make, for the line
 pub data Told {S : Type 0} (gives : S → List ℕ → Result (Unit {0}) (Or SinkFault) → S → Type 0) (written : S → Option (List ℕ)) (faults : S → ℕ)
     (r : Refusal) (s t : S) : Status → Type 0 where
   told : TellsLine gives written faults (line_of r) s t → Told gives written faults r s t (status_of r)
   untold : TellsNothing gives (line_of r) (TakesMemory r) s t → Told gives written faults r s t status.Memory
 
--- the end of a run, by what the shelf was asked, the words, whether the faults of `out` rose, and what became of `out` (the same as before;
--- all of these bytes were written; a part of them, up to a call that gave this answer) and of `err` (the same as before; this refusal
--- was told)
+-- the end of a run, by what the shelf was asked, the words, whether the faults of `out` rose, and
+-- what became of `out` (the same as before; all of these bytes were written; a part of them, up to
+-- a call that gave this answer) and of `err` (the same as before; this refusal was told)
 pub data Outcome (Asked : List Read → Type 0) (words : List (List ℕ)) (OutRose OutSame ErrSame : Type 0)
     (All : List ℕ → Type 0) (Part : Or SinkFault → List ℕ → Type 0) (Tells : Refusal → Status → Type 0) : Status → Type 0 where
   answered : (bytes : List ℕ) → AnswersBy Asked words (Ok bytes) → All bytes → ErrSame

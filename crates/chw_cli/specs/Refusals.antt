@@ -1,4 +1,5 @@
--- How the refusals of other crates become refusals of the program, and why a description is refused.
+-- How the refusals of other crates become refusals of the program, and why a description is
+-- refused.
 use Rattle.std.specs.Prelude.{◌≡◌, ℕ, List, [], Err, ◌⊎◌}
 use Rattle.chw_base.specs.declared.outcome.Or.{Or}
 use Rattle.chw_base.specs.declared.outcome.Or.TheVariants.{Memory, Fault}
@@ -123,6 +124,7 @@ pub data RefusesSimulation (p : Program) (text : List ℕ) : Refusal → Type 0 
 abbrev pub RefusesTally : Program → List ℕ → Refusal → Type 0
 RefusesTally p stimulus r = (r ≡ refusal.Memory) ⊎ TallyAnswer p stimulus (Err r)
 
--- why a text and a stimulus that are made have no lines: want of memory, or the refusal is the answer
+-- why a text and a stimulus that are made have no lines: want of memory, or the refusal is the
+-- answer
 abbrev pub RefusesMade : List ℕ → List ℕ → Refusal → Type 0
 RefusesMade text stimulus r = (r ≡ refusal.Memory) ⊎ MadeAnswer text stimulus [] (Err r)

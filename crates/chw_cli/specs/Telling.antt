@@ -6,8 +6,8 @@ use Rattle.chw_cli.specs.Delivery.{TellsLine, TellsNothing}
 use Rattle.chw_cli.specs.declared.status.Status.{Status}
 use Rattle.chw_cli.specs.declared.status.Status.TheVariants.{Memory}
 
--- the line was put in one call, and the status is this one; or memory was wanting for that call, or, if the line takes memory to make, for
--- the line
+-- the line was put in one call, and the status is this one; or memory was wanting for that call,
+-- or, if the line takes memory to make, for the line
 pub data Puts {S : Type 0} (gives : S → List ℕ → Result (Unit {0}) (Or SinkFault) → S → Type 0) (written : S → Option (List ℕ)) (faults : S → ℕ)
     (line : List ℕ) (Takes : Type 0) (status : Status) (s t : S) : Status → Type 0 where
   put : TellsLine gives written faults line s t → Puts gives written faults line Takes status s t status

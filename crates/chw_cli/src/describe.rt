@@ -51,7 +51,8 @@ pub(crate) fn read_description<F: Shelf>(
     })
 }
 
-/// The tree of the description that the text is, which is typed, and its program; or why it is none.
+/// The tree of the description that the text is, which is typed, and its program; or why it is
+/// none.
 pub(crate) fn typed_tree(alloc: Global, text: &[u8]) -> Result<(Tree, Checked), Refusal>
     requires { length text.now ≤ DESCRIPTION_BYTES }
     ensures typed { IfOk result (λ it. IsTypedText text.now it.0) }

@@ -19,8 +19,9 @@ use make_laws::laws::{
     made_programs_take_words, made_texts_are_descriptions, made_texts_have_the_tree,
 };
 
-/// The text and the stimulus that `make` makes are never at fault: it is refused for the names or the types of the text's program, or
-/// because this can't be compiled. Such a refusal has one of two statuses.
+/// The text and the stimulus that `make` makes are never at fault: it is refused for the names or
+/// the types of the text's program, or because this can't be compiled. Such a refusal has one of
+/// two statuses.
 pub fn make_is_refused_for_its_program()
     ensures answer { MakeIsRefusedForItsProgram }
     ensures words { WordsAreRefusedForTheProgram }
@@ -37,8 +38,9 @@ pub fn make_is_refused_for_its_program()
     refusals();
 }
 
-/// A run of `make N` ends with the status of an answer, of a broken restriction, of a failed write, of a spent budget or of wanting memory:
-/// never with that of words that are no command, of a file, of a stimulus or of a Verilog text.
+/// A run of `make N` ends with the status of an answer, of a broken restriction, of a failed write,
+/// of a spent budget or of wanting memory: never with that of words that are no command, of a file,
+/// of a stimulus or of a Verilog text.
 pub fn make_ends_with_few_statuses<F: Shelf, K: Sink, E: Sink>()
     ensures { (words : List (List ℕ)) (taps : ℕ) (shelf shelf' : F) (out out' : K) (err err' : E) (s : Status) → IsCommand words (Make taps)
         → Outcome (Asks F.fetch_gives F.told F.faults words shelf shelf') words (Rose (K.faults out) (K.faults out'))

@@ -1,4 +1,5 @@
-//! The command `normalise`: the steps by which a description is rewritten, and the definitions that they make.
+//! The command `normalise`: the steps by which a description is rewritten, and the definitions that
+//! they make.
 ghost use Rattle.std.specs.Prelude.{List, Ok, IfOk, IfErr, OnOk};
 ghost use Rattle.chw_cli.specs.Answer.{NormaliseAnswer};
 ghost use Rattle.chw_cli.specs.Descriptions.{HasProgram};

@@ -26,7 +26,8 @@ pub enum Refusal {
     LongText,
     /// No token begins at this byte.
     Lex(u32),
-    /// The token at this byte goes on with no description; or the text ends too early, and this is its length.
+    /// The token at this byte goes on with no description; or the text ends too early, and this is
+    /// its length.
     Syntax(u32),
     /// More than 200 brackets are open, or the description is nested more deeply than that.
     Depth,
@@ -40,17 +41,20 @@ pub enum Refusal {
     FullTable,
     /// So many steps, which is the budget, were made, and a step is left.
     Spent(u32),
-    /// No step is left, and the state isn't a normal one of which no made definition uses itself: the line that says why.
+    /// No step is left, and the state isn't a normal one of which no made definition uses itself:
+    /// the line that says why.
     State(Name),
     /// The Verilog text denotes no net: the first rule that it breaks, and where.
     Verilog(VFault),
     /// The text is no stimulus for the ports of the net: the first line that isn't taken, and why.
     Stimulus(StimFault),
-    /// The text is a stimulus for the ports of the program, and this line has bits that encode no value of their input's type.
+    /// The text is a stimulus for the ports of the program, and this line has bits that encode no
+    /// value of their input's type.
     Value(u32),
     /// The net has more flat wires than the limit.
     TooLarge,
-    /// These flat wires drive each other in a circle that passes no register and no RAM, the one with the least number first.
+    /// These flat wires drive each other in a circle that passes no register and no RAM, the one
+    /// with the least number first.
     Loop(Seq<WireId>),
     /// The answer couldn't be written.
     Write,

@@ -18,7 +18,8 @@ use chw_base::{Name, Shelf};
 use chw_terms::Program;
 use std::alloc::Global;
 
-/// The lines of what a program means at the events of the stimulus in a file, or why there are none.
+/// The lines of what a program means at the events of the stimulus in a file, or why there are
+/// none.
 pub(crate) fn simulated<F: Shelf>(
     alloc: Global,
     program: &Program,

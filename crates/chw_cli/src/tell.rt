@@ -15,7 +15,8 @@ use std::alloc::Global;
 
 /// Puts the line of the refusal, and says with which status the program ends.
 ///
-/// Only a line that shows a place, a number of steps, a file's name, names, a type or wires takes memory to make.
+/// Only a line that shows a place, a number of steps, a file's name, names, a type or wires takes
+/// memory to make.
 pub(crate) fn tell<E: Sink>(alloc: Global, refusal: &Refusal, err: &mut E) -> Status
     ensures { Told E.put_gives E.written E.faults refusal.now err.old err.new result }
 {

@@ -24,10 +24,11 @@ use data_kinds::kind_laws::one_program;
 use run_answer::laws::nothing_refuses_a_run;
 use std::alloc::Global;
 
-/// Does what the words ask for: reads the files from the shelf, and writes the answer to `out`, or one line to `err`.
+/// Does what the words ask for: reads the files from the shelf, and writes the answer to `out`, or
+/// one line to `err`.
 ///
-/// The answer is whole before its first byte is written. It is written in pieces of 1,024 bytes, of which the last may be shorter. A fault
-/// of `err` leaves the status as it is.
+/// The answer is whole before its first byte is written. It is written in pieces of 1,024 bytes, of
+/// which the last may be shorter. A fault of `err` leaves the status as it is.
 pub fn top<F: Shelf, K: Sink, E: Sink>(
     alloc: Global,
     words: &[Name],

@@ -1,5 +1,6 @@
-//! Rows of types and of terms, each with what a call gives: types and the types of primitives, terms, parts of terms at paths, types without
-//! zeros, the kinds of data types and cycles, and unrolling.
+//! Rows of types and of terms, each with what a call gives: types and the types of primitives,
+//! terms, parts of terms at paths, types without zeros, the kinds of data types and cycles, and
+//! unrolling.
 #![tactic(auto)]
 
 mod kinds;

@@ -4,9 +4,9 @@ ghost use Rattle.chw_types.specs.References.{HasNoCycle};
 
 use chw_base::{Name, NoMemory, Or, Seq, TyIx};
 use chw_types::{ConDecl, Data, Kind, Ty};
-use type_ports::{leaves, type_text};
 use row_tables::{Unread, put};
 use std::alloc::Global;
+use type_ports::{leaves, type_text};
 
 /// `data Both (a : Cir) (b : Cir) = Both a b;`
 pub(crate) fn both(alloc: Global) -> Result<Vec<Data>, NoMemory>

@@ -6,7 +6,8 @@ use row_notation::put_number;
 use row_tables::Unread;
 use std::alloc::Global;
 
-/// Writes what the calls give for a spine of this many arguments, each of them with a type argument.
+/// Writes what the calls give for a spine of this many arguments, each of them with a type
+/// argument.
 pub fn put_spine(alloc: Global, count: u32, out: &mut Vec<u8>) -> Result<(), Or<Unread>> {
     let term = spine(alloc, count)?;
     put_number(out, "depth ", depth(&term))?;

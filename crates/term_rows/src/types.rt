@@ -4,10 +4,10 @@ use chw_base::{Name, Or};
 use chw_prims::schema;
 use chw_terms::Head;
 use chw_types::{Ty, kind_of, put_arguments, put_type, same, shift_type};
-use type_ports::{representable, type_text};
 use row_notation::{Parts, kind_name, read};
 use row_tables::{Unread, put};
 use std::alloc::Global;
+use type_ports::{representable, type_text};
 
 /// Writes what a call gives.
 pub(crate) fn answer(
@@ -66,7 +66,8 @@ fn put_truth(out: &mut Vec<u8>, truth: bool) -> Result<(), Or<Unread>> {
     Ok(put(out, if truth { "true" } else { "false" })?)
 }
 
-// The kind of a type, behind those of the variables in scope, the outermost first. There is one domain.
+// The kind of a type, behind those of the variables in scope, the outermost first. There is one
+// domain.
 fn put_kind(alloc: Global, parts: &Parts, out: &mut Vec<u8>) -> Result<(), Or<Unread>> {
     let domains = [Name::from(Vec::new(alloc))];
     let found = kind_of(parts.ty(0)?, &parts.kinds, &both(alloc)?, &domains);

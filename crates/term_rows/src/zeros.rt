@@ -1,10 +1,10 @@
 //! Types without zeros and ones.
 use chw_base::Or;
-use type_ports::type_text;
 use chw_typing::without_zeros;
 use row_notation::read;
 use row_tables::Unread;
 use std::alloc::Global;
+use type_ports::type_text;
 
 /// Writes what a type is without zeros and ones.
 pub(crate) fn answer(alloc: Global, text: &str, out: &mut Vec<u8>) -> Result<(), Or<Unread>> {
