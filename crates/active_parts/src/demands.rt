@@ -18,9 +18,9 @@ use chw_base::NoMemory;
 use chw_prims::{Prim, Row};
 use chw_terms::{Arg, Mode, Place, Term};
 use chw_types::{Ty, TyNode};
-use type_ports::representable;
 use std::alloc::Global;
 use term_types::Signature;
+use type_ports::representable;
 
 // Whether a primitive looks at the argument of this number.
 fn looks_at(which: Prim, number: usize) -> bool

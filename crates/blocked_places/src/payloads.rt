@@ -8,8 +8,8 @@ use chw_base::NoMemory;
 use chw_prims::Prim;
 use chw_terms::{Head, Term};
 use chw_types::{Data, Ty};
-use type_ports::representable;
 use std::alloc::Global;
+use type_ports::representable;
 
 // The number of the argument that is a primitive's payload.
 fn payload_number(which: Prim) -> Option<usize>

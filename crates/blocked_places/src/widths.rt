@@ -13,8 +13,8 @@ use chw_layout::laws::{measured_types, one_measure};
 use chw_layout::{NoLayout, width};
 use chw_terms::Binding;
 use chw_types::{Data, Ty};
-use type_ports::{Leaf, leaves};
 use std::alloc::Global;
+use type_ports::{Leaf, leaves};
 
 // Why a type has no width, where that is a limit that it passes.
 fn over(why: NoLayout) -> Option<NoLayout>

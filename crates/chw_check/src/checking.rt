@@ -18,12 +18,12 @@ use crate::names::{con_name, data_name, def_name};
 use crate::ports::leads_to_port;
 use chw_base::{Name, NoMemory, Or};
 use chw_terms::Program;
-use type_ports::type_text;
 use chw_typing::named_laws::data_types_in_order;
 use con_places::Constructors;
 use std::alloc::Global;
 use std::marker::Model;
 use term_types::Signature;
+use type_ports::type_text;
 
 /// A program that is tidy and typed. Contracts see the program.
 #[derive(Drop)]

@@ -6,8 +6,8 @@ ghost use Rattle.chw_types.specs.References.{HasNoCycle};
 
 use chw_base::NoMemory;
 use chw_types::Ty;
-use type_ports::{PortForm, PortTable};
 use std::alloc::Global;
+use type_ports::{PortForm, PortTable};
 
 /// How many leaves a closed type has, where it is a port with no more than so many. Nothing comes where it is no port, or has more.
 ///

@@ -6,8 +6,8 @@ ghost use Rattle.chw_typing.specs.Programs.{LeadsToPort};
 use crate::counting::leaf_count;
 use chw_base::NoMemory;
 use chw_types::{Data, Ty, TyNode};
-use type_ports::PortTable;
 use std::alloc::Global;
+use type_ports::PortTable;
 
 /// Whether a type leads from ports, with so many leaves together, to a port with so many leaves.
 pub(crate) fn leads_to_port(

@@ -9,8 +9,8 @@ use crate::measuring::closed_outcome;
 use crate::outcome::{NoLayout, Outcome};
 use chw_base::Or;
 use chw_types::{Data, Ty};
-use type_ports::representable;
 use std::alloc::Global;
+use type_ports::representable;
 
 /// How many bits each value of a closed type has.
 ///

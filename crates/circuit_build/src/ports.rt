@@ -8,9 +8,9 @@ ghost use Rattle.net_built.specs.Wires.{wire_count};
 use chw_base::NoMemory;
 use chw_terms::Sort;
 use chw_types::Ty;
-use type_ports::{Leaf, leaves};
 use net_pieces::parts;
 use std::alloc::Global;
+use type_ports::{Leaf, leaves};
 use value_build::Base;
 
 /// The leaves of a port.

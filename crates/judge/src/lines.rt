@@ -9,9 +9,9 @@ use chw_base::{MadeId, NoMemory};
 use chw_layout::NoLayout;
 use chw_terms::Program;
 use chw_types::Ty;
-use type_ports::type_text;
 use itoa::Buffer;
 use std::alloc::Global;
+use type_ports::type_text;
 
 // Appends these bytes.
 fn put(out: &mut Vec<u8>, text: &[u8]) -> Result<(), NoMemory>

@@ -7,9 +7,9 @@ use chw_base::{Name, NoMemory, Seq};
 use chw_clock::{Port, Ports};
 use chw_terms::Program;
 use chw_types::{Ty, TyNode};
-use type_ports::Leaf;
 use circuit_build::ports::port_leaves;
 use std::alloc::Global;
+use type_ports::Leaf;
 use value_build::Base;
 
 // The leaves of a top: of its parameters, and of its result.

@@ -16,10 +16,10 @@ use crate::cycles::has_no_cycle;
 use crate::names::{are_none, is_variable, is_vector_on_names};
 use chw_base::NoMemory;
 use chw_terms::{Alt, Arg, Binding, Head, Scene, Sort, Term};
-use type_ports::representable;
 use rewriting::scene_laws::settings_of_scenes;
 use std::alloc::Global;
 use term_types::Signature;
+use type_ports::representable;
 
 /// Whether a term is a block: a variable, or a letrec that gives one, of which the bindings have representable types, right sides of one
 /// form each, and no cycle. It is told wherever the term has a type.

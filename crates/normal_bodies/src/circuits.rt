@@ -16,9 +16,9 @@ use crate::signals::is_signal_side;
 use chw_base::NoMemory;
 use chw_prims::Prim;
 use chw_terms::{Arg, Binding, Head, Scene, Sort, Term};
-use type_ports::leaves;
 use std::alloc::Global;
 use term_types::Signature;
+use type_ports::leaves;
 
 /// Whether a term is a circuit: a variable, or a letrec that gives one, of which the bindings are ports with right sides of one form each.
 ///

@@ -14,8 +14,8 @@ use chw_layout::laws::{measured_types, one_measure};
 use chw_layout::width;
 use chw_terms::Term;
 use chw_types::{Data, Ty};
-use type_ports::{Leaf, leaves, representable};
 use std::alloc::Global;
+use type_ports::{Leaf, leaves, representable};
 
 /// Whether a type has a width.
 pub(crate) fn has_width(alloc: Global, datas: &[Data], ty: &Ty) -> Result<bool, NoMemory>

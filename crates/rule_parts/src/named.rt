@@ -8,8 +8,8 @@ ghost use Rattle.rewriting.specs.Named.{IsNamed};
 use chw_base::NoMemory;
 use chw_terms::Mode;
 use chw_types::{Data, Ty, TyNode};
-use type_ports::{leaves, representable};
 use std::alloc::Global;
+use type_ports::{leaves, representable};
 
 /// Whether a variable of a closed type has wires at a place of this mode: representable types where a value is built, ports where a
 /// circuit is, and none in a constant.

@@ -5,8 +5,8 @@ ghost use Rattle.specialise.specs.Seeds.{AnswersCount};
 
 use chw_base::NoMemory;
 use chw_types::{Data, Ty, TyNode};
-use type_ports::representable;
 use std::alloc::Global;
+use type_ports::representable;
 
 // The next number.
 fn one_more(count: usize) -> Result<usize, NoMemory>

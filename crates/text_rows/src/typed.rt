@@ -11,10 +11,10 @@ use chw_check::laws::what_fits_is_sound;
 use chw_resolve::resolve;
 use chw_terms::{Def, Program, Scene};
 use chw_types::Ty;
-use type_ports::type_text;
 use row_tables::{Unread, put};
 use std::alloc::{AllocError, Global};
 use term_types::{Signature, type_of_in};
+use type_ports::type_text;
 
 /// The program of a text, where it has one.
 pub(crate) fn program(alloc: Global, text: &[u8]) -> Option<Program>

@@ -5,8 +5,8 @@ ghost use Rattle.work_names.specs.Functions.{AnswersParameters};
 
 use chw_base::NoMemory;
 use chw_types::{Data, Ty, TyNode};
-use type_ports::representable;
 use std::alloc::Global;
+use type_ports::representable;
 
 /// The types of the parameters, where the type is that of functions of values that give a value: all of these are representable.
 pub(crate) fn parameters(

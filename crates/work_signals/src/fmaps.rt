@@ -19,9 +19,9 @@ use crate::views::{Lifted, as_ap, as_fmap, as_pure};
 use chw_base::NoMemory;
 use chw_prims::Prim;
 use chw_terms::{Place, Scene, Term};
-use type_ports::representable;
 use std::alloc::Global;
 use term_types::Signature;
+use type_ports::representable;
 
 // `fmap f (pure v)` ==> `pure (f v)`
 fn fmap_pure(alloc: Global, outer: Lifted<'_>, value: &Term) -> Result<Term, NoMemory>

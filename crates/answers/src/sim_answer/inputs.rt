@@ -8,8 +8,8 @@ use chw_base::{NoMemory, Or};
 use chw_layout::width;
 use chw_terms::Program;
 use chw_types::{Data, Ty, TyNode};
-use type_ports::{Leaf, leaves};
 use std::alloc::Global;
+use type_ports::{Leaf, leaves};
 
 /// The width of a type that has one.
 fn width_of(alloc: Global, t: &Ty, datas: &[Data]) -> Result<u32, NoMemory>
