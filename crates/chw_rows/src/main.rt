@@ -1,18 +1,28 @@
-//! Rows of the whole program, each with the status, the line of a refusal and, below them, the text that is written.
+//! Rows of the whole program, each with the status, the line of a refusal and, below them, the text
+//! that is written.
 //!
-//! `check TEXT`, `emit TEXT` and `normalise TEXT` are these commands on a file of this text. `accepts TEXT` is `check`, of which the text isn't shown, and
-//! `both TEXT` is `check` and `emit`, which are to answer alike. `words "WORD" .. TEXT` has all words between quotation marks. `absent`,
-//! `unread`, `unwritten` and `untold` are `emit` where no file has the name, or where the file, the text or the line is at fault.
+//! `check TEXT`, `emit TEXT` and `normalise TEXT` are these commands on a file of this text.
+//! `accepts TEXT` is `check`, of which the text isn't shown, and `both TEXT` is `check` and `emit`,
+//! which are to answer alike. `words "WORD" .. TEXT` has all words between quotation marks.
+//! `absent`, `unread`, `unwritten` and `untold` are `emit` where no file has the name, or where the
+//! file, the text or the line is at fault.
 //!
-//! `run VERILOG %% STIM` and `simulate TEXT %% STIM` are these commands on two files of these texts, `v` and `s`, and
-//! `files "WORD" .. TEXT %% STIM` has other words. `fails COMMAND N N N TEXT %% STIM` is a command on both files where a call of the shelf,
-//! of the output and of the error output fails, by their numbers from 0, and shows how many bytes were written.
+//! `run VERILOG %% STIM` and `simulate TEXT %% STIM` are these commands on two files of these
+//! texts, `v` and `s`, and `files "WORD" .. TEXT %% STIM` has other words.
+//! `fails COMMAND N N N TEXT %% STIM` is a command on both files where a call of the shelf, of the
+//! output and of the error output fails, by their numbers from 0, and shows how many bytes were
+//! written.
+//!
+//! After the rows come the commands of standard input, run on the files of the system: here the
+//! examples of the documents. Each is shown as `chw COMMAND`, what it writes, and `status N`.
 #![tactic(auto)]
 
+mod commands;
 mod nets;
 mod run;
 
 use chw_base::{Name, NoMemory, Or};
+use commands::run_commands;
 use nets::{put_failing, put_net, put_words_on_files};
 use row_tables::{Unread, bytes_of, print_rows, words_of};
 use run::{Fails, NONE, Shown, one_file, put_run};
@@ -20,7 +30,9 @@ use std::alloc::Global;
 use std::io;
 
 fn main(rt: HostRuntime) -> io::Result<()> {
-    print_rows(&rt, answer)
+    print_rows(&rt, answer)?;
+    let commands = io::read_to_string(rt.alloc(), rt.stdin())?;
+    run_commands(&rt, commands.as_str())
 }
 
 // Writes what `top` answers to a row.
@@ -37,7 +49,8 @@ fn answer(alloc: Global, call: &str, text: &str, out: &mut Vec<u8>) -> Result<()
     }
 }
 
-// Writes what is answered to the words between quotation marks, where the file has the text behind them.
+// Writes what is answered to the words between quotation marks, where the file has the text after
+// them.
 fn put_words(alloc: Global, row: &str, out: &mut Vec<u8>) -> Result<(), Or<Unread>> {
     let words = words_of(alloc, row)?;
     let (_, text) = row.rsplit_once('"').unwrap_or(("", row));
@@ -101,7 +114,8 @@ fn words(alloc: Global, command: &str) -> Result<Vec<Name>, NoMemory> {
     Ok(words)
 }
 
-// Writes what is answered to `check`, and behind it what is answered to `emit` where that is something else.
+// Writes what is answered to `check`, and after it what is answered to `emit` where that is
+// something else.
 fn put_both(alloc: Global, text: &str, out: &mut Vec<u8>) -> Result<(), Or<Unread>> {
     let mut checked = Vec::new(alloc);
     put_command(alloc, "check", "check", text, &mut checked)?;

@@ -1,4 +1,5 @@
-//! Rows of `run` and `simulate`: a Verilog text or a description and a stimulus, with `%%` between them.
+//! Rows of `run` and `simulate`: a Verilog text or a description and a stimulus, with `%%` between
+//! them.
 use crate::run::{Fails, NONE, Shown, put_run};
 use chw_base::{Name, NoMemory, Or};
 use row_tables::{Unread, bytes_of, words_of};
@@ -15,8 +16,8 @@ pub fn put_net(
     put_on_files(alloc, words.as_slice(), row, &NONE, Shown::Text, out)
 }
 
-/// Writes what is answered to a command where the calls with these numbers fail, a minus for none: of the shelf, of the text and of the
-/// line.
+/// Writes what is answered to a command where the calls with these numbers fail, a minus for none:
+/// of the shelf, of the text and of the line.
 pub fn put_failing(alloc: Global, row: &str, out: &mut Vec<u8>) -> Result<(), Or<Unread>> {
     let (command, row) = row.split_once(' ').ok_or(Or::Fault(Unread))?;
     let (shelf, row) = row.split_once(' ').ok_or(Or::Fault(Unread))?;
@@ -31,7 +32,8 @@ pub fn put_failing(alloc: Global, row: &str, out: &mut Vec<u8>) -> Result<(), Or
     put_on_files(alloc, words.as_slice(), row, &fails, Shown::Length, out)
 }
 
-/// Writes what is answered to the words between quotation marks, where the texts behind them are in the files `v` and `s`.
+/// Writes what is answered to the words between quotation marks, where the texts after them are in
+/// the files `v` and `s`.
 pub fn put_words_on_files(alloc: Global, row: &str, out: &mut Vec<u8>) -> Result<(), Or<Unread>> {
     let words = words_of(alloc, row)?;
     let (_, texts) = row.rsplit_once('"').ok_or(Or::Fault(Unread))?;

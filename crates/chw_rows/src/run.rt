@@ -27,7 +27,8 @@ pub enum Shown {
     Nothing,
 }
 
-/// Writes what `top` answers: its status, its line, and what is to be shown of the text that it writes.
+/// Writes what `top` answers: its status, its line, and what is to be shown of the text that it
+/// writes.
 pub fn put_run(
     alloc: Global,
     words: &[Name],
@@ -74,7 +75,7 @@ fn put_length(answer: &mut Vec<u8>, text: &[u8]) -> Result<(), NoMemory> {
     put(answer, " bytes")
 }
 
-// Writes lines behind a sign and without the last line feed, and where there is none, a word of that.
+// Writes lines after a sign and without the last line feed, and a word of that where there is none.
 fn put_lines(answer: &mut Vec<u8>, sign: &str, lines: &[u8]) -> Result<(), NoMemory> {
     match lines {
         [] => Ok(()),
