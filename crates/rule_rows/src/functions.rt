@@ -9,7 +9,7 @@ use crate::programs::{DESCRIPTION, program_of};
 use chw_base::{NoMemory, Or};
 use chw_terms::{GapBuffer, Mode, Place, Program, Rule, Scene, Term};
 use flow_functions::try_function;
-use row_notation::{put_term, read};
+use row_notation::{Parts, put_term, read};
 use row_tables::{Unread, put};
 use std::alloc::Global;
 use term_types::Signature;
@@ -24,8 +24,25 @@ pub(crate) fn put_made(
     requires { IsOfFunctions rule }
 {
     let parts = read(alloc, text)?;
+    let outcome = put_made_of(alloc, rule, &parts, out);
+    drop(parts);
+    outcome
+}
+
+// The same, where the term is the first of the parts.
+fn put_made_of(
+    alloc: Global,
+    rule: Rule,
+    parts: &Parts<'_>,
+    out: &mut Vec<u8>,
+) -> Result<(), Or<Unread>>
+    requires { IsOfFunctions rule }
+{
+    let term = parts.term(0)?;
     let program = program_of(alloc, DESCRIPTION)?;
-    put_made_in(alloc, &program, rule, parts.term(0)?, out)
+    let outcome = put_made_in(alloc, &program, rule, term, out);
+    drop(program);
+    Ok(outcome?)
 }
 
 // The same, where the scene has the definitions of a program.
@@ -35,7 +52,7 @@ fn put_made_in(
     rule: Rule,
     term: &Term,
     out: &mut Vec<u8>,
-) -> Result<(), Or<Unread>>
+) -> Result<(), NoMemory>
     requires rule { IsOfFunctions rule }
     requires sound { IsSound (setting_of program.now) }
 {
@@ -51,9 +68,16 @@ fn put_made_in(
         program: _,
         made: _,
     } = scene;
-    match made? {
-        Some(e) => Ok(put_term(out, &e)?),
-        None => Ok(put(out, "nothing")?),
+    let outcome = put_outcome(&made, out);
+    drop(made);
+    outcome
+}
+
+fn put_outcome(made: &Result<Option<Term>, NoMemory>, out: &mut Vec<u8>) -> Result<(), NoMemory> {
+    match made {
+        Ok(Some(e)) => put_term(out, e),
+        Ok(None) => put(out, "nothing"),
+        Err(NoMemory) => Err(NoMemory),
     }
 }
 

@@ -22,8 +22,8 @@ use chw_base::Or;
 use chw_terms::Rule;
 use functions::put_made;
 use names::{mode_named, rule_named};
-use programs::program_of;
-use row_tables::{Unread, bytes_of, print_rows};
+use programs::program_in;
+use row_tables::{Unread, print_rows};
 use speed::put_trials;
 use std::alloc::Global;
 use std::io;
@@ -52,7 +52,8 @@ fn put_rule(alloc: Global, call: &str, text: &str, out: &mut Vec<u8>) -> Result<
     };
     let rule = rule_named(call)?;
     let mode = mode_named(place.trim_end_matches('+'))?;
-    let description = bytes_of(alloc, description)?;
-    let program = program_of(alloc, &description)?;
-    put_compared(alloc, &program, rule, mode, place.ends_with('+'), out)
+    let program = program_in(alloc, description)?;
+    let outcome = put_compared(alloc, &program, rule, mode, place.ends_with('+'), out);
+    drop(program);
+    outcome
 }

@@ -1,5 +1,5 @@
 //! The variables in scope of a row's term.
-ghost use Rattle.std.specs.Prelude.{[], reverse, IfOk, IsTrue};
+ghost use Rattle.std.specs.Prelude.{[], reverse, IfOk, IsTrue, OnOk};
 ghost use Rattle.chw_typing.specs.Scopes.{AreTermTypes, IsTermType, setting_in};
 
 use chw_base::Or;
@@ -10,13 +10,6 @@ use std::alloc::Global;
 
 /// More variables than a row has.
 pub(crate) const VARIABLES: usize = 16;
-
-/// What stands below leading lambdas: the types of their variables, the outermost first, and the term.
-#[derive(Drop)]
-pub(crate) struct Below<'t> {
-    pub vars: Vec<Ty>,
-    pub term: &'t Term,
-}
 
 // Whether it is a type of terms, without type variables.
 fn is_term_type(scene: &Scene, ty: &Ty) -> bool
@@ -34,32 +27,55 @@ fn is_term_type(scene: &Scene, ty: &Ty) -> bool
     }
 }
 
-/// What stands below the leading lambdas of a closed term, so many at most.
-pub(crate) fn below_lambdas<'t>(
+// The type of the variable that a lambda without arguments binds, and its body.
+fn lambda(term: &Term) -> Option<(&Ty, &Term)> {
+    match &term.head {
+        Head::Lam(ty, body) if term.args.is_empty() => Some((ty, body)),
+        _ => None,
+    }
+}
+
+/// The types of the variables of the leading lambdas of a closed term, so many at most, the
+/// outermost first.
+pub(crate) fn variables_of(
     alloc: Global,
     scene: &Scene,
-    whole: &'t Term,
+    whole: &Term,
     most: usize,
-) -> Result<Below<'t>, Or<Unread>>
-    ensures { IfOk result (λ below. AreTermTypes (setting_in scene.now) [] (reverse below.vars.items)) }
+) -> Result<Vec<Ty>, Or<Unread>>
+    ensures { IfOk result (λ vars. AreTermTypes (setting_in scene.now) [] (reverse vars.items)) }
 {
-    let mut below = Below {
-        vars: Vec::new(alloc),
-        term: whole,
-    };
+    let mut vars = Vec::new(alloc);
+    let mut term = whole;
     for _variable in 0..most {
-        let term = below.term;
-        let Head::Lam(ty, body) = &term.head else {
+        let Some((ty, body)) = lambda(term) else {
             break;
         };
-        if !term.args.is_empty() {
-            break;
-        }
-        if !is_term_type(scene, ty) {
-            return Err(Or::Fault(Unread));
-        }
-        below.vars.push(ty.copy(alloc)?)?;
-        below.term = body;
+        add_variable(alloc, scene, ty, &mut vars)?;
+        term = body;
     }
-    Ok(below)
+    Ok(vars)
+}
+
+fn add_variable(alloc: Global, scene: &Scene, ty: &Ty, vars: &mut Vec<Ty>) -> Result<(), Or<Unread>>
+    requires { AreTermTypes (setting_in scene.now) [] (reverse vars.old.items) }
+    ensures { OnOk result (AreTermTypes (setting_in scene.now) [] (reverse vars.new.items)) }
+{
+    if !is_term_type(scene, ty) {
+        return Err(Or::Fault(Unread));
+    }
+    let ty = ty.copy(alloc)?;
+    Ok(vars.push(ty)?)
+}
+
+/// The term below the leading lambdas of a term, so many at most.
+pub(crate) fn below_lambdas(whole: &Term, most: usize) -> &Term {
+    let mut term = whole;
+    for _variable in 0..most {
+        let Some((_, body)) = lambda(term) else {
+            break;
+        };
+        term = body;
+    }
+    term
 }

@@ -23,8 +23,8 @@ use std::alloc::Global;
 use term_types::Signature;
 use typed_places::is_typed;
 
-// How often the rule has no instance on the term, of so many times.
-fn count_at(
+// How often the rule has no instance on a typed term, of so many times.
+fn count_typed(
     alloc: Global,
     rule: Rule,
     times: u32,
@@ -49,25 +49,79 @@ fn count_at(
     Ok(count)
 }
 
-// The same on a large term in a scene.
-fn count_in(alloc: Global, rule: Rule, times: u32, scene: &Scene) -> Result<u32, NoMemory>
+// The same of a term, and 0 where it has no type.
+fn count_at(
+    alloc: Global,
+    rule: Rule,
+    times: u32,
+    scene: &Scene,
+    signature: &Signature,
+    term: &Term,
+    place: &Place,
+) -> Result<u32, NoMemory>
+    requires rule { IsOfFlow rule }
+    requires order { HasNoCycle scene.now.program.now.datas }
+    requires ready { IsReady (setting_in scene.now) [] (reverse place.now.vars) }
+    requires table { IsSignature scene.now.program.now signature.now }
+{
+    if is_typed(alloc, scene, signature, term, place)? {
+        count_typed(alloc, rule, times, scene, signature, term, place)
+    } else {
+        Ok(0)
+    }
+}
+
+// The same without variables in scope.
+fn count_closed(
+    alloc: Global,
+    rule: Rule,
+    times: u32,
+    scene: &Scene,
+    signature: &Signature,
+    term: &Term,
+) -> Result<u32, NoMemory>
     requires rule { IsOfFlow rule }
     requires order { HasNoCycle scene.now.program.now.datas }
     requires sound { IsSound (setting_in scene.now) }
+    requires table { IsSignature scene.now.program.now signature.now }
 {
     let place = Place {
         mode: Mode::V,
         result: true,
         vars: GapBuffer::of(alloc, Vec::new(alloc)),
     };
+    let count = count_at(alloc, rule, times, scene, signature, term, &place);
+    drop(place);
+    count
+}
+
+// The same on a large term, by the signature of a scene's program.
+fn count_by(
+    alloc: Global,
+    rule: Rule,
+    times: u32,
+    scene: &Scene,
+    signature: &Signature,
+) -> Result<u32, NoMemory>
+    requires rule { IsOfFlow rule }
+    requires order { HasNoCycle scene.now.program.now.datas }
+    requires sound { IsSound (setting_in scene.now) }
+    requires table { IsSignature scene.now.program.now signature.now }
+{
     let term = sums(alloc)?;
+    let count = count_closed(alloc, rule, times, scene, signature, &term);
+    drop(term);
+    count
+}
+
+// The same in a scene.
+fn count_in(alloc: Global, rule: Rule, times: u32, scene: &Scene) -> Result<u32, NoMemory>
+    requires rule { IsOfFlow rule }
+    requires order { HasNoCycle scene.now.program.now.datas }
+    requires sound { IsSound (setting_in scene.now) }
+{
     let signature = Signature::of(alloc, scene.program)?;
-    let is_typed = is_typed(alloc, scene, &signature, &term, &place)?;
-    let count = if is_typed {
-        count_at(alloc, rule, times, scene, &signature, &term, &place)
-    } else {
-        Ok(0)
-    };
+    let count = count_by(alloc, rule, times, scene, &signature);
     drop(signature);
     count
 }
@@ -87,7 +141,8 @@ fn count_of(alloc: Global, rule: Rule, times: u32, program: &Program) -> Result<
     count
 }
 
-/// Writes how often the rule of flow of a name has no instance on a term of 10,000 nodes, of so many times.
+/// Writes how often the rule of flow of a name has no instance on a term of 10,000 nodes, of so
+/// many times.
 pub(crate) fn put_trials(alloc: Global, text: &str, out: &mut Vec<u8>) -> Result<(), Or<Unread>> {
     let Some((name, times)) = text.split_once(' ') else {
         return Err(Or::Fault(Unread));
@@ -100,5 +155,7 @@ pub(crate) fn put_trials(alloc: Global, text: &str, out: &mut Vec<u8>) -> Result
     };
     let program = program_of(alloc, DESCRIPTION)?;
     data_types_in_order();
-    Ok(put_number(out, "", count_of(alloc, rule, times, &program)?)?)
+    let count = count_of(alloc, rule, times, &program);
+    drop(program);
+    Ok(put_number(out, "", count?)?)
 }

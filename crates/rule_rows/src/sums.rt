@@ -17,17 +17,23 @@ fn one(alloc: Global) -> Result<Term, NoMemory> {
     }
 }
 
-fn sum(alloc: Global, left: Term, right: Term) -> Result<Term, NoMemory> {
+// The sum of a term and itself.
+fn doubled(alloc: Global, term: &Term) -> Result<Term, NoMemory> {
     let add = Term::ty_app(Term::prim_of(alloc, Prim::AddU), Ty::nat(8))?;
-    Term::app(Term::app(add, left)?, right)
+    let sum = applied(alloc, add, term)?;
+    applied(alloc, sum, term)
+}
+
+fn applied(alloc: Global, fun: Term, arg: &Term) -> Result<Term, NoMemory> {
+    let arg = arg.copy(alloc)?;
+    Term::app(fun, arg)
 }
 
 /// A sum of sums of 8 bits, about 10,000 nodes in all.
 pub(crate) fn sums(alloc: Global) -> Result<Term, NoMemory> {
     let mut term = one(alloc)?;
     for _doubling in 0..DOUBLINGS {
-        let right = term.copy(alloc)?;
-        term = sum(alloc, term, right)?;
+        term = doubled(alloc, &term)?;
     }
     Ok(term)
 }

@@ -8,8 +8,8 @@ ghost use Rattle.term_types.specs.Answers.{IsReady};
 ghost use Rattle.rules_flow.specs.Rules.{IsOfFlow};
 ghost use Rattle.rules_work.specs.Rules.{IsOfWork};
 
-use crate::scopes::{VARIABLES, below_lambdas};
-use chw_base::Or;
+use crate::scopes::{VARIABLES, below_lambdas, variables_of};
+use chw_base::{NoMemory, Or};
 use chw_terms::{GapBuffer, Mode, Place, Program, Rule, Scene, Term};
 use chw_typing::named_laws::data_types_in_order;
 use looks::LookCount;
@@ -34,13 +34,13 @@ fn tried(
     scene: &Scene,
     term: &Term,
     place: &Place,
-) -> Result<Option<Term>, Or<Unread>>
+) -> Result<Option<Term>, NoMemory>
     requires rule { IsOfFlow rule ⊎ IsOfWork rule }
     requires order { HasNoCycle scene.now.program.now.datas }
     requires ready { IsReady (setting_in scene.now) [] (reverse place.now.vars) }
 {
     let mut looks = LookCount::new();
-    let made = match rule {
+    match rule {
         Rule::Dead
         | Rule::Inline
         | Rule::Unfold
@@ -51,40 +51,77 @@ fn tried(
         | Rule::Eta
         | Rule::Anf => rules_work::try_rule(alloc, rule, scene, term, place, &mut looks),
         _ => rules_flow::try_rule(alloc, rule, scene, term, place, &mut looks),
-    };
-    Ok(made?)
+    }
+}
+
+fn text_of(alloc: Global, term: &Term) -> Result<Vec<u8>, NoMemory> {
+    let mut text = Vec::new(alloc);
+    put_term(&mut text, term)?;
+    Ok(text)
 }
 
 // Writes whether two terms are one, and the first one where they aren't.
-fn put_same(alloc: Global, made: &Term, after: &Term, out: &mut Vec<u8>) -> Result<(), Or<Unread>> {
-    let mut made_text = Vec::new(alloc);
-    put_term(&mut made_text, made)?;
-    let mut after_text = Vec::new(alloc);
-    put_term(&mut after_text, after)?;
-    if made_text.as_slice() == after_text.as_slice() {
-        Ok(put(out, "as after")?)
-    } else {
-        put(out, "not as after: ")?;
-        Ok(out.extend_from_slice(&made_text)?)
+fn put_same(alloc: Global, made: &Term, after: &Term, out: &mut Vec<u8>) -> Result<(), NoMemory> {
+    let text = text_of(alloc, made)?;
+    let outcome = put_same_text(alloc, &text, after, out);
+    drop(text);
+    outcome
+}
+
+fn put_same_text(
+    alloc: Global,
+    made: &[u8],
+    after: &Term,
+    out: &mut Vec<u8>,
+) -> Result<(), NoMemory> {
+    let text = text_of(alloc, after)?;
+    let is_same = made == text.as_slice();
+    drop(text);
+    if is_same {
+        return put(out, "as after");
     }
+    put(out, "not as after: ")?;
+    Ok(out.extend_from_slice(made)?)
 }
 
 // Writes what was made beside what the row says.
 fn put_answer(
     alloc: Global,
-    made: Option<Term>,
+    made: &Result<Option<Term>, NoMemory>,
     after: Option<&Term>,
     out: &mut Vec<u8>,
-) -> Result<(), Or<Unread>> {
-    match (&made, after) {
-        (Some(made), Some(after)) => put_same(alloc, made, after, out),
-        (Some(made), None) => {
+) -> Result<(), NoMemory> {
+    match (made, after) {
+        (Ok(Some(made)), Some(after)) => put_same(alloc, made, after, out),
+        (Ok(Some(made)), None) => {
             put(out, "an instance: ")?;
-            Ok(put_term(out, made)?)
+            put_term(out, made)
         }
-        (None, Some(_)) => Ok(put(out, "no instance, but after")?),
-        (None, None) => Ok(put(out, "no instance")?),
+        (Ok(None), Some(_)) => put(out, "no instance, but after"),
+        (Ok(None), None) => put(out, "no instance"),
+        (Err(NoMemory), _) => Err(NoMemory),
     }
+}
+
+// The same at the place of the term of `before`.
+fn put_at(
+    alloc: Global,
+    scene: &Scene,
+    rule: Rule,
+    before: &Term,
+    place: &Place,
+    out: &mut Vec<u8>,
+) -> Result<(), NoMemory>
+    requires rule { IsOfFlow rule ⊎ IsOfWork rule }
+    requires order { HasNoCycle scene.now.program.now.datas }
+    requires ready { IsReady (setting_in scene.now) [] (reverse place.now.vars) }
+{
+    let count = place.vars.len();
+    let after = body_of(scene.program, b"after").map(|body| below_lambdas(body, count));
+    let made = tried(alloc, rule, scene, below_lambdas(before, count), place);
+    let outcome = put_answer(alloc, &made, after, out);
+    drop(made);
+    outcome
 }
 
 // The same in the scene of the program.
@@ -103,19 +140,15 @@ fn put_in(
     let Some(before) = body_of(scene.program, b"before") else {
         return Err(Or::Fault(Unread));
     };
-    let below = below_lambdas(alloc, scene, before, VARIABLES)?;
-    let count = below.vars.len();
+    let vars = variables_of(alloc, scene, before, VARIABLES)?;
     let place = Place {
         mode,
         result: is_result,
-        vars: GapBuffer::of(alloc, below.vars),
+        vars: GapBuffer::of(alloc, vars),
     };
-    let made = tried(alloc, rule, scene, below.term, &place)?;
-    let after = match body_of(scene.program, b"after") {
-        Some(body) => Some(below_lambdas(alloc, scene, body, count)?.term),
-        None => None,
-    };
-    put_answer(alloc, made, after, out)
+    let outcome = put_at(alloc, scene, rule, before, &place, out);
+    drop(place);
+    Ok(outcome?)
 }
 
 /// Writes what a rule makes of the term of `before`, beside the term of `after`.
