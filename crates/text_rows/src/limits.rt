@@ -1,10 +1,10 @@
 //! The names and the limits of whole descriptions.
-use crate::trees::tree_of;
+use crate::trees::tree_in;
 use chw_base::{NoMemory, Or};
-use chw_grammar::Word;
+use chw_grammar::{Tree, Word};
 use chw_limits::{Limit, first_passed};
 use chw_names::{twice, unknown};
-use row_tables::{Unread, bytes_of, put, put_number};
+use row_tables::{Unread, put, put_number};
 use std::alloc::Global;
 
 /// Writes what a call gives of the tree of a text.
@@ -14,13 +14,18 @@ pub fn put_found_in(
     text: &str,
     out: &mut Vec<u8>,
 ) -> Result<(), Or<Unread>> {
-    let text = bytes_of(alloc, text)?;
-    let tree = tree_of(alloc, &text).ok_or(Or::Fault(Unread))?;
-    Ok(match call {
-        "twice" => put_word(twice(alloc, &tree)?, out)?,
-        "unknown" => put_word(unknown(alloc, &tree)?, out)?,
-        _ => put_limit(first_passed(&tree), out)?,
-    })
+    let tree = tree_in(alloc, text)?;
+    let outcome = put_of_tree(alloc, call, &tree, out);
+    drop(tree);
+    Ok(outcome?)
+}
+
+fn put_of_tree(alloc: Global, call: &str, tree: &Tree, out: &mut Vec<u8>) -> Result<(), NoMemory> {
+    match call {
+        "twice" => put_word(twice(alloc, tree)?, out),
+        "unknown" => put_word(unknown(alloc, tree)?, out),
+        _ => put_limit(first_passed(tree), out),
+    }
 }
 
 // Writes a name and its place.

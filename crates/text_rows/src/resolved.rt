@@ -16,6 +16,7 @@ pub(crate) fn put_resolved(
 ) -> Result<(), Or<Unread>> {
     let text = bytes_of(alloc, text)?;
     let resolved = program(alloc, &text);
+    drop(text);
     let outcome = put_outcome(&resolved, with_kinds, out);
     drop(resolved);
     outcome

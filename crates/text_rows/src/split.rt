@@ -1,5 +1,6 @@
 //! The tokens of a text.
 ghost use Rattle.std.specs.Prelude.{◌<◌, ◌^◌, length};
+ghost use Rattle.chw_lexer.specs.Tokens.{Tokens};
 
 use chw_base::{NoMemory, Or};
 use chw_grammar::Terminal;
@@ -14,14 +15,20 @@ pub fn put_tokens(alloc: Global, text: &[u8], out: &mut Vec<u8>) -> Result<(), O
 {
     match lex(alloc, text) {
         Ok(tokens) => {
-            for token in tokens.as_slice() {
-                put_token(*token, out)?;
-            }
-            Ok(put(out, if tokens.is_empty() { "none" } else { "" })?)
+            let outcome = put_each(tokens.as_slice(), out);
+            drop(tokens);
+            Ok(outcome?)
         }
         Err(Or::Fault(LexFault { at })) => Ok(put_number(out, "fault ", at)?),
         Err(Or::Memory) => Err(Or::Memory),
     }
+}
+
+fn put_each(tokens: &[Token], out: &mut Vec<u8>) -> Result<(), NoMemory> {
+    for token in tokens {
+        put_token(*token, out)?;
+    }
+    put(out, if tokens.is_empty() { "none" } else { "" })
 }
 
 fn put_token(token: Token, out: &mut Vec<u8>) -> Result<(), NoMemory> {
@@ -50,8 +57,21 @@ pub fn put_terminals(alloc: Global, text: &[u8], out: &mut Vec<u8>) -> Result<()
     let Ok(tokens) = lex(alloc, text) else {
         return Err(Or::Fault(Unread));
     };
+    let outcome = put_words(alloc, text, tokens.as_slice(), out);
+    drop(tokens);
+    Ok(outcome?)
+}
+
+fn put_words(
+    alloc: Global,
+    text: &[u8],
+    tokens: &[Token],
+    out: &mut Vec<u8>,
+) -> Result<(), NoMemory>
+    requires { Tokens text.now tokens.now }
+{
     tokens_lie_in();
-    for token in tokens.as_slice() {
+    for token in tokens {
         put_terminal(alloc, token.sort, word(text, *token), out)?;
     }
     Ok(())

@@ -1,6 +1,6 @@
 //! Tables of names: where names are found that were declared or bound.
 use crate::names::put_found;
-use chw_base::{NoMemory, Or};
+use chw_base::{Name, NoMemory, Or};
 use name_tables::{Declared, Scope};
 use row_tables::{Unread, put, put_number, words_of};
 use std::alloc::Global;
@@ -8,9 +8,25 @@ use std::alloc::Global;
 /// Declares names, of which it writes whether each is new and how many there are then, and seeks those behind `?`.
 pub fn put_names(alloc: Global, text: &str, out: &mut Vec<u8>) -> Result<(), Or<Unread>> {
     let words = words_of(alloc, text)?;
+    let outcome = put_declared(alloc, words.as_slice(), out);
+    drop(words);
+    Ok(outcome?)
+}
+
+fn put_declared(alloc: Global, words: &[Name], out: &mut Vec<u8>) -> Result<(), NoMemory> {
     let mut declared = Declared::new(alloc);
-    for word in words.as_slice() {
-        put_name(&mut declared, word.as_slice(), out)?;
+    let outcome = put_each(&mut declared, words, out);
+    drop(declared);
+    outcome
+}
+
+fn put_each<'t>(
+    declared: &mut Declared<'t>,
+    words: &'t [Name],
+    out: &mut Vec<u8>,
+) -> Result<(), NoMemory> {
+    for word in words {
+        put_name(declared, word.as_slice(), out)?;
     }
     Ok(())
 }
@@ -39,8 +55,18 @@ fn put_comma(out: &mut Vec<u8>) -> Result<(), NoMemory> {
 /// Binds and unbinds names, and seeks those behind `?`.
 pub fn put_binders(alloc: Global, text: &str, out: &mut Vec<u8>) -> Result<(), Or<Unread>> {
     let mut scope = Scope::new(alloc);
+    let outcome = put_scoped(&mut scope, text, out);
+    drop(scope);
+    outcome
+}
+
+fn put_scoped<'t>(
+    scope: &mut Scope<'t>,
+    text: &'t str,
+    out: &mut Vec<u8>,
+) -> Result<(), Or<Unread>> {
     for word in text.split(' ') {
-        put_binder(&mut scope, word, out)?;
+        put_binder(scope, word, out)?;
     }
     Ok(())
 }
@@ -86,11 +112,23 @@ pub fn put_walk(alloc: Global, text: &str, out: &mut Vec<u8>) -> Result<(), Or<U
         return Err(Or::Fault(Unread));
     };
     let mut scope = Scope::new(alloc);
-    let mut open: Vec<&[u8]> = Vec::new(alloc);
+    let mut open = Vec::new(alloc);
+    let outcome = put_steps(&mut scope, &mut open, steps, out);
+    drop(open);
+    drop(scope);
+    Ok(outcome?)
+}
+
+fn put_steps(
+    scope: &mut Scope<'static>,
+    open: &mut Vec<&'static [u8]>,
+    steps: u32,
+    out: &mut Vec<u8>,
+) -> Result<(), NoMemory> {
     for step in 0..steps {
-        put_step(&mut scope, &mut open, step, out)?;
+        put_step(scope, open, step, out)?;
     }
-    Ok(put(out, "walked")?)
+    put(out, "walked")
 }
 
 // Binds a name or unbinds one, and tells where one is found elsewhere.

@@ -8,31 +8,41 @@ use std::alloc::Global;
 /// Writes the command that words are, with its files and its numbers.
 pub(crate) fn put_command(alloc: Global, text: &str, out: &mut Vec<u8>) -> Result<(), Or<Unread>> {
     let words = words_of(alloc, text)?;
-    match read_words(alloc, words.as_slice()) {
-        Ok(Command::Emit { file, budget }) => {
-            Ok(put_budgeted(out, "emit", file.as_slice(), budget)?)
-        }
-        Ok(
-            Command::Simulate {
-                file,
-                stimulus,
-                budget,
-            },
-        ) => {
+    let read = read_words(alloc, words.as_slice());
+    drop(words);
+    let outcome = put_outcome(&read, out);
+    drop(read);
+    Ok(outcome?)
+}
+
+fn put_outcome(read: &Result<Command, Or<WordsFault>>, out: &mut Vec<u8>) -> Result<(), NoMemory> {
+    match read {
+        Ok(command) => put_read(command, out),
+        Err(Or::Fault(WordsFault)) => put(out, "none"),
+        Err(Or::Memory) => Err(NoMemory),
+    }
+}
+
+fn put_read(command: &Command, out: &mut Vec<u8>) -> Result<(), NoMemory> {
+    match command {
+        Command::Emit { file, budget } => put_budgeted(out, "emit", file.as_slice(), *budget),
+        Command::Simulate {
+            file,
+            stimulus,
+            budget,
+        } => {
             put_file(out, "simulate", file.as_slice())?;
-            Ok(put_budgeted(out, "", stimulus.as_slice(), budget)?)
+            put_budgeted(out, "", stimulus.as_slice(), *budget)
         }
-        Ok(Command::Check { file }) => Ok(put_file(out, "check", file.as_slice())?),
-        Ok(Command::Normalise { file, budget }) => {
-            Ok(put_budgeted(out, "normalise", file.as_slice(), budget)?)
+        Command::Check { file } => put_file(out, "check", file.as_slice()),
+        Command::Normalise { file, budget } => {
+            put_budgeted(out, "normalise", file.as_slice(), *budget)
         }
-        Ok(Command::Run { verilog, stimulus }) => {
+        Command::Run { verilog, stimulus } => {
             put_file(out, "run", verilog.as_slice())?;
-            Ok(put_file(out, "", stimulus.as_slice())?)
+            put_file(out, "", stimulus.as_slice())
         }
-        Ok(Command::Make { taps }) => Ok(put_number(out, "make ", taps)?),
-        Err(Or::Fault(WordsFault)) => Ok(put(out, "none")?),
-        Err(Or::Memory) => Err(Or::Memory),
+        Command::Make { taps } => put_number(out, "make ", *taps),
     }
 }
 
