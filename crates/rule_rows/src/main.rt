@@ -1,13 +1,14 @@
 //! Rows of the rules, each with what is made.
 //!
-//! The name of a rule, a mode, and a description in which `before` has an instance whose answer is `after`. A row without `after` has no
-//! instance. The leading lambdas of the two bind the variables in scope. The mode has `+` behind it where the body gives what the term gives.
-//!
-//! `ty_beta TERM`, `beta TERM`, `app_let TERM` and `app_case TERM` give what the rule makes of a term in the notation of row_notation. The
-//! scene has a definition `g0` of the type `Unsigned 8`, and no variables are in scope.
-//!
-//! `trials RULE TIMES` tries a rule of flow so many times on a term of 10,000 nodes that has no instance of it, and gives how often there
-//! was none. It is there to be timed: bench/rules.sh does.
+//! - `RULE MODE TEXT` gives whether the rule makes `after` of `before`, two definitions of the
+//!   description. Without `after`, `before` has no instance. The leading lambdas of the two bind
+//!   the variables in scope. The mode ends in `+` where the body gives what the term gives.
+//! - `ty_beta TERM`, `beta TERM`, `app_let TERM` and `app_case TERM` give what the rule makes of a
+//!   term in the notation of row_notation. The scene has a definition `g0` of the type
+//!   `Unsigned 8`, and no variables are in scope.
+//! - `trials RULE TIMES` tries a rule of flow so many times on a term of 10,000 nodes that has no
+//!   instance of it, and gives how often there was none. It is there to be timed: bench/rules.sh
+//!   does.
 #![tactic(auto)]
 
 mod functions;

@@ -1,21 +1,32 @@
-//! Rows of texts, of what is read from them, named, resolved, typed and laid out, and of the words of commands.
+//! Rows of texts: what is read from them, named, resolved, typed and laid out; and rows of the
+//! words of commands.
 //!
-//! `tokens TEXT` gives the sorts of the tokens and where they stand, `terminals TEXT` their words and what these are to the grammar,
-//! `tree TEXT` how many declarations there are, or the fault. `cuts TEXT` is `tree TEXT`, and before it what is else than a fault of a
-//! text that is cut off. `print TEXT` gives the canonical text, and behind it that of the canonical text, where it is another.
-//!
-//! `twice TEXT` and `unknown TEXT` give the first name of a description that is declared twice, or that nothing declares, and `limit TEXT`
-//! the first limit that it passes. `literal TEXT` and `numeral TEXT` give the parts of a literal and the number of a numeral.
-//! `names "NAME" ..` declares names and seeks those behind `?`. `binders NAME ..` binds names and seeks those behind `?`, where `-` and
-//! `-NUMBER` unbind the last ones and `#` asks how many there are. `walk STEPS` gives whether binders are found as by a search.
-//!
-//! `fault TEXT` gives the first fault of a description, and `kinds TEXT` the first letters of the kinds of the data types, the built-in
-//! ones first, and the number of the top's definition. `type TEXT` and `body TEXT` give the type and the body of the last definition,
-//! `resets TEXT` the domains that have a reset, and `rest TEXT` the rest. `types TEXT` gives the types of the bodies of all definitions.
-//! `width TEXT` gives the width of the type of the last definition, and `value NUMBER TEXT` what the number means as a value of that type:
-//! the number of its constructor, its field if it has one, and the number of its bits.
-//!
-//! `words "WORD" .. "WORD"` gives the command that words are, with its files and its numbers, `budget WORD` the budget that a word is.
+//! - `tokens TEXT` gives the sorts of the tokens and their places.
+//! - `terminals TEXT` gives their words, and what these are to the grammar.
+//! - `tree TEXT` gives how many declarations there are, or the fault.
+//! - `cuts TEXT` gives the same of each beginning of the text that has neither a fault of the lexer
+//!   nor one of syntax, and then of the text.
+//! - `print TEXT` gives the canonical text, and after it that of the canonical text, where it is
+//!   another.
+//! - `twice TEXT` and `unknown TEXT` give the first name of a description that is declared twice,
+//!   or that nothing declares.
+//! - `limit TEXT` gives the first limit that a description passes.
+//! - `literal TEXT` and `numeral TEXT` give the parts of a literal and the number of a numeral.
+//! - `names "NAME" ..` declares names, and seeks each one after a `?`.
+//! - `binders NAME ..` binds names, and seeks each one after a `?`. `-` and `-NUMBER` unbind the
+//!   last ones, and `#` gives how many there are.
+//! - `walk STEPS` gives whether binders are found as by a search.
+//! - `fault TEXT` gives the first fault of a description.
+//! - `kinds TEXT` gives the first letters of the kinds of the data types, the built-in ones first,
+//!   and the number of the top's definition.
+//! - `type TEXT` and `body TEXT` give the type and the body of the last definition, `resets TEXT`
+//!   the domains that have a reset, and `rest TEXT` the rest.
+//! - `types TEXT` gives the types of the bodies of all definitions.
+//! - `width TEXT` gives the width of the type of the last definition.
+//! - `value NUMBER TEXT` gives what the number means as a value of that type: the number of its
+//!   constructor, its field if it has one, and the number of its bits.
+//! - `words "WORD" .. "WORD"` gives the command that words are, with its files and its numbers.
+//! - `budget WORD` gives the budget that a word is.
 #![tactic(auto)]
 
 mod layouts;

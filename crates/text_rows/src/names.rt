@@ -24,7 +24,7 @@ pub(crate) fn answer(
     }
 }
 
-/// Writes a number behind a sign, or that there is none.
+/// Writes a number after a sign, or that there is none.
 pub(crate) fn put_found(
     out: &mut Vec<u8>,
     sign: &str,

@@ -35,7 +35,7 @@ fn put_outcome(
     }
 }
 
-// The program of a text, or its first fault. A text that has no tree is answered as if memory were wanting.
+// The program of a text, or its first fault. Of a text without a tree the fault is want of memory.
 fn program(alloc: Global, text: &[u8]) -> Result<Program, Or<NameFault>> {
     let Some(tree) = tree_of(alloc, text) else {
         return Err(Or::Memory);

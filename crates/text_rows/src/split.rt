@@ -9,7 +9,7 @@ use chw_lexer::{LexFault, Sort, Token, lex, word};
 use row_tables::{Unread, put, put_bytes, put_number};
 use std::alloc::Global;
 
-/// Writes the sort of each token and where it stands, or the place of the fault.
+/// Writes the sort and the place of each token, or the place of the fault.
 pub fn put_tokens(alloc: Global, text: &[u8], out: &mut Vec<u8>) -> Result<(), Or<Unread>>
     requires { length text.now < 2 ^ 32 }
 {
@@ -45,7 +45,7 @@ fn put_token(token: Token, out: &mut Vec<u8>) -> Result<(), NoMemory> {
     put_number(out, " ", token.span.to)
 }
 
-// Writes what stands before an answer: nothing before the first one.
+// Separates an answer from the one before it.
 fn put_mark(out: &mut Vec<u8>) -> Result<(), NoMemory> {
     put(out, if out.is_empty() { "" } else { "; " })
 }

@@ -5,7 +5,8 @@ use name_tables::{Declared, Scope};
 use row_tables::{Unread, put, put_number, words_of};
 use std::alloc::Global;
 
-/// Declares names, of which it writes whether each is new and how many there are then, and seeks those behind `?`.
+/// Declares names, writes whether each is new and how many there are then, and seeks each one after
+/// a `?`.
 pub fn put_names(alloc: Global, text: &str, out: &mut Vec<u8>) -> Result<(), Or<Unread>> {
     let words = words_of(alloc, text)?;
     let outcome = put_declared(alloc, words.as_slice(), out);
@@ -47,12 +48,12 @@ fn put_name<'t>(
     }
 }
 
-// Writes what stands before an answer: nothing before the first one.
+// Separates an answer from the one before it.
 fn put_comma(out: &mut Vec<u8>) -> Result<(), NoMemory> {
     put(out, if out.is_empty() { "" } else { ", " })
 }
 
-/// Binds and unbinds names, and seeks those behind `?`.
+/// Binds and unbinds names, and seeks each one after a `?`.
 pub fn put_binders(alloc: Global, text: &str, out: &mut Vec<u8>) -> Result<(), Or<Unread>> {
     let mut scope = Scope::new(alloc);
     let outcome = put_scoped(&mut scope, text, out);
@@ -71,7 +72,7 @@ fn put_scoped<'t>(
     Ok(())
 }
 
-// Binds a name, unbinds names, or tells of them.
+// Binds a name, unbinds names, or writes what is found of them.
 fn put_binder<'t>(
     scope: &mut Scope<'t>,
     word: &'t str,
@@ -105,8 +106,8 @@ fn unbind(scope: &mut Scope<'_>, count: &str) -> Result<(), Or<Unread>> {
 // The names of which the walk binds one and the other.
 const NAMES: [&[u8]; 5] = [b"a", b"b", b"ab", b"", b"a_"];
 
-/// Binds and unbinds names in turn, in so many steps, and writes the steps after which a name is found elsewhere than by a search
-/// through all binders.
+/// Binds and unbinds names in turn, in so many steps. Writes the steps after which a name is found
+/// elsewhere than by a search through all binders.
 pub fn put_walk(alloc: Global, text: &str, out: &mut Vec<u8>) -> Result<(), Or<Unread>> {
     let Ok(steps) = text.parse::<u32>() else {
         return Err(Or::Fault(Unread));
@@ -131,7 +132,7 @@ fn put_steps(
     put(out, "walked")
 }
 
-// Binds a name or unbinds one, and tells where one is found elsewhere.
+// Binds a name or unbinds one, and writes the step after which one is found elsewhere.
 fn put_step(
     scope: &mut Scope<'static>,
     open: &mut Vec<&'static [u8]>,

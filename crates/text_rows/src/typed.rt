@@ -2,7 +2,6 @@
 ghost use Rattle.std.specs.Prelude.{IfOk, IfSome, IsTrue};
 ghost use Rattle.chw_terms.specs.Tidy.{IsTidy};
 ghost use Rattle.chw_typing.specs.Programs.{IsSound, setting_of};
-ghost use Rattle.term_frames.specs.Signatures.{IsSignature};
 
 use crate::trees::tree_of;
 use chw_base::{NoMemory, Or};
@@ -13,7 +12,7 @@ use chw_terms::{Def, Program, Scene};
 use chw_types::Ty;
 use row_tables::{Unread, bytes_of, put};
 use std::alloc::Global;
-use term_types::{Signature, type_of_in};
+use term_types::type_of;
 use type_ports::type_text;
 
 /// The program of a text, where it has one.
@@ -54,10 +53,10 @@ fn put_types_in(alloc: Global, program: &Program, out: &mut Vec<u8>) -> Result<(
     if !has_kinds(alloc, program) {
         return put(out, "a type without a kind");
     }
-    let signature = Signature::of(alloc, program)?;
-    let outcome = put_listed(alloc, program, &signature, out);
-    drop(signature);
-    outcome
+    for def in program.defs.as_slice() {
+        put_type_of(alloc, program, def, out)?;
+    }
+    Ok(())
 }
 
 // Whether each type that is written in a program has a kind that it may have there.
@@ -72,34 +71,17 @@ fn has_kinds(alloc: Global, program: &Program) -> bool
     }
 }
 
-fn put_listed(
-    alloc: Global,
-    program: &Program,
-    signature: &Signature<'_>,
-    out: &mut Vec<u8>,
-) -> Result<(), NoMemory>
-    requires sound { IsSound (setting_of program.now) }
-    requires table { IsSignature program.now signature.now }
-{
-    for def in program.defs.as_slice() {
-        put_type_of(alloc, program, signature, def, out)?;
-    }
-    Ok(())
-}
-
 // Writes the type of a definition's body.
 fn put_type_of(
     alloc: Global,
     program: &Program,
-    signature: &Signature<'_>,
     def: &Def,
     out: &mut Vec<u8>,
 ) -> Result<(), NoMemory>
-    requires sound { IsSound (setting_of program.now) }
-    requires table { IsSignature program.now signature.now }
+    requires { IsSound (setting_of program.now) }
 {
     let scene = Scene { program, made: &[] };
-    let found = type_of_in(alloc, &scene, signature, &[], &[], &def.body);
+    let found = type_of(alloc, &scene, &[], &def.body);
     let Scene {
         program: _,
         made: _,
