@@ -42,9 +42,11 @@ fn count_typed(
     let mut looks = LookCount::new();
     let mut count: u32 = 0;
     for _time in 0..times {
-        if try_typed(alloc, rule, scene, signature, term, place, &mut looks)?.is_none() {
+        let made = try_typed(alloc, rule, scene, signature, term, place, &mut looks)?;
+        if made.is_none() {
             count = count.saturating_add(1);
         }
+        drop(made);
     }
     Ok(count)
 }

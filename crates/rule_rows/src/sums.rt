@@ -11,10 +11,10 @@ use std::alloc::Global;
 const DOUBLINGS: u32 = 11;
 
 fn one(alloc: Global) -> Result<Term, NoMemory> {
-    match Bits::of_number(alloc, 8, 1) {
-        Ok(bits) => Ok(Term::lit(alloc, Scalar::U, bits)),
-        Err(_) => Err(NoMemory),
-    }
+    let Ok(bits) = Bits::of_number(alloc, 8, 1) else {
+        return Err(NoMemory);
+    };
+    Ok(Term::lit(alloc, Scalar::U, bits))
 }
 
 // The sum of a term and itself.

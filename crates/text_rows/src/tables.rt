@@ -157,10 +157,19 @@ fn put_step(
 // Whether each name is found where a search finds it.
 fn agrees(scope: &Scope<'_>, open: &[&[u8]]) -> bool {
     for sought in NAMES {
-        let place = open.iter().rev().position(|name| *name == sought);
-        if scope.find(sought).map(|at| at as usize) != place {
+        if scope.find(sought) != place_of(open, sought) {
             return false;
         }
     }
     true
+}
+
+// Where a search from the last name on finds a name, the last one at 0.
+fn place_of(open: &[&[u8]], sought: &[u8]) -> Option<u32> {
+    for (place, name) in open.iter().rev().enumerate() {
+        if *name == sought {
+            return u32::try_from(place).ok();
+        }
+    }
+    None
 }
