@@ -1,0 +1,16 @@
+pub mod Applied
+pub mod Below
+pub mod Demanded
+pub mod Elements
+pub mod Known
+pub mod Lets
+pub mod Numbers
+pub mod Operands
+pub mod Parts
+pub mod Sizes
+pub mod Smaller
+pub mod Spines
+pub mod Steps
+pub mod Unrolled
+pub mod Values
+pub mod Words

@@ -1,0 +1,5 @@
+pub mod Laws
+pub mod PartLaws
+pub mod PrimLaws
+pub mod Rest
+pub mod Spines
