@@ -14,7 +14,7 @@ use Rattle.rest_places.specs.Rest.{IsRestPlace}
 use Rattle.rest_places.proofs.Steps.{no_core}
 
 -- where none is the first, there is none
-none_of_each : (P : ℕ → Type 0) → ((i : ℕ) → P i → ((j : ℕ) → j < i → P j → ⊥) → ⊥) → (i : ℕ) → P i → ⊥
+pub none_of_each : (P : ℕ → Type 0) → ((i : ℕ) → P i → ((j : ℕ) → j < i → P j → ⊥) → ⊥) → (i : ℕ) → P i → ⊥
 none_of_each P no_first i h = below (suc i) i h (omega arith)
   where
     below : (n i : ℕ) → P i → i < n → ⊥

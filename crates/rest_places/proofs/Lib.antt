@@ -4,9 +4,11 @@ pub mod Demanded
 pub mod Elements
 pub mod Known
 pub mod Lets
+pub mod Lifted
 pub mod Numbers
 pub mod Operands
 pub mod Parts
+pub mod Ports
 pub mod Sizes
 pub mod Smaller
 pub mod Spines

@@ -11,6 +11,7 @@ ghost use Rattle.rest_places.specs.PartLaws.{BranchesAreAtRest, NoDemandedLet, N
 ghost use Rattle.rest_places.specs.PrimLaws.{SizesAreWithin, NoLimit, PrimArity, ConArity};
 ghost use Rattle.rest_places.specs.PrimLaws.{NoGetOfWritten, NoAtOfWritten, NoWordsOnLiterals};
 ghost use Rattle.rest_places.specs.PrimLaws.{Unrolls};
+ghost use Rattle.rest_places.specs.Chains.{LiftedIsMade};
 
 use rewriting::scene_laws::names_of_modes;
 
@@ -122,3 +123,11 @@ pub fn nothing_moves_out()
     ensures letrec { NoDemandedLet }
     ensures case { NoDemandedCase }
 {}
+
+/// The function of a chain at rest, with a representable result, is a made definition on all its
+/// arguments.
+pub fn lifted_is_made()
+    ensures { LiftedIsMade }
+{
+    names_of_modes();
+}
