@@ -16,7 +16,6 @@ use Rattle.chw_typing.specs.HeadTypes.{for_each, from_each}
 use Rattle.chw_typing.specs.Programs.{IsSound, setting_of}
 use Rattle.unroll_laws.proofs.Sized.{Sized1, is_sized_1, sized_view_1, Sized2, is_sized_2, sized_view_2, Sized3, is_sized_3, sized_view_3, TwiceSized, is_twice_sized, twice_sized_view}
 use Rattle.chw_meaning.specs.Steps.{types_asked, thunks_asked}
-use Rattle.rewriting.specs.Primitives.{AreInRange}
 use Rattle.act_rules.proofs.Folds.{folds_left, folds_right}
 use Rattle.act_rules.proofs.PrimIndexed.{indexed}
 use Rattle.act_rules.proofs.Joins.{appended, concatenates}
@@ -51,8 +50,8 @@ many_3 (is_sized_3 n e) = refl
 many_twice : {f : ℕ → ℕ → TypeTree → TermTree} {types : List TypeTree} {body : TermTree} → TwiceSized f types body → length types ≡ 3
 many_twice (is_twice_sized n m e g) = refl
 
-pub line : (p : Program) → IsSound (setting_of p) → (row : Row) (types : List TypeTree) (body : TermTree) → ((kind : Kind) → row ≡ Rotated kind → AreInRange types) → body_of row (map evaluated types) ≡ Some body → WithinLimits row types → Line p row types body
-line p sound (Mapped k) types body range e limits =
+pub line : (p : Program) → IsSound (setting_of p) → (row : Row) (types : List TypeTree) (body : TermTree) → body_of row (map evaluated types) ≡ Some body → WithinLimits row types → Line p row types body
+line p sound (Mapped k) types body e limits =
     record {
       kinds = Nat ∷ k ∷ k ∷ [];
       params = fun (ty_var 1) (ty_var 0) ∷ vector (ty_var 2) (ty_var 1) ∷ [];
@@ -66,7 +65,7 @@ line p sound (Mapped k) types body range e limits =
       on_types = many_2 (sized_view_2 _ types body e);
       acts = mapped p k types body e limits;
     }
-line p sound (Zipped k) types body range e limits =
+line p sound (Zipped k) types body e limits =
     record {
       kinds = Nat ∷ k ∷ k ∷ k ∷ [];
       params = fun (ty_var 2) (fun (ty_var 1) (ty_var 0)) ∷ vector (ty_var 3) (ty_var 2) ∷ vector (ty_var 3) (ty_var 1) ∷ [];
@@ -80,7 +79,7 @@ line p sound (Zipped k) types body range e limits =
       on_types = many_3 (sized_view_3 _ types body e);
       acts = zipped p k types body e limits;
     }
-line p sound (FoldedLeft k) types body range e limits =
+line p sound (FoldedLeft k) types body e limits =
     record {
       kinds = Nat ∷ k ∷ k ∷ [];
       params = fun (ty_var 0) (fun (ty_var 1) (ty_var 0)) ∷ ty_var 0 ∷ vector (ty_var 2) (ty_var 1) ∷ [];
@@ -94,7 +93,7 @@ line p sound (FoldedLeft k) types body range e limits =
       on_types = many_2 (sized_view_2 _ types body e);
       acts = folds_left p k types body e limits;
     }
-line p sound (FoldedRight k) types body range e limits =
+line p sound (FoldedRight k) types body e limits =
     record {
       kinds = Nat ∷ k ∷ k ∷ [];
       params = fun (ty_var 1) (fun (ty_var 0) (ty_var 0)) ∷ ty_var 0 ∷ vector (ty_var 2) (ty_var 1) ∷ [];
@@ -108,7 +107,7 @@ line p sound (FoldedRight k) types body range e limits =
       on_types = many_2 (sized_view_2 _ types body e);
       acts = folds_right p k types body e limits;
     }
-line p sound (Generated k) types body range e limits =
+line p sound (Generated k) types body e limits =
     record {
       kinds = Nat ∷ Nat ∷ k ∷ [];
       params = fun (scalar U (ty_var 1)) (ty_var 0) ∷ [];
@@ -122,7 +121,7 @@ line p sound (Generated k) types body range e limits =
       on_types = many_twice (twice_sized_view _ types body e);
       acts = generated p k types body e limits;
     }
-line p sound (Replicated k) types body range e limits =
+line p sound (Replicated k) types body e limits =
     record {
       kinds = Nat ∷ k ∷ [];
       params = ty_var 0 ∷ [];
@@ -136,7 +135,7 @@ line p sound (Replicated k) types body range e limits =
       on_types = many_1 (sized_view_1 _ types body e);
       acts = replicated p k types body e limits;
     }
-line p sound (Appended k) types body range e limits =
+line p sound (Appended k) types body e limits =
     record {
       kinds = Nat ∷ Nat ∷ k ∷ [];
       params = vector (ty_var 2) (ty_var 0) ∷ vector (ty_var 1) (ty_var 0) ∷ [];
@@ -150,7 +149,7 @@ line p sound (Appended k) types body range e limits =
       on_types = many_twice (twice_sized_view _ types body e);
       acts = appended p k types body e limits;
     }
-line p sound (Concatenated k) types body range e limits =
+line p sound (Concatenated k) types body e limits =
     record {
       kinds = Nat ∷ Nat ∷ k ∷ [];
       params = vector (ty_var 2) (vector (ty_var 1) (ty_var 0)) ∷ [];
@@ -164,7 +163,7 @@ line p sound (Concatenated k) types body range e limits =
       on_types = many_twice (twice_sized_view _ types body e);
       acts = concatenates p k types body e limits;
     }
-line p sound (Taken k) types body range e limits =
+line p sound (Taken k) types body e limits =
     record {
       kinds = Nat ∷ Nat ∷ k ∷ [];
       params = vector (nat_sum (ty_var 2) (ty_var 1)) (ty_var 0) ∷ [];
@@ -178,7 +177,7 @@ line p sound (Taken k) types body range e limits =
       on_types = many_twice (twice_sized_view _ types body e);
       acts = taken p k types body e limits;
     }
-line p sound (Dropped k) types body range e limits =
+line p sound (Dropped k) types body e limits =
     record {
       kinds = Nat ∷ Nat ∷ k ∷ [];
       params = vector (nat_sum (ty_var 2) (ty_var 1)) (ty_var 0) ∷ [];
@@ -192,7 +191,7 @@ line p sound (Dropped k) types body range e limits =
       on_types = many_twice (twice_sized_view _ types body e);
       acts = dropped p k types body e limits;
     }
-line p sound (Reversed k) types body range e limits =
+line p sound (Reversed k) types body e limits =
     record {
       kinds = Nat ∷ k ∷ [];
       params = vector (ty_var 1) (ty_var 0) ∷ [];
@@ -206,7 +205,7 @@ line p sound (Reversed k) types body range e limits =
       on_types = many_1 (sized_view_1 _ types body e);
       acts = reversed p k types body e limits;
     }
-line p sound (Rotated k) types body range e limits =
+line p sound (Rotated k) types body e limits =
     record {
       kinds = Nat ∷ Nat ∷ k ∷ [];
       params = vector (ty_var 2) (ty_var 0) ∷ [];
@@ -218,9 +217,9 @@ line p sound (Rotated k) types body range e limits =
       some = omega arith;
       few = omega arith;
       on_types = many_twice (twice_sized_view _ types body e);
-      acts = rotated p k types body e limits (range k refl);
+      acts = rotated p k types body e limits;
     }
-line p sound Replaced types body range e limits =
+line p sound Replaced types body e limits =
     record {
       kinds = Nat ∷ Nat ∷ Val ∷ [];
       params = vector (ty_var 2) (ty_var 0) ∷ scalar U (ty_var 1) ∷ ty_var 0 ∷ [];
@@ -234,7 +233,7 @@ line p sound Replaced types body range e limits =
       on_types = many_twice (twice_sized_view _ types body e);
       acts = replaces p sound types body e limits;
     }
-line p sound ElementAt types body range e limits =
+line p sound ElementAt types body e limits =
     record {
       kinds = Nat ∷ Nat ∷ Val ∷ [];
       params = vector (nat_sum (ty_var 2) (nat_lit 1)) (ty_var 0) ∷ scalar U (ty_var 1) ∷ [];
@@ -248,4 +247,4 @@ line p sound ElementAt types body range e limits =
       on_types = many_twice (twice_sized_view _ types body e);
       acts = indexed p types body e limits;
     }
-line p sound _ types body range e limits = absurd cc
+line p sound _ types body e limits = absurd cc

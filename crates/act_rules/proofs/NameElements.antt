@@ -4,7 +4,7 @@ use Rattle.std.proofs.Math.Nat.{min-eq_left}
 use Rattle.chw_types.specs.declared.declarations.Data.{Data}
 use Rattle.chw_types.specs.declared.kind.Kind.{Kind}
 use Rattle.chw_types.specs.declared.kind.Kind.TheVariants.{Nat, Val, Cir}
-use Rattle.chw_types.specs.Polynomials.{greatest}
+use Rattle.chw_types.specs.Polynomials.{ended, greatest}
 use Rattle.chw_types.specs.SamePromises.{natural_value}
 use Rattle.chw_types.specs.SameTypes.{SameTypes}
 use Rattle.chw_types.specs.TypeTree.{TypeTree, ty_var, nat_lit, nat_sum, vector, TypeTrees, no_types, type_and}
@@ -43,10 +43,12 @@ use Rattle.acts.proofs.SameActs.{same_acts}
 use Rattle.act_rules.proofs.RuleMoves.{same_term_acts}
 
 -- a natural's value in any environment of types
-pub number_closed : (i : TypeTree) (δ : TypeTrees) (j : ℕ) → evaluated i ≡ nat_lit j → j ≤ greatest → closed_value (evaluated (closed_type i δ)) ≡ j
+pub natural_closed : (i : TypeTree) (δ : TypeTrees) (j : ℕ) → evaluated i ≡ nat_lit j → closed_value (evaluated (closed_type i δ)) ≡ ended j
 unfolding sub evaluated natural_value
-number_closed i δ j is least =
-    ap closed_value (sym (evaluated_put i (type_at δ)) ∙ ap (λ t. evaluated (sub t (type_at δ))) is) ∙ min-eq_left least
+natural_closed i δ j is = ap closed_value (sym (evaluated_put i (type_at δ)) ∙ ap (λ t. evaluated (sub t (type_at δ))) is)
+
+pub number_closed : (i : TypeTree) (δ : TypeTrees) (j : ℕ) → evaluated i ≡ nat_lit j → j ≤ greatest → closed_value (evaluated (closed_type i δ)) ≡ j
+number_closed i δ j is least = natural_closed i δ j is ∙ min-eq_left least
 
 -- the thunk of an element
 pub element_thunk : (o : ℕ → TermTree) (γ : Thunks) (δ : TypeTrees) (es : Terms) (j : ℕ) (e : TermTree) → element_at es j ≡ Some e → thunk_at (closed_all (with_origins_all o es) γ δ) j ≡ Some (closed (with_origins o e) γ δ)

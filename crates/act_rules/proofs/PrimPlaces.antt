@@ -1,13 +1,12 @@
 -- Primitives that put elements in other places: their unrolled forms.
 use Rattle.std.specs.Prelude.{Some}
-use Rattle.std.specs.List.{AllByRecursion}
 use Rattle.std.proofs.Common.{◌≡◌, ◌≤◌, ◌<◌, ◌+◌, ◌-◌, ◌%◌, ℕ, zero, List, [], ◌∷◌, map, refl, sym, ap, subst, arith}
 use Rattle.std.proofs.lemmas.Nat.{mod_below}
 use Rattle.chw_base.specs.declared.limits.TheConstants.{VECTOR_LENGTH}
 use Rattle.chw_types.specs.declared.kind.Kind.{Kind}
-use Rattle.chw_types.specs.Polynomials.{greatest}
+use Rattle.chw_types.specs.Polynomials.{ended, greatest}
 use Rattle.chw_types.specs.TypeMoves.{sub}
-use Rattle.chw_types.specs.TypeTree.{TypeTree, ty_var, nat_lit, nat_sum, vector, TypeTrees}
+use Rattle.chw_types.specs.TypeTree.{TypeTree, ty_var, nat_sum, vector, TypeTrees}
 use Rattle.chw_prims.specs.declared.row.Row.TheVariants.{Taken, Dropped, Reversed, Rotated}
 use Rattle.chw_terms.specs.declared.program.Program.{Program}
 use Rattle.chw_terms.specs.Evaluated.{evaluated}
@@ -21,7 +20,7 @@ use Rattle.rewriting.specs.Origins.{with_origins, with_origins_all}
 use Rattle.acts.specs.Levels.{ThunksAct}
 use Rattle.acts.specs.Acts.{acts_from}
 use Rattle.acts.proofs.Levels.{from_turns}
-use Rattle.act_rules.proofs.NameElements.{number_closed}
+use Rattle.act_rules.proofs.NameElements.{natural_closed}
 use Rattle.unroll_laws.proofs.Sized.{Sized1, is_sized_1, sized_view_1, TwiceSized, is_twice_sized, twice_sized_view}
 use Rattle.act_rules.proofs.Given.{at_env, given_at}
 use Rattle.act_rules.proofs.PrimElements.{TermSteps, element_named, vector_steps, each_named}
@@ -96,18 +95,18 @@ reversed_at p kind (is_sized_1 {size = size} {a = a} m e) limits q o n γ δ xs 
 pub reversed : (p : Program) (kind : Kind) (types : List TypeTree) (body : TermTree) → body_of (Reversed kind) (map evaluated types) ≡ Some body → WithinLimits (Reversed kind) types → RowUnrolls p (Reversed kind) (vector (ty_var 1) (ty_var 0) ∷ []) (vector (ty_var 1) (ty_var 0)) types body
 reversed p kind types body e = reversed_at p kind (sized_view_1 (reversed_body kind) types body e)
 
--- vrotl v; its type doesn't limit the number of places
+-- vrotl v; its type doesn't limit the number of places, which ends as a natural's value does
 abbrev rotated_body : Kind → ℕ → ℕ → TypeTree → TermTree
-rotated_body kind n k a = vector_term a (list_each n (λ j. element_term kind n a (var 0) ((j + k) % n)))
+rotated_body kind n k a = vector_term a (list_each n (λ j. element_term kind n a (var 0) ((j + ended k) % n)))
 
-rotated_at : (p : Program) (kind : Kind) {types : List TypeTree} {body : TermTree} → TwiceSized (rotated_body kind) types body → WithinLimits (Rotated kind) types → AllByRecursion (λ t. (k : ℕ) → evaluated t ≡ nat_lit k → k ≤ greatest) types → RowUnrolls p (Rotated kind) (vector (ty_var 2) (ty_var 0) ∷ []) (vector (ty_var 2) (ty_var 0)) types body
+rotated_at : (p : Program) (kind : Kind) {types : List TypeTree} {body : TermTree} → TwiceSized (rotated_body kind) types body → WithinLimits (Rotated kind) types → RowUnrolls p (Rotated kind) (vector (ty_var 2) (ty_var 0) ∷ []) (vector (ty_var 2) (ty_var 0)) types body
 unfolding sub evaluated with_origins
-rotated_at p kind (is_twice_sized {size = size} {other = places} {a = a} m k e f) limits range q o n γ δ xs all =
+rotated_at p kind (is_twice_sized {size = size} {other = places} {a = a} m k e f) limits q o n γ δ xs all =
     on_one p (acts_from p n) (vector (at_env δ size) (at_env δ a)) (closed (var 0) γ δ)
     (λ xs. TermSteps p (acts_from p n) (vector (at_env δ size) (at_env δ a)) (with_origins o (rotated_body kind m k (evaluated a))) γ δ (by_row (Rotated kind) q (given_at δ (size ∷ places ∷ a ∷ [])) xs))
-    (λ v vs. places_steps p n o γ δ (at_env δ size) (at_env δ size) (at_env δ a) (evaluated a) (evaluated a) kind m m (closed_value (at_env δ size)) (λ j. (j + closed_value (at_env δ places)) % closed_value (at_env δ size)) (λ j. (j + k) % m) v is
-    (λ j i. (j + number_closed places δ k f (range.1.0 k f) i) % is i)
-    (λ j less. let below = mod_below (j + k) m (omega (arith, less)) in omega (arith, below, within)) vs)
+    (λ v vs. places_steps p n o γ δ (at_env δ size) (at_env δ size) (at_env δ a) (evaluated a) (evaluated a) kind m m (closed_value (at_env δ size)) (λ j. (j + closed_value (at_env δ places)) % closed_value (at_env δ size)) (λ j. (j + ended k) % m) v is
+    (λ j i. (j + natural_closed places δ k f i) % is i)
+    (λ j less. let below = mod_below (j + ended k) m (omega (arith, less)) in omega (arith, below, within)) vs)
     xs all
   where
     within : m ≤ VECTOR_LENGTH
@@ -116,5 +115,5 @@ rotated_at p kind (is_twice_sized {size = size} {other = places} {a = a} m k e f
     is : closed_value (at_env δ size) ≡ m
     is = closed_within VECTOR_LENGTH size m δ e within (omega arith)
 
-pub rotated : (p : Program) (kind : Kind) (types : List TypeTree) (body : TermTree) → body_of (Rotated kind) (map evaluated types) ≡ Some body → WithinLimits (Rotated kind) types → AllByRecursion (λ t. (k : ℕ) → evaluated t ≡ nat_lit k → k ≤ greatest) types → RowUnrolls p (Rotated kind) (vector (ty_var 2) (ty_var 0) ∷ []) (vector (ty_var 2) (ty_var 0)) types body
+pub rotated : (p : Program) (kind : Kind) (types : List TypeTree) (body : TermTree) → body_of (Rotated kind) (map evaluated types) ≡ Some body → WithinLimits (Rotated kind) types → RowUnrolls p (Rotated kind) (vector (ty_var 2) (ty_var 0) ∷ []) (vector (ty_var 2) (ty_var 0)) types body
 rotated p kind types body e = rotated_at p kind (twice_sized_view (rotated_body kind) types body e)

@@ -1,12 +1,10 @@
 -- A primitive on vectors, unrolled, acts as the primitive on its arguments.
 use Rattle.std.specs.Prelude.{Option, Some, None}
 use Rattle.std.specs.Option.{option_map}
-use Rattle.std.proofs.Common.{◌≡◌, ◌⊎◌, inl, inr, ℕ, List, length, map, reverse, refl, sym, ap, ◌∙◌, subst, arith}
+use Rattle.std.proofs.Common.{◌≡◌, ℕ, List, length, map, reverse, refl, sym, ap, ◌∙◌, subst, arith}
 use Rattle.chw_types.specs.declared.kind.Kind.{Kind}
 use Rattle.chw_types.specs.TypeTree.{TypeTree}
 use Rattle.chw_prims.specs.declared.prim.Primitive.{Primitive as Prim}
-use Rattle.chw_prims.specs.declared.prim.Primitive.TheVariants.{VRotl, VRotlC}
-use Rattle.chw_prims.specs.declared.row.Row.TheVariants.{Rotated}
 use Rattle.chw_prims.specs.Schemas.{row_of, schema_type}
 use Rattle.chw_terms.specs.declared.program.Program.{Program}
 use Rattle.chw_terms.specs.Evaluated.{evaluated}
@@ -23,7 +21,6 @@ use Rattle.chw_typing.proofs.Saturated.{prim_at_arguments}
 use Rattle.chw_meaning.specs.Values.{Thunks, none, closed_type, in_group}
 use Rattle.chw_meaning.specs.Steps.{by_row}
 use Rattle.rewriting.specs.Origins.{with_origins, with_origins_group}
-use Rattle.rewriting.specs.Primitives.{AreInRange}
 use Rattle.acts.specs.Levels.{term_runs, term_has}
 use Rattle.acts.specs.Acts.{acts_from}
 use Rattle.acts.specs.Terms.{ActsUnder, OriginsTyped, setting_with}
@@ -41,20 +38,14 @@ use Rattle.act_rules.proofs.Lines.{Line, line}
 use Rattle.act_rules.proofs.Names.{NamesAct, names_act}
 use Rattle.act_rules.proofs.Parameters.{AllKinded, schema_parts, part_same}
 
--- only these turn
-turns_alone : (q : Prim) (kind : Kind) → row_of q ≡ Rotated kind → (q ≡ VRotl) ⊎ (q ≡ VRotlC)
-turns_alone VRotl kind e = inl refl
-turns_alone VRotlC kind e = inr refl
-turns_alone _ kind e = absurd cc
-
 -- what was mapped
 mapped_some : {A B : Type 0} (f : A → B) (o : Option A) (y : B) → option_map f o ≡ Some y → (x : A) × (o ≡ Some x) × (f x ≡ y)
 mapped_some f (Some x) y e = (x, refl, cc)
 mapped_some f None y e = absurd (cc)
 
 module _ (p : Program) (sound : IsSound (setting_of p)) (typed : IsTyped p) (types : List TypeTree) (o : ℕ → TermTree) (are_closed : AreClosed (setting_of p) types) (have : OriginsTyped p types o) where
-  pub unrolls : {kinds : List Kind} {vars : List TypeTree} {t : TypeTree} (q : Prim) (ts : List TypeTree) (es : List TermTree) (e : TermTree) → CanUnroll q ts es → ((q ≡ VRotl) ⊎ (q ≡ VRotlC) → AreInRange ts) → unrolled q ts es ≡ Some e → AreTermTypes (setting_with p types) kinds vars → HasType (setting_with p types) kinds vars (applied (prim q) (types_then ts es)) t → ActsUnder p kinds vars (with_origins o e) (with_origins o (applied (prim q) (types_then ts es))) t
-  unrolls {kinds} {vars} {t} q ts es e can range is scope d n δ γ' γ known names =
+  pub unrolls : {kinds : List Kind} {vars : List TypeTree} {t : TypeTree} (q : Prim) (ts : List TypeTree) (es : List TermTree) (e : TermTree) → CanUnroll q ts es → unrolled q ts es ≡ Some e → AreTermTypes (setting_with p types) kinds vars → HasType (setting_with p types) kinds vars (applied (prim q) (types_then ts es)) t → ActsUnder p kinds vars (with_origins o e) (with_origins o (applied (prim q) (types_then ts es))) t
+  unrolls {kinds} {vars} {t} q ts es e can is scope d n δ γ' γ known names =
       subst (λ e. TermsAct p (acts_from p n) (closed_type t δ) (with_origins o e) γ' δ (with_origins o call) γ δ) body.2
       (in_let_acts p sound typed types o are_closed have t group body.0 call n δ γ' γ inside)
     where
@@ -68,7 +59,7 @@ module _ (p : Program) (sound : IsSound (setting_of p)) (typed : IsTyped p) (typ
       body = mapped_some (letrec group) (body_of (row_of q) (map evaluated ts)) e is
 
       of : Line p (row_of q) ts body.0
-      of = line p sound (row_of q) ts body.0 (λ kind e. range (turns_alone q kind e)) body.1 (record { short = can.short; narrow = can.narrow })
+      of = line p sound (row_of q) ts body.0 body.1 (record { short = can.short; narrow = can.narrow })
 
       many : length es ≡ length of.params
       many = can.on_terms ∙ ap length of.asks

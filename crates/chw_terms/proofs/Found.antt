@@ -12,6 +12,7 @@ use Rattle.chw_terms.specs.TermView.{terms_of, group_of, alts_of, applied}
 use Rattle.chw_terms.specs.Occurs.{occurs, occurs_all, occurs_group, occurs_alts}
 use Rattle.chw_terms.specs.Sought.{Found, Agree, any_of, NoneBefore, occurs_in, occurs_in_binding, occurs_in_alt}
 use Rattle.chw_terms.proofs.Spines.{left_with_next}
+use Rattle.chw_terms.proofs.TermLists.{size_of_group}
 
 -- an answer is one for each test that agrees
 pub found_by : (f g : ℕ → Bool) (v : ℕ) (r : Bool) → Agree f g v → Found g v r → Found f v r
@@ -111,10 +112,6 @@ letrec_occurs bs e v =
     or_turned (occurs_group (group_of bs) (v + size_of (group_of bs))) (occurs e (v + size_of (group_of bs)))
     ∙ (λ i. occurs e (v + size_of_group bs i) || each bs (v + size_of_group bs i) i)
   where
-    size_of_group : (bs : List Binding) → size_of (group_of bs) ≡ length bs
-    size_of_group [] = refl
-    size_of_group (b ∷ bs) = ap suc (size_of_group bs)
-
     each : (bs : List Binding) (w : ℕ) → occurs_group (group_of bs) w ≡ any_of occurs_in_binding bs w
     each [] w = refl
     each (b ∷ bs) w = ap (λ r. occurs b.body w || r) (each bs w)

@@ -6,6 +6,7 @@ pub mod Renamed
 pub mod Renumbered
 pub mod ShiftLaws
 pub mod Spines
+pub mod TermLists
 pub mod TermMoved
 pub mod TermsEvaluated
 pub mod TermsPut

@@ -21,6 +21,7 @@ use Rattle.chw_terms.specs.TermMoves.{rename, rename_all, rename_group, rename_a
 use Rattle.chw_terms.specs.Evaluated.{evaluated_in, evaluated_in_all, evaluated_in_group, evaluated_in_alts}
 use Rattle.chw_terms.specs.Moved.{renumbered, renamed, put_under, typed, moved, moved_type, moved_arg, moved_binding, moved_alt, IsLeaf}
 use Rattle.chw_terms.proofs.Renamed.{types_types, types_after_rename, types_ids}
+use Rattle.chw_terms.proofs.TermLists.{size_of_group}
 use Rattle.chw_terms.proofs.Renumbered.{shift_by_none, up_again, renumbered_deeper, up_by_in_place, one_is_in_place, up_in_place_retyped}
 
 types_by_none : (e : TermTree) → shift_types e 0 0 ≡ e
@@ -125,10 +126,6 @@ moved_ty_lam (PutTerm v a) at types k e =
     more : shift_types a.now 0 (types + 1) ≡ rename_types (shift_types a.now 0 types) suc
     more = ap (rename_types a.now) (same _ _ one_more) ∙ sym (types_types a.now (raised 0 types) suc)
 moved_ty_lam (PutType a) at types k e = ap (λ σ. ty_lam k (evaluated_in (sub_types e σ))) (sym (type_put_deeper 1 types a.now))
-
-size_of_group : (bs : List Binding) → size_of (group_of bs) ≡ length bs
-size_of_group [] = refl
-size_of_group (b ∷ bs) = ap suc (size_of_group bs)
 
 pub moved_letrec : (m : Move) (at types : ℕ) (bs : List Binding) (e : TermTree) → letrec (group_of (map (moved_binding m (at + length bs) types) bs)) (moved m (at + length bs) types e) ≡ moved m at types (letrec (group_of bs) e)
 unfolding rename rename_types sub sub_types evaluated_in

@@ -8,6 +8,7 @@ use Rattle.chw_bits.specs.Bits.{bits_of}
 use Rattle.chw_types.specs.declared.kind.Kind.{Kind}
 use Rattle.chw_types.specs.declared.kind.Kind.TheVariants.{Val, Cir}
 use Rattle.chw_types.specs.declared.kind.Scalar.TheVariants.{U}
+use Rattle.chw_types.specs.Polynomials.{ended}
 use Rattle.chw_types.specs.TypeTree.{TypeTree, nat_lit, scalar, vector, fun, for_all}
 use Rattle.chw_types.specs.TypeView.{trees_of}
 use Rattle.chw_types.specs.TypeMoves.{sub}
@@ -92,7 +93,7 @@ body_of (Concatenated kind) ts = twice_sized ts (λ n m a. vec_of a (flat_map (�
 body_of (Taken kind) ts = twice_sized ts (λ n m a. vec_of a (each n (element kind (n + m) a (var 0))))
 body_of (Dropped kind) ts = twice_sized ts (λ n m a. vec_of a (each m (λ j. element kind (n + m) a (var 0) (n + j))))
 body_of (Reversed kind) ts = sized_1 ts (λ n a. vec_of a (each n (λ j. element kind n a (var 0) (n - 1 - j))))
-body_of (Rotated kind) ts = twice_sized ts (λ n k a. vec_of a (each n (λ j. element kind n a (var 0) ((j + k) % n))))
+body_of (Rotated kind) ts = twice_sized ts (λ n k a. vec_of a (each n (λ j. element kind n a (var 0) ((j + ended k) % n))))
 body_of Replaced ts = twice_sized ts (λ n k a. vec_of a (each n (λ j. if nat_lt j (2 ^ k) then where_equal k (var 1) j (var 0) (element Val n a (var 2) j) else element Val n a (var 2) j)))
 body_of ElementAt ts = twice_sized ts (λ n k a. by_index n k (var 0) (element Val (n + 1) a (var 1)))
 body_of _ ts = None

@@ -9,8 +9,9 @@ use std::marker::Model;
 
 /// A list of items with a gap, which contracts see as the list alone.
 ///
-/// Items are put in at the gap. It moves over those between two such places alone: where each is behind the one before it, no item is
-/// moved twice.
+/// Items are put in at the gap. It moves over those between two such places alone.
+/// The first insertion moves the items after its place behind the gap.
+/// Where each place is after the one before it, they go from there before the gap again: each item is moved at most twice in all.
 #[derive(Drop)]
 pub struct GapBuffer<T> {
     /// The items before the gap.

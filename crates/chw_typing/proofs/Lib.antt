@@ -16,6 +16,7 @@ pub mod FoundTyped
 pub mod Free
 pub mod FrontZeros
 pub mod Given
+pub mod GroupLists
 pub mod GroupParts
 pub mod GroupShown
 pub mod Heads

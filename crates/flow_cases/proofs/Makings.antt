@@ -1,5 +1,5 @@
 -- What the rules on cases make, of terms that are the same.
-use Rattle.std.proofs.Common.{◌≡◌, ◌∙◌, ◌==◌, ℕ, suc, sym, ap, refl, subst, Bool, true, false, List, [], ◌∷◌, length, Some, slice_get}
+use Rattle.std.proofs.Common.{◌≡◌, ◌∙◌, ◌==◌, ℕ, sym, ap, refl, subst, Bool, true, false, List, [], ◌∷◌, length, Some, slice_get}
 use Rattle.chw_base.specs.declared.index.ConId.{ConId}
 use Rattle.chw_types.specs.declared.declarations.Data.{Data}
 use Rattle.chw_types.specs.declared.kind.Scalar.{Scalar}
@@ -28,10 +28,6 @@ use Rattle.rewriting.specs.Shapes.{IsTakenBy, with_fields, or_body, projections,
 use Rattle.flow_cases.specs.Given.{types_in, terms_in, AreJust}
 use Rattle.flow_cases.specs.Moves.{fields_put}
 use Rattle.flow_cases.specs.Ports.{IsPortCase}
-
-pub size_of_group : (bs : List Binding) → size_of (group_of bs) ≡ length bs
-size_of_group [] = refl
-size_of_group (b ∷ bs) = ap suc (size_of_group bs)
 
 pub let_made : (o : Origins) (at : Spot) (on : TermTree) (g : Group) (b : TermTree) (alts : Alts) (e : TermTree) → on ≡ letrec g b → e ≡ letrec g (case_of b (shift_alts alts 0 (size_of g))) → OfCases o at CaseLet (case_of on alts) e
 let_made o at on g b alts e q r =

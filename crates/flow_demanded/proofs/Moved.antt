@@ -6,16 +6,11 @@ use Rattle.chw_prims.specs.declared.prim.Primitive.{Primitive as Prim}
 use Rattle.chw_terms.specs.declared.term.Alt.{Alt}
 use Rattle.chw_terms.specs.declared.term.Arg.{Arg}
 use Rattle.chw_terms.specs.declared.term.Arg.TheVariants.{OfTerm}
-use Rattle.chw_terms.specs.declared.term.Binding.{Binding}
-use Rattle.chw_terms.specs.TermTree.{TermTree, size_of, alt, binders}
-use Rattle.chw_terms.specs.TermView.{group_of, alts_of}
+use Rattle.chw_terms.specs.TermTree.{TermTree, alt, binders}
+use Rattle.chw_terms.specs.TermView.{alts_of}
 use Rattle.chw_typing.specs.Groups.{each_body, rename_arg}
 use Rattle.rewriting.specs.Shapes.{shift_args}
 use Rattle.flow_demanded.specs.Moves.{on_arg, alt_on_arg}
-
-pub size_of_group : (bs : List Binding) → size_of (group_of bs) ≡ length bs
-size_of_group [] = refl
-size_of_group (b ∷ bs) = ap suc (size_of_group bs)
 
 -- an argument between those before and behind it
 pub set_between : {X Y : Type 0} (f : X → Y) (xs : List X) (i : ℕ) (y : Y) → i < length xs → (map f (take i xs) ++ y ∷ []) ++ map f (drop (suc i) xs) ≡ set (map f xs) i y

@@ -1,15 +1,14 @@
 -- Arguments that move into letrecs and cases.
-use Rattle.std.proofs.Common.{◌≡◌, suc, ap, refl, List, [], ◌∷◌, map, length}
+use Rattle.std.proofs.Common.{◌≡◌, ap, refl, List, [], ◌∷◌, map}
 use Rattle.chw_types.specs.TypeMoves.{raised}
 use Rattle.chw_types.specs.TypeTree.{TypeTree}
 use Rattle.chw_terms.specs.declared.rule.Rule.TheVariants.{AppLet}
 use Rattle.chw_terms.specs.declared.term.Alt.{Alt}
 use Rattle.chw_terms.specs.declared.term.Arg.{Arg}
 use Rattle.chw_terms.specs.declared.term.Arg.TheVariants.{OfTerm, OfType}
-use Rattle.chw_terms.specs.declared.term.Binding.{Binding}
 use Rattle.chw_terms.specs.TermMoves.{rename, rename_alts}
 use Rattle.chw_terms.specs.TermTree.{TermTree, var, app, ty_app, letrec, Group, size_of, alt, binders}
-use Rattle.chw_terms.specs.TermView.{alts_of, group_of, applied_to}
+use Rattle.chw_terms.specs.TermView.{alts_of, applied_to}
 use Rattle.chw_terms.proofs.ShiftLaws.{raised_is}
 use Rattle.chw_typing.specs.Groups.{each_body, rename_arg}
 use Rattle.rewriting.specs.Origins.{Origins}
@@ -17,10 +16,6 @@ use Rattle.rewriting.specs.Spots.{Spot}
 use Rattle.rewriting.specs.Functions.{OfFunctions, app_let, app_let_type}
 use Rattle.rewriting.specs.Shapes.{shift_alts}
 use Rattle.flow_functions.specs.Moves.{at_type, at_name}
-
-pub size_of_group : (bs : List Binding) → size_of (group_of bs) ≡ length bs
-size_of_group [] = refl
-size_of_group (b ∷ bs) = ap suc (size_of_group bs)
 
 -- an argument of a letrec
 pub moves_in : (o : Origins) (at : Spot) (g : Group) (e : TermTree) (a : Arg) → OfFunctions o at AppLet (applied_to (letrec g e) a) (letrec g (applied_to e (rename_arg (raised 0 (size_of g)) a)))

@@ -9,11 +9,11 @@ use Rattle.chw_terms.specs.TermTree.{TermTree, var, global, made, lam, app, ty_l
 use Rattle.chw_terms.specs.TermView.{tree_of, applied, group_of}
 use Rattle.chw_terms.proofs.Spines.{left_with_next}
 use Rattle.chw_typing.specs.Groups.{joined}
+use Rattle.chw_typing.proofs.GroupLists.{group_joined}
 use Rattle.rewriting.specs.Shapes.{IsLet, NoLetIn}
 use Rattle.rewriting.proofs.Spines.{args_are}
 use Rattle.rule_parts.proofs.Heads.{bare}
 use Rattle.flow_lets.specs.Parts.{IsParted}
-use Rattle.flow_lets.proofs.OneGroup.{group_joined}
 
 -- a letrec has its parts
 record LetParts (e : TermTree) : Type 0 where

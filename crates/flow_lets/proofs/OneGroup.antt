@@ -7,17 +7,10 @@ use Rattle.chw_terms.specs.TermMoves.{rename, rename_group, exchanged, shift}
 use Rattle.chw_terms.specs.TermTree.{TermTree, Group, no_bindings, bind, size_of}
 use Rattle.chw_terms.specs.TermView.{group_of}
 use Rattle.chw_typing.specs.Groups.{joined}
+use Rattle.chw_typing.proofs.GroupLists.{group_joined}
 use Rattle.rewriting.specs.Lets.{side_joined}
 use Rattle.rewriting.specs.Shapes.{shift_group}
 use Rattle.flow_lets.specs.Moves.{raised_side, exchanged_side}
-
-pub size_of_group : (bs : List Binding) → size_of (group_of bs) ≡ length bs
-size_of_group [] = refl
-size_of_group (b ∷ bs) = ap suc (size_of_group bs)
-
-pub group_joined : (xs ys : List Binding) → group_of (xs ++ ys) ≡ joined (group_of xs) (group_of ys)
-group_joined [] ys = refl
-group_joined (b ∷ xs) ys = ap (bind b.ty b.body) (group_joined xs ys)
 
 pub joined_again : (g h k : Group) → joined (joined g h) k ≡ joined g (joined h k)
 joined_again no_bindings h k = refl

@@ -5,17 +5,15 @@ use Rattle.chw_terms.specs.declared.term.Binding.{Binding}
 use Rattle.chw_terms.specs.TermMoves.{rename, rename_group, exchanged, shift}
 use Rattle.chw_terms.specs.TermTree.{TermTree, letrec, Group, bind, size_of}
 use Rattle.chw_terms.specs.TermView.{group_of}
+use Rattle.chw_terms.proofs.TermLists.{size_of_group}
 use Rattle.chw_typing.specs.Groups.{joined}
 use Rattle.chw_typing.specs.Scopes.{declared}
+use Rattle.chw_typing.proofs.GroupLists.{group_joined}
 use Rattle.rewriting.specs.Lets.{side_joined}
 use Rattle.rewriting.specs.Shapes.{shift_group}
 use Rattle.moved_in_place.specs.Moves.{renamed_binding}
-use Rattle.moved_in_place.proofs.Renamed.{size_of_group, renamed_group}
+use Rattle.moved_in_place.proofs.Renamed.{renamed_group}
 use Rattle.open_letrec.specs.Opened.{whole, joined_one, put_first}
-
-pub group_joined : (xs ys : List Binding) → group_of (xs ++ ys) ≡ joined (group_of xs) (group_of ys)
-group_joined [] ys = refl
-group_joined (b ∷ xs) ys = ap (bind b.ty b.body) (group_joined xs ys)
 
 pub declared_joined : (xs ys : List Binding) → declared (group_of (xs ++ ys)) ≡ declared (group_of xs) ++ declared (group_of ys)
 declared_joined [] ys = refl

@@ -9,8 +9,10 @@ use Rattle.chw_terms.specs.declared.term.Binding.{Binding}
 use Rattle.chw_terms.specs.Depth.{depth}
 use Rattle.chw_terms.specs.TermTree.{TermTree, letrec, Group, bind, size_of}
 use Rattle.chw_terms.specs.TermView.{group_of}
+use Rattle.chw_terms.proofs.TermLists.{size_of_group}
 use Rattle.chw_typing.specs.Groups.{joined}
 use Rattle.chw_typing.specs.Scopes.{Setting, declared}
+use Rattle.chw_typing.proofs.GroupLists.{group_joined}
 use Rattle.rewriting.specs.Lets.{side_joined}
 use Rattle.rewriting.specs.Origins.{Origins, setting_at}
 use Rattle.rewriting.specs.Shapes.{IsLet}
@@ -18,7 +20,6 @@ use Rattle.rewriting.specs.Spots.{Spot, spot, spot_of, HasLets}
 use Rattle.term_types.specs.Answers.{IsReady}
 use Rattle.quiet_sides.specs.Quiet.{IsQuiet}
 use Rattle.moved_in_place.specs.Moves.{renamed_binding}
-use Rattle.moved_in_place.proofs.Renamed.{size_of_group}
 use Rattle.kept_letrecs.proofs.Kept.{rest_after_side, rest_after_join}
 use Rattle.kept_letrecs.proofs.QuietRenamed.{quiet_renamed}
 use Rattle.kept_letrecs.specs.Resting.{KeepsVariables, IsAtRest}
@@ -32,7 +33,7 @@ use Rattle.letrec_runs.specs.Traced.{Traces, TracesJoin}
 use Rattle.letrec_runs.specs.Rush.{in_order, place_in, AreQuiet, IsChange, IsResting}
 use Rattle.letrec_runs.proofs.Typed.{side_typed}
 use Rattle.letrec_runs.proofs.Going.{Rests, named_between, side_leads, after_typed, after_shallow, join_leads, then_typed, then_shallow}
-use Rattle.letrec_runs.proofs.Groups.{group_joined, declared_put, whole_at, group_after_join, body_after_join, whole_after_join}
+use Rattle.letrec_runs.proofs.Groups.{declared_put, whole_at, group_after_join, body_after_join, whole_after_join}
 
 pub quiet_before : (settled : List Binding) → AreQuiet settled → AreQuietBefore (group_of settled) (size_of (group_of settled))
 quiet_before [] q i b l is = absurd (omega (arith, l))

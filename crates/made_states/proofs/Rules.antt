@@ -89,7 +89,7 @@ module _ (p : Program) (xs ys : List MadeOf) (P : ℕ → Type 0) (alike : Alike
       record { no_constant = v.no_constant; vector = v.vector; is_first = v.is_first; type = v.type; has = typed_seen p xs ys P alike named v.has; unnamed = v.unnamed }
 
   pub primitives_seen : {at : Spot} {r : Rule} {e e' : TermTree} → OfPrimitives (seen p xs) at r e e' → NamesOnly P e → OfPrimitives (seen p ys) at r e e'
-  primitives_seen (unroll {p = q} {types = types} {es = es} can range by_word is) h = unroll can range (λ at_word. vector_seen types (prim q) h (by_word at_word)) is
+  primitives_seen (unroll {p = q} {types = types} {es = es} can by_word is) h = unroll can (λ at_word. vector_seen types (prim q) h (by_word at_word)) is
   primitives_seen (elem q i least is) h = elem q i least is
   primitives_seen (elem_at m n least is) h = elem_at m n least is
   primitives_seen (delta m v) h = delta m v

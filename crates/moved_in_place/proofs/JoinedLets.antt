@@ -13,7 +13,9 @@ use Rattle.chw_terms.specs.TermMoves.{rename, rename_group, exchanged, shift}
 use Rattle.chw_terms.specs.TermTree.{TermTree, letrec, Group, no_bindings, bind, size_of}
 use Rattle.chw_terms.specs.TermView.{tree_of, applied, group_of}
 use Rattle.chw_terms.proofs.Spines.{left_with_next}
+use Rattle.chw_terms.proofs.TermLists.{size_of_group}
 use Rattle.chw_typing.specs.Groups.{joined}
+use Rattle.chw_typing.proofs.GroupLists.{group_joined}
 use Rattle.rewriting.specs.Origins.{Origins}
 use Rattle.rewriting.specs.Spots.{Spot}
 use Rattle.rewriting.specs.Instances.{HasInstance, on_core, on_whole}
@@ -23,11 +25,7 @@ use Rattle.rewriting.proofs.LetMakes.{one_let}
 use Rattle.rewriting.proofs.Spines.{IsBare, head_is, args_are, backs_same}
 use Rattle.moved_in_place.specs.Joined.{IsJoined, IsJoinedAlone, IsFirstLet, IsWithBody, IsWithSide, IsWithSideAt}
 use Rattle.moved_in_place.specs.Moves.{renamed_binding}
-use Rattle.moved_in_place.proofs.Renamed.{size_of_group, renamed_group}
-
-group_joined : (xs ys : List Binding) → group_of (xs ++ ys) ≡ joined (group_of xs) (group_of ys)
-group_joined [] ys = refl
-group_joined (b ∷ xs) ys = ap (bind b.ty b.body) (group_joined xs ys)
+use Rattle.moved_in_place.proofs.Renamed.{renamed_group}
 
 -- the body joined
 pub with_body : (bs inner bs' : List Binding) (e e' : TermTree) (m : ℕ) → e ≡ letrec (group_of inner) e' → m ≡ length inner → bs' ≡ map (renamed_binding (raised 0 m)) bs ++ inner → IsWithBody (group_of bs) e (group_of bs') e'

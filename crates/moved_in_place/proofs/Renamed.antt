@@ -13,6 +13,7 @@ use Rattle.chw_terms.specs.Moved.{IsLeaf}
 use Rattle.chw_terms.specs.TermMoves.{rename, rename_all, rename_group, rename_alts}
 use Rattle.chw_terms.specs.TermTree.{TermTree, var, lam, app, ty_lam, ty_app, letrec, vec_lit, case_of, term_and, bind, alt, binders, size_of}
 use Rattle.chw_terms.specs.TermView.{terms_of, group_of, alts_of, tree_of, applied}
+use Rattle.chw_terms.proofs.TermLists.{size_of_group}
 use Rattle.chw_typing.specs.Groups.{rename_arg}
 use Rattle.moved_in_place.specs.Moves.{renamed, renamed_binding, renamed_alt}
 
@@ -73,10 +74,6 @@ renamed_lam ρ at t e = ap (λ ρ. lam t (rename e ρ)) (sym (lifted_again 1 at 
 pub renamed_ty_lam : (ρ : Renaming) (k : Kind) (e : TermTree) → ty_lam k (rename e ρ) ≡ rename (ty_lam k e) ρ
 unfolding rename
 renamed_ty_lam ρ k e = refl
-
-pub size_of_group : (bs : List Binding) → size_of (group_of bs) ≡ length bs
-size_of_group [] = refl
-size_of_group (b ∷ bs) = ap suc (size_of_group bs)
 
 pub renamed_group : (ρ : Renaming) (bs : List Binding) → group_of (map (renamed_binding ρ) bs) ≡ rename_group (group_of bs) ρ
 unfolding rename

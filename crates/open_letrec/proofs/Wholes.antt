@@ -11,6 +11,7 @@ use Rattle.chw_terms.specs.TermView.{group_of}
 use Rattle.chw_typing.specs.Groups.{joined}
 use Rattle.chw_typing.specs.Paths.{part_of_group, with_side as with_side_at, with_body, with_part, with_child}
 use Rattle.chw_typing.specs.PartSpines.{spine_at}
+use Rattle.chw_typing.proofs.GroupLists.{group_joined}
 use Rattle.rewriting.specs.Lets.{OfLets, flat_side, side_joined}
 use Rattle.rewriting.specs.Origins.{Origins}
 use Rattle.rewriting.specs.Shapes.{IsOfHead, NoLetIn}
@@ -75,11 +76,6 @@ side_with o b back x h =
     let put : with_child e n x ≡ letrec (group_of (o.settled ++ record b { body = x } ∷ back)) o.body =
     λ i. letrec (part_put o.settled back b x i) (body_stays o.settled back b o.body x i) in
     ap (λ bs. letrec (group_of (o.settled ++ put_first x bs)) o.body) h ∙ sym (ap (λ t. with_part t (n ∷ []) x) was ∙ there ∙ put)
-
--- what joins
-group_joined : (xs ys : List Binding) → group_of (xs ++ ys) ≡ joined (group_of xs) (group_of ys)
-group_joined [] ys = refl
-group_joined (b ∷ xs) ys = ap (bind b.ty b.body) (group_joined xs ys)
 
 of_same : {origins : Origins} {at : Spot} {a a' b b' : TermTree} → a ≡ a' → b ≡ b' → OfLets origins at Flat a' b' → OfLets origins at Flat a b
 of_same {origins} {at} {a} {a'} {b} {b'} h k m = subst (λ t. OfLets origins at Flat t b) (sym h) (subst (λ t. OfLets origins at Flat a' t) (sym k) m)

@@ -8,7 +8,7 @@ ghost use Rattle.chw_terms.specs.Unrolled.{each, element, vec_of};
 ghost use Rattle.prim_vec.specs.Bodies.{HasBody, IsBody};
 
 use crate::made::{Made, Order, push_each, vector, vector_of};
-use crate::sizes::{sized_1, twice_sized};
+use crate::sizes::{is_natural, sized_1, twice_sized};
 use chw_base::NoMemory;
 use chw_terms::Term;
 use chw_types::{Kind, Ty};
@@ -109,5 +109,6 @@ pub(crate) fn rotated(alloc: Global, kind: Kind, types: &[Ty]) -> Result<Term, N
     ensures { IfOk result (λ e. IsBody (Rotated kind) types.now e) }
 {
     let (n, k, a) = twice_sized(types);
+    is_natural(k);
     vector_of(alloc, n, a, Made::Element(kind, n, a, 0, Order::Turned(k)))
 }

@@ -1,5 +1,6 @@
 //! Type arguments as numbers and types.
-ghost use Rattle.std.specs.Prelude.{◌≡◌, ℕ, [], ◌∷◌, ◌++◌, map, IfOk, OnOk};
+ghost use Rattle.std.specs.Prelude.{◌≡◌, ◌≤◌, ℕ, [], ◌∷◌, ◌++◌, map, IfOk, OnOk};
+ghost use Rattle.chw_types.specs.Polynomials.{greatest};
 ghost use Rattle.chw_types.specs.TypeTree.{nat_lit};
 ghost use Rattle.chw_terms.specs.Evaluated.{evaluated};
 ghost use Rattle.prim_vec.specs.Bodies.{Sized1, Sized2, Sized3, TwiceSized};
@@ -38,6 +39,11 @@ fn number(t: &Ty) -> u32
         None => unreachable!(),
     }
 }
+
+/// A number of 32 bits is at most the greatest natural.
+pub(crate) fn is_natural(number: u32)
+    ensures { number ≤ greatest }
+{}
 
 /// A number and a type.
 pub(crate) fn sized_1(types: &[Ty]) -> (u32, &Ty)

@@ -124,7 +124,7 @@ no_vector k (function q (by_fmap e h)) = h
 no_vector {t = t} {es = es} k (function q (by_ap e l)) = lifted_no_vector l t es refl
 
 no_prim : {o : Origins} {at : Spot} {r : Rule} {e new : TermTree} (rest : List Arg) → (at.mode ≡ K → ⊥) → OfPrimitives o at r e new → QuietWith rest e → ⊥
-no_prim rest k (unroll {p = p} {types = types} {es = es} {e = e} c r v u) q =
+no_prim rest k (unroll {p = p} {types = types} {es = es} {e = e} c v u) q =
     none_unrolled p types es e (quiet_not_unrolled (map evaluated types) (prim_with p (types_then types es) rest q)) u
 no_prim rest k (elem {t = t} {es = es} g j l e) q = no_vector g (quiet_argument q 3 (vec_lit t es) refl)
 no_prim rest k (elem_at m i l e) q = k m

@@ -42,7 +42,7 @@ case_form (case_case h n) = refl
 case_form (proj m s p q d f) = refl
 
 pub prim_form : {o : Origins} {at : Spot} {r : Rule} {e new : TermTree} → OfPrimitives o at r e new → form_of e ≡ a_primitive
-prim_form (unroll {p = p} {types = types} {es = es} c r v u) = form_applied (types_then types es) (prim p)
+prim_form (unroll {p = p} {types = types} {es = es} c v u) = form_applied (types_then types es) (prim p)
 prim_form (elem k j l e) = refl
 prim_form (elem_at m i l e) = refl
 prim_form (delta {p = p} {types = types} {words = words} m v) = form_applied (types_then types (map literal words)) (prim p)

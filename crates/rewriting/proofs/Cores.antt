@@ -126,7 +126,7 @@ of_names (unfold_made m i) = alone _ (record { itself = refl; alone = refl }) re
 
 of_primitives : {o : Origins} {at : Spot} {r : Rule} {e e' : TermTree} → OfPrimitives o at r e e' → IsCore o r e
 unfolding asked asks
-of_primitives (unroll {p = p} {types = types} {es = es} c r v u) =
+of_primitives (unroll {p = p} {types = types} {es = es} c v u) =
     core (prim p) (types_then types es) (record { itself = refl; alone = refl })
     (given_length types es ∙ ap (λ n. n + length es) (sym (length-map types evaluated)) ∙ counted (row_of p) (map evaluated types) (length es) c.on_types c.on_terms)
 of_primitives (elem {p = p} {i = i} {n = n} {a = a} {t = t} {es = es} (inl q) j l e) =

@@ -98,7 +98,7 @@ one_value p p' types types' words words' b b' h g x y z =
     cc
 
 pub one_primitive : {o : Origins} {at : Spot} {r r' : Rule} {e f a b : TermTree} → OfPrimitives o at r e a → OfPrimitives o at r' f b → r ≡ r' → e ≡ f → a ≡ b
-one_primitive (unroll {p = p} {types = types} {es = es} {e = e} c r v u) (unroll {p = p'} {types = types'} {es = es'} {e = e'} c' r' v' u') k q =
+one_primitive (unroll {p = p} {types = types} {es = es} {e = e} c v u) (unroll {p = p'} {types = types'} {es = es'} {e = e'} c' v' u') k q =
     let call = same_call p p' (types_then types es) (types_then types' es') q in
     let args = given_same types types' es es' call.given in
     let is : Some e ≡ Some e' = sym u ∙ (λ i. unrolled (call.prims i) (args.on_types i) (args.on_terms i)) ∙ u' in
@@ -113,13 +113,13 @@ one_primitive (delta {p = p} {types = types} {words = words} {b = b} m v) (delta
     let words_are = words_same words words' args.on_terms in
     let value = one_value p p' types types' words words' b b' v v' call.prims args.on_types words_are in
     λ i. word_given (schema_type (call.prims i)) (value i)
-one_primitive (unroll c r v u) (elem w' x' l' y') k q = absurd cc
-one_primitive (unroll c r v u) (elem_at m' x' l' y') k q = absurd cc
-one_primitive (unroll c r v u) (delta m' v') k q = absurd cc
-one_primitive (elem w x l y) (unroll c' r' v' u') k q = absurd cc
-one_primitive (elem_at m x l y) (unroll c' r' v' u') k q = absurd cc
+one_primitive (unroll c v u) (elem w' x' l' y') k q = absurd cc
+one_primitive (unroll c v u) (elem_at m' x' l' y') k q = absurd cc
+one_primitive (unroll c v u) (delta m' v') k q = absurd cc
+one_primitive (elem w x l y) (unroll c' v' u') k q = absurd cc
+one_primitive (elem_at m x l y) (unroll c' v' u') k q = absurd cc
 one_primitive (elem w x l y) (delta m' v') k q = absurd cc
 one_primitive (elem_at m x l y) (delta m' v') k q = absurd cc
-one_primitive (delta m v) (unroll c' r' v' u') k q = absurd cc
+one_primitive (delta m v) (unroll c' v' u') k q = absurd cc
 one_primitive (delta m v) (elem w' x' l' y') k q = absurd cc
 one_primitive (delta m v) (elem_at m' x' l' y') k q = absurd cc

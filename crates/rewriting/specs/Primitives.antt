@@ -59,17 +59,11 @@ pub record HasValue
     pub closed : map evaluated types ≡ map (λ n. nat_lit n) nats
     pub gives : value_of p nats (map (λ w. w.1) words) ≡ Some b
 
--- each of these types that is a number is one that naturals have
-abbrev pub AreInRange : List TypeTree → Type 0
-AreInRange types =
-    AllByRecursion (λ t. (n : ℕ) → evaluated t ≡ nat_lit n → n ≤ greatest) types
-
 pub data OfPrimitives (o : Origins) (at : Spot) : Rule → TermTree → TermTree → Type 0 where
   -- a primitive on vectors, with all its arguments and within the limits, is written out; an
-  -- element by a word only where the vector can't be named, and never in constants. No limit bounds
-  -- the number of places of a rotation, so that the range of naturals does
+  -- element by a word only where the vector can't be named, and never in constants
   unroll : {p : Prim} {types : List TypeTree} {es : List TermTree} {e : TermTree}
-      → CanUnroll p types es → AreInRange types → (p ≡ VAt → HasUnnamedVector o at es)
+      → CanUnroll p types es → (p ≡ VAt → HasUnnamedVector o at es)
       → unrolled p types es ≡ Some e
       → OfPrimitives o at Unroll (applied (prim p) (types_then types es)) e
   -- the element of a written vector, by a number that naturals have

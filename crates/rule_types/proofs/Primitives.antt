@@ -80,7 +80,7 @@ delta_typed {s} {vars} p types words b t h g v d =
     })
 
 pub primitives_keep : (o : Origins) (at : Spot) → IsTypedPlace o at → {r : Rule} {e e' : TermTree} → OfPrimitives o at r e e' → KeepsType o at e e'
-primitives_keep o at h (unroll {p = p} {types = types} {es = es} {e = e} can range unnamed is) t d = unrolling_keeps (setting_at o) [] at.vars p types es e t h.sound h.vars can is d
+primitives_keep o at h (unroll {p = p} {types = types} {es = es} {e = e} can unnamed is) t d = unrolling_keeps (setting_at o) [] at.vars p types es e t h.sound h.vars can is d
 primitives_keep o at h (elem {p = p} {i = i} {n = n} {a = a} {t = w} {es = es} {j = j} {e = e} (inl is) number least element) t d =
     elem_typed p Val i n a w es j e t h.sound h.vars (ap row_of is) element d
 primitives_keep o at h (elem {p = p} {i = i} {n = n} {a = a} {t = w} {es = es} {j = j} {e = e} (inr is) number least element) t d =

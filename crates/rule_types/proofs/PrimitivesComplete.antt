@@ -188,7 +188,7 @@ unrolled_complete datas others is p types es e h u = by (body_of (row_of p) (map
         subst (IsComplete datas) it (group_complete, body_complete datas others is (row_of p) (map evaluated types) body at)
 
 pub primitives_keep_complete : (o : Origins) (at : Spot) → IsTypedPlace o at → {r : Rule} {e e' : TermTree} → OfPrimitives o at r e e' → IsComplete o.program.datas e → IsComplete o.program.datas e'
-primitives_keep_complete o at place (unroll {p = p} {types = types} {es = es} {e = e} can range unnamed is) h =
+primitives_keep_complete o at place (unroll {p = p} {types = types} {es = es} {e = e} can unnamed is) h =
     let datas = o.program.datas in
     unrolled_complete datas place.sound.begins.0 place.sound.begins.1 p types es e (given_complete datas types es (spine_complete datas (prim p) (types_then types es) h).1) is
 primitives_keep_complete o at place (elem {p = p} {i = i} {n = n} {a = a} {t = t} {es = es} {j = j} {e = e} is number least element) h =

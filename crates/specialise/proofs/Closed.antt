@@ -20,6 +20,7 @@ use Rattle.chw_terms.specs.TermMoves.{rename, rename_all, rename_group, rename_a
 use Rattle.chw_terms.specs.TermTree.{TermTree, var, global, made as made_name, lam, app, ty_lam, ty_app, letrec, con, prim, lit, vec_lit, case_of, term_and, bind, alt, binders, size_of}
 use Rattle.chw_terms.specs.TermView.{terms_of, group_of, alts_of, applied}
 use Rattle.chw_terms.proofs.Renamed.{rename_ids}
+use Rattle.chw_terms.proofs.TermLists.{size_of_group}
 use Rattle.chw_typing.proofs.Lists.{found_in_map}
 use Rattle.rewriting.specs.Calls.{to_lambdas}
 use Rattle.rewriting.specs.Origins.{MadeOf, Origins, made_of, origin_at, origin_of, with_origins, with_origins_all, with_origins_group, with_origins_alts}
@@ -71,10 +72,6 @@ closed_lam o n ρ t e = ap (λ π. lam t (closed o π e)) (lifted_more 1 n ρ)
 pub closed_ty_lam : (o : Origins) (ρ : Renaming) (k : Kind) (e : TermTree) → ty_lam k (closed o ρ e) ≡ closed o ρ (ty_lam k e)
 unfolding rename with_origins
 closed_ty_lam o ρ k e = refl
-
-size_of_group : (bs : List Binding) → size_of (group_of bs) ≡ length bs
-size_of_group [] = refl
-size_of_group (b ∷ bs) = ap suc (size_of_group bs)
 
 each_binding : (o : Origins) (ρ : Renaming) (bs : List Binding) → group_of (map (closed_binding o ρ) bs) ≡ with_origins_group (origin_at o) (rename_group (group_of bs) ρ)
 unfolding rename with_origins

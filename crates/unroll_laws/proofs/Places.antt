@@ -3,6 +3,7 @@ use Rattle.std.proofs.Common.{◌≡◌, ℕ, zero, ◌+◌, ◌-◌, ◌<◌, �
 use Rattle.std.specs.Prelude.{Some}
 use Rattle.std.proofs.Math.Nat.{mod-lt}
 use Rattle.chw_types.specs.declared.kind.Kind.{Kind}
+use Rattle.chw_types.specs.Polynomials.{ended}
 use Rattle.chw_types.specs.TypeTree.{TypeTree, ty_var, nat_lit, nat_sum, vector}
 use Rattle.chw_types.specs.TypeMoves.{sub}
 use Rattle.chw_types.specs.Kinds.{IsOfTerms}
@@ -78,7 +79,7 @@ reversed k types args body o e c = reversed_at k args o (sized_view_1 (reversed_
 
 -- vrotl v
 abbrev rotated_body : Kind → ℕ → ℕ → TypeTree → TermTree
-rotated_body k n m a = vec_of a (each n (λ j. element k n a (var 0) ((j + m) % n)))
+rotated_body k n m a = vec_of a (each n (λ j. element k n a (var 0) ((j + ended m) % n)))
 
 rotated_at : (k : Kind) {types : List TypeTree} {body : TermTree} (args : List TermTree) → IsOfTerms k → TwiceSized (rotated_body k) types body → (c : Call (Rotated k) types args) → Keeps (Rotated k) types args c body
 unfolding sub evaluated
@@ -86,12 +87,12 @@ rotated_at k args o (is_twice_sized {size = size} {other = other} {a = a} n m e 
     kept_twice (Rotated k) size other a args c n m k (vector (ty_var 2) (ty_var 0) ∷ []) (vector (ty_var 2) (ty_var 0)) (rotated_body k n m (evaluated a)) e f o refl c.many
     (λ of_a. record {
       type = vector (nat_lit n) (evaluated a);
-      has = places_typed c.s c.kinds c.vars k n n (evaluated a) (vector (evaluated size) (evaluated a)) (λ j. (j + m) % n) o of_a (same_vector (number_same size n e) (same_self (evaluated a))) (λ j l. within j l);
+      has = places_typed c.s c.kinds c.vars k n n (evaluated a) (vector (evaluated size) (evaluated a)) (λ j. (j + ended m) % n) o of_a (same_vector (number_same size n e) (same_self (evaluated a))) (λ j l. within j l);
       same = same_vector (same_turned (number_same size n e)) (same_self (evaluated a));
     })
   where
-    within : (j : ℕ) → j < n → (j + m) % n < n
-    within j l = let some : zero < n = omega arith in mod-lt (j + m) some
+    within : (j : ℕ) → j < n → (j + ended m) % n < n
+    within j l = let some : zero < n = omega arith in mod-lt (j + ended m) some
 
 pub rotated : (k : Kind) (types : List TypeTree) (args : List TermTree) (body : TermTree) → IsOfTerms k → body_of (Rotated k) (map evaluated types) ≡ Some body → (c : Call (Rotated k) types args) → Keeps (Rotated k) types args c body
 rotated k types args body o e c = rotated_at k args o (twice_sized_view (rotated_body k) types body e) c

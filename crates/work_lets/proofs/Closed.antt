@@ -13,6 +13,7 @@ use Rattle.chw_terms.specs.declared.term.Head.TheVariants.{Var, Global, Made, La
 use Rattle.chw_terms.specs.TermMoves.{rename, rename_all, rename_group, rename_alts}
 use Rattle.chw_terms.specs.TermTree.{TermTree, var, lam, app, ty_lam, ty_app, letrec, vec_lit, case_of, term_and, bind, alt, binders, size_of}
 use Rattle.chw_terms.specs.TermView.{terms_of, group_of, alts_of, tree_of, applied}
+use Rattle.chw_terms.proofs.TermLists.{size_of_group}
 use Rattle.rewriting.specs.Shapes.{closed_up}
 use Rattle.work_lets.specs.declared.closing.Closing.{Closing}
 use Rattle.work_lets.specs.Closings.{by_table, closes, one_more, closed, closed_arg, closed_binding, closed_alt, IsLeaf}
@@ -123,10 +124,6 @@ closed_lam c at t e = ap (λ ρ. lam t (rename e ρ)) (sym (lifted_again 1 at (c
 pub closed_ty_lam : (c : Closing) (at : ℕ) (k : Kind) (e : TermTree) → ty_lam k (closed c at e) ≡ closed c at (ty_lam k e)
 unfolding rename
 closed_ty_lam c at k e = refl
-
-size_of_group : (bs : List Binding) → size_of (group_of bs) ≡ length bs
-size_of_group [] = refl
-size_of_group (b ∷ bs) = ap suc (size_of_group bs)
 
 pub closed_group : (c : Closing) (at : ℕ) (bs : List Binding) → group_of (map (closed_binding c at) bs) ≡ rename_group (group_of bs) (lift_by at (closes c))
 unfolding rename_group

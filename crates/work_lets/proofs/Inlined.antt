@@ -13,6 +13,7 @@ use Rattle.chw_terms.specs.Occurs.{occurs}
 use Rattle.chw_terms.specs.TermMoves.{rename, sub, sub_group, in_place_of, lowered}
 use Rattle.chw_terms.specs.TermTree.{TermTree, letrec, Group, no_bindings, bind, size_of}
 use Rattle.chw_terms.specs.TermView.{group_of}
+use Rattle.chw_terms.proofs.TermLists.{size_of_group}
 use Rattle.chw_typing.specs.Groups.{joined}
 use Rattle.rewriting.specs.Named.{IsNamed}
 use Rattle.rewriting.specs.Origins.{Origins}
@@ -21,7 +22,6 @@ use Rattle.rewriting.specs.Lets.{OfLets, flat_side, flat_body, dead, inline, inl
 use Rattle.rewriting.specs.Shapes.{IsOfHead, or_body}
 use Rattle.work_lets.specs.Inlined.{Goes, Stays, IsFirst, put_in, put_for_name}
 use Rattle.work_lets.proofs.Lets.{group_of_both}
-use Rattle.work_lets.proofs.Searched.{size_of_group}
 
 -- one binding more that stays
 stays_more : (datas : List Data) (mode : Mode) (front : List Binding) (b : Binding) (k : ℕ) → EachStays datas mode (group_of front) (suc k) → Stays datas mode b k → EachStays datas mode (group_of (front ++ b ∷ [])) k

@@ -16,10 +16,11 @@ use Rattle.chw_terms.specs.Occurs.{occurs, occurs_all, occurs_group, occurs_alts
 use Rattle.chw_terms.specs.Sought.{any_of, occurs_in, occurs_in_binding, occurs_in_alt}
 use Rattle.chw_terms.specs.TermTree.{TermTree, var, lam, app, ty_lam, ty_app, letrec, vec_lit, case_of, size_of}
 use Rattle.chw_terms.specs.TermView.{terms_of, group_of, alts_of, tree_of, applied}
+use Rattle.chw_terms.proofs.TermLists.{size_of_group}
 use Rattle.work_lets.specs.declared.reached.Search.{Search}
 use Rattle.work_lets.specs.Closings.{IsLeaf}
 use Rattle.work_lets.specs.Searching.{beyond, Noted}
-use Rattle.work_lets.proofs.Searched.{noted_none, noted_both, size_of_group}
+use Rattle.work_lets.proofs.Searched.{noted_none, noted_both}
 
 -- by a test that is the same everywhere
 noted_alike : (s s' : Search) (f g : ℕ → Bool) → ((v : ℕ) → f v ≡ g v) → Noted s f s' → Noted s g s'

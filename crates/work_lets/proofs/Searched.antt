@@ -255,10 +255,6 @@ place_within g e s ws place h popped =
     subst (λ n. place < n) h.each_one
     (slice_get_within s.marks.items place true (h.waits place (subst (λ ws. Contains ws place) (sym popped) (Contains-push ws place))))
 
-pub size_of_group : (bs : List Binding) → size_of (group_of bs) ≡ length bs
-size_of_group [] = refl
-size_of_group (b ∷ bs) = ap suc (size_of_group bs)
-
 pub binding_of_group : (bs : List Binding) (i : ℕ) (b : Binding) → slice_get bs i ≡ Some b → binding_at (group_of bs) i ≡ Some (b.ty, b.body)
 binding_of_group [] i b h = absurd cc
 binding_of_group (c ∷ bs) zero b h = let e : c ≡ b = cc in ap (λ (b : Binding). Some (b.ty, b.body)) e

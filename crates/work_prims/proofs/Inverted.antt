@@ -46,7 +46,7 @@ pub record IsUnrolled (o : Origins) (at : Spot) (p : Prim) (args : List Arg) (e 
   pub gives : unrolled p types es ≡ Some e
 
 pub unrolled_of : {o : Origins} {at : Spot} {r : Rule} {e e' : TermTree} (p : Prim) (args : List Arg) → OfPrimitives o at r e e' → r ≡ Unroll → e ≡ applied (prim p) args → IsUnrolled o at p args e'
-unrolled_of {o} {at} p args (unroll {p = q} {types = types} {es = es} {e = e} c r v u) k s =
+unrolled_of {o} {at} p args (unroll {p = q} {types = types} {es = es} {e = e} c v u) k s =
     let is = call_is p q args (types_then types es) s in
     record {
       types = types;
@@ -65,7 +65,7 @@ pub record IsTaken (at : Spot) (p : Prim) (args : List Arg) (e : TermTree) : Typ
   pub way : (((p ≡ VGet) ⊎ (p ≡ VGetC)) × IsElement args e) ⊎ ((p ≡ VAt) × (at.mode ≡ K) × IsElementAt args e)
 
 pub taken_of : {o : Origins} {at : Spot} {r : Rule} {e e' : TermTree} (p : Prim) (args : List Arg) → OfPrimitives o at r e e' → r ≡ Elem → e ≡ applied (prim p) args → IsTaken at p args e'
-taken_of p args (unroll c r v u) k s = absurd cc
+taken_of p args (unroll c v u) k s = absurd cc
 taken_of p args (elem {p = q} {i = i} {n = n} {a = a} {t = t} {es = es} {j = j} w x l y) k s =
     let given = types_then (i ∷ n ∷ a ∷ []) (vec_lit t es ∷ []) in
     record { way = inl (subst (λ p. (p ≡ VGet) ⊎ (p ≡ VGetC)) (call_is p q args given s) w, record { i = i; n = n; a = a; t = t; es = es; j = j; are = args_is p q args given s; number = x; within = l; is = y }) }
@@ -85,7 +85,7 @@ pub record IsComputed (at : Spot) (p : Prim) (args : List Arg) (e : TermTree) : 
   pub is : e ≡ word_given (schema_type p) bits
 
 pub computed_of : {o : Origins} {at : Spot} {r : Rule} {e e' : TermTree} (p : Prim) (args : List Arg) → OfPrimitives o at r e e' → r ≡ Delta → e ≡ applied (prim p) args → IsComputed at p args e'
-computed_of p args (unroll c r v u) k s = absurd cc
+computed_of p args (unroll c v u) k s = absurd cc
 computed_of p args (elem w i l e) k s = absurd cc
 computed_of p args (elem_at m i l e) k s = absurd cc
 computed_of p args (delta {p = q} {types = types} {words = words} {b = b} m v) k s =
@@ -103,7 +103,7 @@ computed_of p args (delta {p = q} {types = types} {words = words} {b = b} m v) k
 
 -- the rules make something of primitives on as many arguments as these ask for
 pub unroll_prims : (o : Origins) (at : Spot) (e e' : TermTree) → OfPrimitives o at Unroll e e' → IsPrimCore e
-unroll_prims o at _ _ (unroll {p = p} {types = types} {es = es} c r v u) =
+unroll_prims o at _ _ (unroll {p = p} {types = types} {es = es} c v u) =
     record { which = p; args = types_then types es; is = refl; count = given_length types es ∙ ap (λ n. n + length es) (sym (length-map types evaluated)) ∙ counted (row_of p) (map evaluated types) (length es) c.on_types c.on_terms }
 
 pub elem_prims : (o : Origins) (at : Spot) (e e' : TermTree) → OfPrimitives o at Elem e e' → IsPrimCore e

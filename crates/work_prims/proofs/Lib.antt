@@ -4,7 +4,6 @@ pub mod Forms
 pub mod Inverted
 pub mod Lists
 pub mod Narrow
-pub mod Ranges
 pub mod Splits
 pub mod Taking
 pub mod Trials

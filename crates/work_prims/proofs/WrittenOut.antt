@@ -53,7 +53,7 @@ begins_unnamed o at rest es q v =
 pub unroll_answer : (o : Origins) (at : Spot) (p : Prim) (args rest : List Arg) (r : Option TermTree) → (p ≡ VAt → BeginsUnnamed o at rest) → drop (length (types_in args)) args ≡ rest → MatchOption r ((es : List TermTree) → rest ≡ as_args es → CanUnroll p (types_in args) es → ⊥) (λ e. IsWrittenOut p (types_in args) rest e) → AnswersCore o at Unroll (applied (prim p) args) r
 unroll_answer o at p args rest (Some e) u d h =
     subst (λ args'. OfPrimitives o at Unroll (applied (prim p) args') e) (sym (split_is args rest h.es d h.are))
-    (unroll h.can h.range (λ w. has_unnamed o at rest h.es h.are (u w)) h.gives)
+    (unroll h.can (λ w. has_unnamed o at rest h.es h.are (u w)) h.gives)
 unroll_answer o at p args rest None u d none = λ e m.
     let c = unrolled_of p args m refl refl in
     none c.es (rest_is args rest c.types c.es c.are d) (subst (λ ts. CanUnroll p ts c.es) (sym (types_are args c.types c.es c.are)) c.can)

@@ -11,7 +11,6 @@ use Rattle.chw_terms.specs.Unrolled.{CanUnroll, unrolled}
 use Rattle.chw_typing.specs.Typing.{HasType}
 use Rattle.rewriting.specs.Named.{IsNamed}
 use Rattle.rewriting.specs.Origins.{Origins, setting_at}
-use Rattle.rewriting.specs.Primitives.{AreInRange}
 use Rattle.rewriting.specs.Spots.{Spot}
 use Rattle.work_prims.specs.Given.{as_args}
 
@@ -33,5 +32,4 @@ pub record IsWrittenOut (p : Prim) (types : List TypeTree) (args : List Arg) (e 
     pub es : List TermTree
     pub are : args ≡ as_args es
     pub can : CanUnroll p types es
-    pub range : AreInRange types
     pub gives : unrolled p types es ≡ Some e

@@ -1,10 +1,8 @@
 //! The arguments of primitives, read as types and terms.
 ghost use Rattle.std.specs.Prelude.{◌≡◌, ◌≤◌, ℕ, Bool, List, length, drop, IfOk, IfSome, IfNone};
 ghost use Rattle.chw_types.specs.declared.kind.Scalar.{Scalar as Sort};
-ghost use Rattle.chw_types.specs.Polynomials.{greatest};
 ghost use Rattle.chw_types.specs.TypeTree.{nat_lit};
 ghost use Rattle.chw_prims.specs.Schemas.{row_type};
-ghost use Rattle.rewriting.specs.Primitives.{AreInRange};
 ghost use Rattle.rewriting.specs.Spots.{asked_for};
 ghost use Rattle.chw_terms.specs.Evaluated.{evaluated};
 ghost use Rattle.chw_terms.specs.TermTree.{TermTree, lit};
@@ -41,29 +39,6 @@ pub(crate) fn closed(alloc: Global, ty: &Ty) -> Result<Option<u32>, NoMemory>
 {
     let ty = evaluate(alloc, ty)?;
     Ok(numeral(&ty))
-}
-
-// A number of 32 bits is one that naturals have.
-fn is_natural(number: u32)
-    ensures { number ≤ greatest }
-{}
-
-// So is the number of a natural in memory.
-fn in_range(ty: &Ty)
-    ensures { (n : ℕ) → evaluated ty.now ≡ nat_lit n → n ≤ greatest }
-{
-    if let Some(number) = numeral(ty) {
-        is_natural(number);
-    }
-}
-
-/// The numbers of naturals in memory are ones that naturals have: this only reads them.
-pub(crate) fn are_in_range(types: &[Ty])
-    ensures { AreInRange types.now }
-{
-    for ty in types {
-        in_range(ty);
-    }
 }
 
 /// The sort and the bits of a literal.

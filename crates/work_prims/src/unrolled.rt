@@ -11,13 +11,12 @@ ghost use Rattle.chw_typing.specs.Scopes.{setting_in};
 ghost use Rattle.term_types.specs.Answers.{IsReady};
 ghost use Rattle.term_frames.specs.Signatures.{IsSignature};
 ghost use Rattle.rewriting.specs.Origins.{origins_of};
-ghost use Rattle.rewriting.specs.Primitives.{AreInRange};
 ghost use Rattle.rewriting.specs.Spots.{spot_of};
 ghost use Rattle.rule_parts.specs.Cores.{AnswersCore};
 ghost use Rattle.work_prims.specs.Given.{as_args};
 ghost use Rattle.work_prims.specs.Unnamed.{IsUnnamed, BeginsUnnamed, IsWrittenOut};
 
-use crate::given::{are_in_range, copy_terms, split_types};
+use crate::given::{copy_terms, split_types};
 use chw_base::NoMemory;
 use chw_prims::{Prim, Row};
 use chw_terms::{Arg, Mode, Place, Scene, Term};
@@ -114,12 +113,11 @@ fn may_unroll(
 
 // A primitive at types on terms, written out where it can be.
 fn written_out(alloc: Global, p: Prim, types: &[Ty], es: &[Term]) -> Result<Option<Term>, NoMemory>
-    ensures { IfOk result (λ r. MatchOption r (CanUnroll p types.now es.now → ⊥) (λ e. CanUnroll p types.now es.now × AreInRange types.now × (unrolled p types.now es.now ≡ Some e))) }
+    ensures { IfOk result (λ r. MatchOption r (CanUnroll p types.now es.now → ⊥) (λ e. CanUnroll p types.now es.now × (unrolled p types.now es.now ≡ Some e))) }
 {
     if !can_unroll(alloc, p, types, es)? {
         return Ok(None);
     }
-    are_in_range(types);
     Ok(Some(unroll(alloc, p, types, es)?))
 }
 

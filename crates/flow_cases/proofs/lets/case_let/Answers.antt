@@ -1,11 +1,12 @@
 use Rattle.std.proofs.Common.{◌∙◌, ap, sym, refl, subst}
 use Rattle.chw_terms.specs.TermTree.{letrec, case_of}
 use Rattle.chw_terms.specs.TermView.{tree_of, alts_of, group_of}
+use Rattle.chw_terms.proofs.TermLists.{size_of_group}
 use Rattle.rewriting.specs.Shapes.{shift_alts}
 use Rattle.flow_cases.specs.Heads.{IsApplied}
 use Rattle.flow_cases.proofs.Forms.{no_letrec}
 use Rattle.flow_cases.proofs.Inversions.{of_let}
-use Rattle.flow_cases.proofs.Makings.{let_made, size_of_group}
+use Rattle.flow_cases.proofs.Makings.{let_made}
 use Rattle.flow_cases.proofs.lets.case_let.Goals as goal
 
 pub returns-in_default : goal.returns-in_default

@@ -1,8 +1,8 @@
 use Rattle.std.proofs.Common.{◌≡◌, ◌∙◌, IfOk, ap, subst, arith}
 use Rattle.chw_terms.specs.TermTree.{letrec, size_of}
 use Rattle.chw_terms.specs.TermView.{group_of}
+use Rattle.chw_terms.proofs.TermLists.{size_of_group}
 use Rattle.flow_demanded.specs.Moves.{on_arg}
-use Rattle.flow_demanded.proofs.Moved.{size_of_group}
 use Rattle.flow_demanded.proofs.moves.into_letrec.Goals as goal
 
 pub returns : goal.returns

@@ -3,9 +3,10 @@ use Rattle.chw_types.specs.TypeMoves.{raised}
 use Rattle.chw_terms.specs.declared.term.Head.TheVariants.{LetRec}
 use Rattle.chw_terms.specs.TermTree.{letrec}
 use Rattle.chw_terms.specs.TermView.{group_of, applied_to}
+use Rattle.chw_terms.proofs.TermLists.{size_of_group}
 use Rattle.chw_typing.specs.Groups.{rename_arg}
 use Rattle.flow_functions.proofs.Firsts.{at_first_same}
-use Rattle.flow_functions.proofs.Moved.{size_of_group, moves_in}
+use Rattle.flow_functions.proofs.Moved.{moves_in}
 use Rattle.flow_functions.proofs.functions.app_let.Goals as goal
 
 pub returns : goal.returns

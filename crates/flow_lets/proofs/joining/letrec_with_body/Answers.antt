@@ -1,9 +1,10 @@
 use Rattle.std.proofs.Common.{◌≡◌, ◌∙◌, IfOk, ap, subst, arith}
 use Rattle.chw_terms.specs.TermTree.{letrec, size_of}
 use Rattle.chw_terms.specs.TermView.{group_of}
+use Rattle.chw_terms.proofs.TermLists.{size_of_group}
 use Rattle.chw_typing.specs.Groups.{joined}
+use Rattle.chw_typing.proofs.GroupLists.{group_joined}
 use Rattle.rewriting.specs.Shapes.{shift_group}
-use Rattle.flow_lets.proofs.OneGroup.{size_of_group, group_joined}
 use Rattle.flow_lets.proofs.joining.letrec_with_body.Goals as goal
 
 pub returns : goal.returns

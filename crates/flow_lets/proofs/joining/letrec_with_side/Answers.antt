@@ -2,7 +2,7 @@ use Rattle.std.proofs.Common.{◌≡◌, ◌∙◌, IfOk, suc, subst, arith}
 use Rattle.chw_terms.specs.TermMoves.{shift}
 use Rattle.chw_terms.specs.TermTree.{letrec, size_of}
 use Rattle.chw_terms.specs.TermView.{group_of}
-use Rattle.flow_lets.proofs.OneGroup.{size_of_group}
+use Rattle.chw_terms.proofs.TermLists.{size_of_group}
 use Rattle.flow_lets.proofs.joining.letrec_with_side.Goals as goal
 
 pub side_group-requires-clause-joins : goal.side_group-requires-clause-joins

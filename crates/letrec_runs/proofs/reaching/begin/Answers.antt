@@ -1,6 +1,6 @@
 use Rattle.std.proofs.Common.{sym}
 use Rattle.chw_terms.specs.TermView.{group_of}
-use Rattle.moved_in_place.proofs.Renamed.{size_of_group}
+use Rattle.chw_terms.proofs.TermLists.{size_of_group}
 use Rattle.letrec_runs.proofs.Reached.{from_the_body, nothing_marked}
 use Rattle.letrec_runs.proofs.reaching.begin.Goals as goal
 

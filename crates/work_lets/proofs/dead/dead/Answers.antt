@@ -3,10 +3,10 @@ use Rattle.std.proofs.lemmas.Bool.{true≢false}
 use Rattle.chw_terms.specs.declared.rule.Rule.TheVariants.{Dead}
 use Rattle.chw_terms.specs.TermTree.{letrec}
 use Rattle.chw_terms.specs.TermView.{group_of, tree_of}
+use Rattle.chw_terms.proofs.TermLists.{size_of_group}
 use Rattle.rewriting.specs.Spots.{spot_of}
 use Rattle.rewriting.specs.Lets.{OfLets, MarksReached, kept}
 use Rattle.work_lets.proofs.Marked.{all_reached, some_go}
-use Rattle.work_lets.proofs.Searched.{size_of_group}
 use Rattle.work_lets.proofs.dead.dead.Goals as goal
 
 pub returns-then-not-loses : goal.returns-then-not-loses

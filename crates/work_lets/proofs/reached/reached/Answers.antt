@@ -1,7 +1,8 @@
 use Rattle.std.proofs.Common.{◌∙◌, sym, ap, refl, replicate, false, arith}
 use Rattle.std.proofs.lemmas.List.{nil_from_length}
 use Rattle.chw_terms.specs.TermView.{group_of}
-use Rattle.work_lets.proofs.Searched.{searches_first, searches_next, searches_less, searched, place_within, size_of_group, binding_of_group, found_at}
+use Rattle.chw_terms.proofs.TermLists.{size_of_group}
+use Rattle.work_lets.proofs.Searched.{searches_first, searches_next, searches_less, searched, place_within, binding_of_group, found_at}
 use Rattle.work_lets.proofs.reached.reached.Goals as goal
 
 pub loop-place-init : goal.loop-place-init
