@@ -1,0 +1,3 @@
+" Written by tools/editors.
+au BufRead,BufNewFile *.chw setfiletype chw
+au BufRead,BufNewFile *.stim setfiletype chwstim
