@@ -3,6 +3,8 @@ import hashlib
 import importlib.machinery
 import importlib.util
 import os
+import shutil
+import subprocess
 
 TOP = os.path.dirname(os.path.dirname(os.path.realpath(__file__)))
 PICTURES = os.path.join(TOP, "docs", "pictures")
@@ -30,6 +32,13 @@ def program():
         if os.access(path, os.X_OK) and os.path.getmtime(path) >= newest:
             return path
     return None
+
+
+def is_installed(tool):
+    """Whether a tool is there; of Vim one that has colours."""
+    if not shutil.which(tool):
+        return False
+    return tool != "vim" or "+syntax" in subprocess.run(["vim", "--version"], capture_output=True, text=True, check=False).stdout
 
 
 def checksum(text):
