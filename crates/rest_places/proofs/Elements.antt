@@ -55,7 +55,7 @@ same_numerals m n (same_naturals {a = a} {b = b} p q r) e f =
 same_numerals m n _ e f = absurd cc
 
 -- the type of a written vector
-vector_type : {s : Setting} {vars : List TypeTree} {u v : TypeTree} {es : Terms} → HasType s [] vars (vec_lit u es) v → v ≡ vector (nat_lit (count es)) u
+pub vector_type : {s : Setting} {vars : List TypeTree} {u v : TypeTree} {es : Terms} → HasType s [] vars (vec_lit u es) v → v ≡ vector (nat_lit (count es)) u
 vector_type (h_vec l have) = refl
 
 -- it has as many elements as its length says, within the limit

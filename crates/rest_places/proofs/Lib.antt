@@ -1,7 +1,11 @@
 pub mod Applied
 pub mod Below
+pub mod Chains
+pub mod CircuitHeads
+pub mod Constants
 pub mod Demanded
 pub mod Elements
+pub mod Heads
 pub mod Known
 pub mod Lets
 pub mod Lifted
@@ -9,9 +13,12 @@ pub mod Numbers
 pub mod Operands
 pub mod Parts
 pub mod Ports
+pub mod Rolled
 pub mod Sizes
 pub mod Smaller
+pub mod Sorts
 pub mod Spines
+pub mod Standing
 pub mod Steps
 pub mod Unrolled
 pub mod Values

@@ -42,6 +42,7 @@ use Rattle.rule_types.proofs.Applied.{fmap_parts, ap_parts, payload_kind, same_p
 use Rattle.rest_places.specs.Chains.{IsChain, chain_on_one, chain_on_more, MadeAreNamed, TakesAsMany}
 use Rattle.rest_places.specs.Rest.{IsRestPlace, ground}
 use Rattle.rest_places.proofs.Below.{rest_below}
+use Rattle.rest_places.proofs.Constants.{all_at}
 use Rattle.rest_places.proofs.Ports.{payload_of, named_port, circuit_head, not_constant, no_function}
 use Rattle.rest_places.proofs.Demanded.{none_of_each}
 use Rattle.rest_places.proofs.Steps.{no_core, retyped}
@@ -79,12 +80,6 @@ value_asks (representable_data is many all) = refl
 asked_from : {datas : List Data} (ts : List TypeTree) (r : TypeTree) → Representable datas r → asked_for (from_each ts r) ≡ length ts
 asked_from [] r v = value_asks v
 asked_from (t ∷ ts) r v = ap suc (asked_from ts r v)
-
--- this holds of each in the list
-all_at : (P : TypeTree → Type 0) (xs : List TypeTree) (i : ℕ) (x : TypeTree) → AllByRecursion P xs → slice_get xs i ≡ Some x → P x
-all_at P [] i x all h = absurd cc
-all_at P (y ∷ xs) zero x all h = let same : y ≡ x = cc in subst P same all.0
-all_at P (y ∷ xs) (suc i) x all h = all_at P xs i x all.1 h
 
 less_or_not : (m n : ℕ) → (m < n) ⊎ (n ≤ m)
 less_or_not m zero = inr (omega arith)

@@ -1,4 +1,6 @@
 pub mod Chains
+pub mod CircuitHeads
+pub mod Constants
 pub mod Laws
 pub mod PartLaws
 pub mod PrimLaws

@@ -12,6 +12,9 @@ ghost use Rattle.rest_places.specs.PrimLaws.{SizesAreWithin, NoLimit, PrimArity,
 ghost use Rattle.rest_places.specs.PrimLaws.{NoGetOfWritten, NoAtOfWritten, NoWordsOnLiterals};
 ghost use Rattle.rest_places.specs.PrimLaws.{Unrolls};
 ghost use Rattle.rest_places.specs.Chains.{LiftedIsMade};
+ghost use Rattle.rest_places.specs.CircuitHeads.{CircuitHeadsGo};
+ghost use Rattle.rest_places.specs.Constants.{NoUnrolled, ConstantsAreKnown, ConstantsStand};
+ghost use Rattle.rest_places.specs.Constants.{ValueHeadsGo};
 
 use rewriting::scene_laws::names_of_modes;
 
@@ -130,4 +133,37 @@ pub fn lifted_is_made()
     ensures { LiftedIsMade }
 {
     names_of_modes();
+}
+
+/// At rest no primitive that is unrolled has all its arguments.
+pub fn nothing_unrolls()
+    ensures { NoUnrolled }
+{}
+
+/// At rest a constant of a type of values is known by its type, and one of a representable type is
+/// a constant of the normal form.
+pub fn constants_are_known()
+    ensures known { ConstantsAreKnown }
+    ensures constant { ConstantsStand }
+{
+    names_of_modes();
+    nothing_unrolls();
+}
+
+/// At rest the head of a value, of a type that isn't representable, is taken away by a rule of the
+/// place above.
+pub fn value_heads_go()
+    ensures { ValueHeadsGo }
+{
+    names_of_modes();
+    nothing_unrolls();
+}
+
+/// At rest the head of a circuit, of a type that is no port, is taken away by a rule of the place
+/// above, or it is a signal of one value or a chain.
+pub fn circuit_heads_go()
+    ensures { CircuitHeadsGo }
+{
+    names_of_modes();
+    nothing_unrolls();
 }
