@@ -36,7 +36,8 @@ use Rattle.use_laws.specs.ValueIn.BeginsAt.{top as begins_at_top}
 use Rattle.use_laws.specs.ValueIn.IsModuleAt.{top as module_at_top}
 use Rattle.net_built.specs.Built.{Built}
 use Rattle.net_grounds.specs.Facts.{Facts}
-use Rattle.net_means.specs.NetFits.Laws.{BeginsWithTop, RunsBeginWithTop}
+use Rattle.normal_form.specs.Entries.{BeginsWithTop}
+use Rattle.net_means.specs.NetFits.Laws.{RunsBeginWithTop}
 use Rattle.net_means.specs.CircuitBits.Instances.{Design}
 use Rattle.net_means.specs.NetBits.Whole.{AllHaveBits}
 use Rattle.net_means.specs.Outputs.{NetMeans, OutputMeans}

@@ -27,8 +27,9 @@ use Rattle.chw_meaning.specs.Values.{History, Thunk, none}
 use Rattle.carrying.specs.TermLaws.{onto, under_lambdas}
 use Rattle.net_built.specs.Terms.{Variable}
 use Rattle.net_grounds.specs.Facts.{Facts}
+use Rattle.net_means.proofs.NetFits.Beginning.{begins_with_circuit, begins_with_type}
 use Rattle.net_means.proofs.Lists.{same_some}
-use Rattle.net_means.specs.NetFits.Laws.{BeginsWithTop}
+use Rattle.normal_form.specs.Entries.{BeginsWithTop}
 use Rattle.net_means.specs.CircuitBits.Instances.{Design, HaveBits, NoLambda, Parameters}
 use Rattle.net_means.specs.NetBits.Whole.{InputsHaveBits}
 use Rattle.net_means.specs.Inputs.{TopGiven}
@@ -88,7 +89,7 @@ inputs_there facts {datas} (leads_from {a = a} {ls = ls} {ins = rest} l more) s 
 
 module _ (facts : Facts) (wide : EncodingHasWidth) (values : SameValues) (keep : FieldsKeepSame) (d : Design) (top : Made) (last : History) (typed : IsTypedState d.program d.state) (begins : BeginsWithTop d.program d.state) (is_top : slice_get d.state 0 ≡ Some top) (fit : Fit d.program last) where
   leads : LeadsFrom d.program.datas top.ty fit.are_ports.ins fit.are_ports.outs
-  leads = subst (λ t. LeadsFrom d.program.datas t fit.are_ports.ins fit.are_ports.outs) (sym (begins.type top fit.are_ports.it is_top fit.are_ports.top.held)) fit.are_ports.top.leads
+  leads = subst (λ t. LeadsFrom d.program.datas t fit.are_ports.ins fit.are_ports.outs) (sym (begins_with_type begins top fit.are_ports.it is_top fit.are_ports.top.held)) fit.are_ports.top.leads
 
   pub inputs : Inputs d.program.datas top.ty fit.are_ports.ins fit.are_ports.outs fit.streams
   inputs = inputs_there facts leads fit.decode
@@ -110,7 +111,7 @@ module _ (facts : Facts) (wide : EncodingHasWidth) (values : SameValues) (keep :
       is = same_some known is_top
 
       circuit : it.sort ≡ Circuit
-      circuit = begins.circuit it known
+      circuit = begins_with_circuit begins it known
 
       of_top : top.body ≡ under_lambdas params e
       of_top = subst (λ (it : Made). it.body ≡ under_lambdas params e) is body

@@ -47,8 +47,9 @@ use Rattle.net_built.specs.Data.{HaveWidths, HasParts, port_parts}
 use Rattle.net_built.specs.Terms.{Variable}
 use Rattle.net_built.specs.Wires.{wire_count}
 use Rattle.net_grounds.specs.Facts.{Facts}
+use Rattle.net_means.proofs.NetFits.Beginning.{begins_with_circuit, begins_with_type}
 use Rattle.net_means.proofs.Lists.{found_in_map, found_before_map, same_some}
-use Rattle.net_means.specs.NetFits.Laws.{BeginsWithTop}
+use Rattle.normal_form.specs.Entries.{BeginsWithTop}
 use Rattle.cell_bits.specs.Bearing.{Bears, bears_bits}
 use Rattle.net_means.proofs.SideBits.Operands.{sound_alone, var_at}
 use Rattle.net_means.specs.CircuitBits.Blocks.{BodyStands}
@@ -96,7 +97,7 @@ module _ (facts : Facts) (all : AllHaveBits) (wide : EncodingHasWidth) (values :
   given = inputs facts wide values keep d it h typed begins first fit
 
   circuit : it.sort ≡ Circuit
-  circuit = begins.circuit it first
+  circuit = begins_with_circuit begins it first
 
   at_top : IsModuleAt d.net [] is_flat.m
   at_top = module_at_top is_flat.place is_flat.m is_flat.top
@@ -214,7 +215,7 @@ module _ (facts : Facts) (all : AllHaveBits) (wide : EncodingHasWidth) (values :
       let names : NamesHold d.net is_flat.place is_flat.m = formed.rules is_flat.place is_flat.m is_flat.top.stands Name in
       let wire : slice_get flat.outputs k ≡ Some out.wire = subst (λ (ws : List WireId). slice_get ws k ≡ Some out.wire) (sym outputs_are) out.is_wire in
       let within : out.wire.number < length is_flat.m.widths = all_at (IsWire is_flat.m.widths) is_flat.m.outputs k out.wire names.outputs (subst (λ (ws : List WireId). slice_get ws k ≡ Some out.wire) is_flat.outputs wire) in
-      let type : it.ty ≡ fit.are_ports.it.ty = begins.type it fit.are_ports.it first fit.are_ports.top.held in
+      let type : it.ty ≡ fit.are_ports.it.ty = begins_with_type begins it fit.are_ports.it first fit.are_ports.top.held in
       let gives : Gives d.program (d.wholes 0) it.ty fit.streams h out.number y.datum =
       record {
         result = given.result;

@@ -21,7 +21,7 @@ use Rattle.netlist.specs.declared.net.Net.{Net}
 use Rattle.net_flat.specs.Flattened.{IsFlatOf}
 use Rattle.net_rules.specs.WellFormed.{WellFormed}
 use Rattle.net_built.specs.Built.{Built}
-use Rattle.net_means.specs.NetFits.Laws.{BeginsWithTop}
+use Rattle.normal_form.specs.Entries.{BeginsWithTop}
 use Rattle.net_means.specs.CircuitBits.Instances.{Design}
 use Rattle.net_means.specs.Inputs.{TopGiven}
 use Rattle.net_means.specs.Outputs.{NetMeans, OutputMeans}

@@ -1,3 +1,4 @@
+pub mod Entries
 pub mod MadeIn
 pub mod States
 pub mod UseOrders

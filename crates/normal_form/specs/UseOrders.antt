@@ -5,6 +5,7 @@ use Rattle.chw_terms.specs.declared.scene.Made.{Made}
 use Rattle.chw_terms.specs.TermTree.{TermTree}
 use Rattle.normal_forms.specs.Normal.{IsNormal}
 use Rattle.normal_forms.specs.Uses.{Uses, IsAcyclic, WholeOf}
+use Rattle.normal_form.specs.Entries.{IsEntry}
 
 -- each made definition that is used is there
 abbrev pub UsesAreThere : List Made → Type 0
@@ -24,8 +25,10 @@ pub record IsUseOrder (state : List Made) (ms : List ℕ) : Type 0 where
   pub after : (j n : ℕ) → j < length ms → Uses state (slice_index ms j) n
       → (i : ℕ) × (i < j) × (slice_index ms i ≡ n)
 
--- a normal state of which none uses itself, with an order of its made definitions
+-- a normal state of a tidy and typed program, of which none uses itself, with an order of its made
+-- definitions
 pub record IsOrderedState (p : Program) (state : List Made) (ms : List ℕ) : Type 0 where
+  pub entry : IsEntry p state
   pub normal : IsNormal p state
   pub acyclic : IsAcyclic state
   pub ordered : IsUseOrder state ms

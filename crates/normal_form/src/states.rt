@@ -5,6 +5,7 @@ ghost use Rattle.graph_order.specs.Orders.{LeastFirst};
 ghost use Rattle.data_kinds.specs.Cycles.{IsCycleOf};
 ghost use Rattle.normal_forms.specs.Normal.{IsNormal};
 ghost use Rattle.normal_forms.specs.Uses.{Uses, IsAcyclic};
+ghost use Rattle.normal_form.specs.Entries.{IsEntry};
 ghost use Rattle.normal_form.specs.UseOrders.{EachIsWhole, IsUseOrder, UsesAreThere};
 
 use crate::order::use_order;
@@ -14,7 +15,8 @@ use graph_order::Ordering;
 use std::alloc::Global;
 use std::marker::Model;
 
-/// A program and made definitions that are a normal state, of which none uses itself. Contracts see the two.
+/// A tidy and typed program and made definitions that are a normal state of it, the top first, of which none uses itself.
+/// Contracts see the two.
 #[derive(Drop)]
 pub struct Normal<'a> {
     program: &'a Program,
@@ -50,7 +52,8 @@ impl<'a> Normal<'a> {
         program: &'a Program,
         made: &'a [Made],
     ) -> Result<Normal<'a>, Or<Vec<MadeId>>>
-        requires { IsNormal program.now made.now }
+        requires entry { IsEntry program.now made.now }
+        requires normal { IsNormal program.now made.now }
         ensures state { IfOk result (λ n. n ≡ record { program = program.now; made = made.now }) }
         ensures acyclic { IfOk result (λ _. IsAcyclic made.now) }
         ensures cycle { IfFault result (λ ids. IsCycleOf (Uses made.now) (map (λ m. m.number) ids.items)) }
@@ -73,6 +76,7 @@ impl<'a> Normal<'a> {
     /// The program.
     pub fn program(&self) -> &'a Program
         ensures program { result.now ≡ self.now.program }
+        ensures entry { IsEntry self.now.program self.now.made }
         ensures normal { IsNormal self.now.program self.now.made }
     {
         self.program

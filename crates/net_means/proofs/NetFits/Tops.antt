@@ -29,7 +29,9 @@ use Rattle.net_built.specs.Modules.{IsModuleOf}
 use Rattle.net_built.specs.Terms.{result_of}
 use Rattle.net_built.specs.Wires.{wire_count, present}
 use Rattle.net_grounds.specs.Facts.{Facts}
-use Rattle.net_means.specs.NetFits.Laws.{BeginsWithTop, TopKept}
+use Rattle.normal_form.specs.Entries.{BeginsWithTop}
+use Rattle.net_means.specs.NetFits.Laws.{TopKept}
+use Rattle.net_means.proofs.NetFits.Beginning.{begins_with_circuit, begins_with_type}
 use Rattle.net_means.proofs.NetFits.Calls.{ParamParts, no_params, param_and, body_params}
 use Rattle.net_means.proofs.NetFits.Drivers.{module_at, as_many}
 use Rattle.net_means.proofs.NetFits.Names.{names_there, circuit_outputs}
@@ -85,9 +87,9 @@ module _ (facts : Facts) (keep : FieldsKeepSame) (law : SameKeepsMeasure) (con_a
       let sound = (typed_origins p state typed).sound in
       let body = normal.bodies 0 it is in
       let closed = (typed.each 0 it is).closed in
-      let circuit = begins.circuit it is in
+      let circuit = begins_with_circuit begins it is in
       let ports = of.ports in
-      let type = begins.type it ports.it is ports.top.held in
+      let type = begins_with_type begins it ports.it is ports.top.held in
       let ins = port_widths ports.inputs in
       let outs = port_widths ports.outputs in
       let params : ParamParts p.datas Circuit it.ty made_of.inputs (result_of it.ty) =

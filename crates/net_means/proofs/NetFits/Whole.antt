@@ -17,7 +17,8 @@ use Rattle.rule_types.specs.States.{IsTypedState, StatesHaveTypedOrigins}
 use Rattle.chw_typing.specs.SpineLaws.{ConAtArguments, ConIsSaturated, PrimAtArguments}
 use Rattle.net_built.specs.Built.{Built}
 use Rattle.net_grounds.specs.Facts.{Facts}
-use Rattle.net_means.specs.NetFits.Laws.{BeginsWithTop, KeepsTheRest}
+use Rattle.normal_form.specs.Entries.{BeginsWithTop}
+use Rattle.net_means.specs.NetFits.Laws.{KeepsTheRest}
 use Rattle.net_means.proofs.NetFits.Drivers.{drivers_hold, has_module}
 use Rattle.net_means.proofs.NetFits.Modules.{net_drives}
 use Rattle.net_means.proofs.NetFits.Names.{names_there}

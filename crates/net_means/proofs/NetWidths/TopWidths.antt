@@ -30,8 +30,9 @@ use Rattle.net_built.specs.Modules.{IsModuleOf}
 use Rattle.net_built.specs.Terms.{result_of}
 use Rattle.net_built.specs.Wires.{present}
 use Rattle.net_grounds.specs.Facts.{Facts}
-use Rattle.net_means.specs.NetFits.Laws.{BeginsWithTop}
+use Rattle.normal_form.specs.Entries.{BeginsWithTop}
 use Rattle.net_means.specs.NetFits.Widths.{AreWide}
+use Rattle.net_means.proofs.NetFits.Beginning.{begins_with_circuit, begins_with_type}
 use Rattle.net_means.proofs.NetFits.Calls.{ParamParts, no_params, param_and, body_params}
 use Rattle.net_means.proofs.NetFits.Drivers.{module_at, as_many}
 use Rattle.net_means.proofs.NetFits.Ports.{payloads}
@@ -80,9 +81,9 @@ module _ (facts : Facts) (keep : FieldsKeepSame) (law : SameKeepsMeasure) (con_a
       let s : Setting = setting_at (origins_in p state) in
       let sound = (typed_origins p state typed).sound in
       let body = normal.bodies 0 it is in
-      let circuit = begins.circuit it is in
+      let circuit = begins_with_circuit begins it is in
       let ports = of.ports in
-      let type = begins.type it ports.it is ports.top.held in
+      let type = begins_with_type begins it ports.it is ports.top.held in
       let outs = port_widths ports.outputs in
       let params : ParamParts p.datas Circuit it.ty made_of.inputs (result_of it.ty) =
       subst (λ sort. ParamParts p.datas sort it.ty made_of.inputs (result_of it.ty)) circuit (body_params facts keep law s sound made_of.body body.under body.typed.has body.typed.same) in

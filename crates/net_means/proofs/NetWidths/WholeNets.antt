@@ -15,7 +15,7 @@ use Rattle.rule_types.specs.States.{IsTypedState, StatesHaveTypedOrigins}
 use Rattle.chw_typing.specs.SpineLaws.{ConAtArguments, ConIsSaturated, PrimAtArguments}
 use Rattle.net_built.specs.Built.{Built}
 use Rattle.net_grounds.specs.Facts.{Facts}
-use Rattle.net_means.specs.NetFits.Laws.{BeginsWithTop}
+use Rattle.normal_form.specs.Entries.{BeginsWithTop}
 use Rattle.net_means.proofs.NetFits.PortRules.{ports_hold}
 use Rattle.net_means.proofs.NetWidths.Count.{modules_few}
 use Rattle.net_means.proofs.NetWidths.ModulesKept.{module_kept}

@@ -5,7 +5,6 @@ use Rattle.chw_base.specs.declared.index.WireId.{WireId}
 use Rattle.chw_clock.specs.declared.event.Port.{Port}
 use Rattle.chw_clock.specs.declared.event.Ports.{Ports}
 use Rattle.chw_types.specs.TypeTree.{TypeTree}
-use Rattle.chw_terms.specs.declared.program.Def.{Def}
 use Rattle.chw_terms.specs.declared.program.Program.{Program}
 use Rattle.chw_terms.specs.declared.rule.Rule.{Rule}
 use Rattle.chw_terms.specs.declared.scene.Made.{Made}
@@ -28,6 +27,7 @@ use Rattle.rewriting.specs.Runs.{Run, Step}
 use Rattle.normal_forms.specs.Circuits.{IsCircuitBody}
 use Rattle.normal_forms.specs.Normal.{IsNormal}
 use Rattle.rule_types.specs.States.{IsTypedState}
+use Rattle.normal_form.specs.Entries.{BeginsWithTop}
 use Rattle.net_built.specs.Bodies.{BodyBuilt}
 use Rattle.net_built.specs.Built.{Built, ground_of}
 use Rattle.net_built.specs.Circuits.{Ground}
@@ -107,13 +107,7 @@ WiresAreThere =
     → IsTypedState p state → IsNormal p state → Built p state net
     → slice_get net.modules i ≡ Some m → i + 1 < length net.modules → 1 ≤ length m.widths
 
--- the state's first made definition is a circuit of the type of the program's top
-pub record BeginsWithTop (p : Program) (state : List Made) : Type 0 where
-  pub circuit : (it : Made) → slice_get state 0 ≡ Some it → it.sort ≡ Circuit
-  pub type : (it : Made) (top : Def) → slice_get state 0 ≡ Some it
-      → slice_get p.defs p.top.«def».number ≡ Some top → it.ty ≡ top.ty
-
--- each state of a run does so
+-- each state of a run begins with the program's top
 abbrev pub RunsBeginWithTop : Type 0
 RunsBeginWithTop =
     (rules : List Rule) (p : Program) (n : ℕ) (steps : List Step) (made : List Made)

@@ -11,7 +11,7 @@ use Rattle.normal_forms.specs.Normal.{IsNormal}
 use Rattle.rewriting.specs.Runs.{Run, Step}
 use Rattle.rule_types.specs.States.{IsTypedState}
 use Rattle.net_built.specs.Built.{Built}
-use Rattle.net_means.specs.NetFits.Laws.{BeginsWithTop}
+use Rattle.normal_form.specs.Entries.{BeginsWithTop}
 
 -- in each module that is built of a typed normal state that begins with the top the widths of the
 -- cells agree, and the last module is as wide as the program's ports

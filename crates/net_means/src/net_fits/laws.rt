@@ -7,6 +7,7 @@ ghost use Rattle.net_means.specs.NetFits.WidthLaws.{ConstructorsAgree};
 use chw_types::laws::same_values;
 use chw_typing::spine_laws::{saturated_spines, spines_are_saturated};
 use layout_laws::laws::same_types_keep_layout;
+use made_states::laws::origins_stay;
 use net_grounds::laws::facts;
 use rule_types::laws::steps_keep;
 use type_laws::laws::fields_keep_same;
@@ -117,7 +118,9 @@ pub fn constructor_sides_agree()
 /// Each state of a run begins with the top.
 pub fn runs_begin_with_top()
     ensures { RunsBeginWithTop }
-{}
+{
+    origins_stay();
+}
 
 /// The last module that is built keeps the rule on names, and has inputs as wide as the ports.
 pub fn tops_are_kept()
@@ -147,6 +150,7 @@ pub fn built_is_well_formed()
 {
     facts();
     fields_keep_same();
+    runs_begin_with_top();
     same_types_keep_layout();
     saturated_spines();
     spines_are_saturated();

@@ -15,7 +15,8 @@ invariant_of-result c =
     subst (λ r. OfOrder r (λ nodes. UsesAreThere made → IsUseOrder made nodes)) c.in-Order.is c.in_ok-nodes.ensures.order in
     let same = c.deref.ensures.value in
     record {
-      normal = c.requires;
+      entry = c.requires.entry;
+      normal = c.requires.normal;
       acyclic = acyclic;
-      ordered = subst (IsUseOrder made) (sym (c.in_ok-order-in-Order.ensures ∙ same)) (order (uses_are_there p made c.requires));
+      ordered = subst (IsUseOrder made) (sym (c.in_ok-order-in-Order.ensures ∙ same)) (order (uses_are_there p made c.requires.normal));
     }
