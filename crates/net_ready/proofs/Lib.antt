@@ -1,0 +1,17 @@
+pub mod Agreed
+pub mod Arguments
+pub mod CasesAlike
+pub mod CircuitSides
+pub mod DraftsThere
+pub mod MadeUsed
+pub mod ModulesThere
+pub mod OrdersThere
+pub mod PassesFew
+pub mod ReadyCircuits
+pub mod Scopes
+pub mod Settled
+pub mod Stages
+pub mod TwoPasses
+pub mod ValueSides
+pub mod Weights
+pub mod WiresBehind
