@@ -1,0 +1,10 @@
+pub mod Circuits
+pub mod Constants
+pub mod Declared
+pub mod Heads
+pub mod Measured
+pub mod Modules
+pub mod Ports
+pub mod Signals
+pub mod States
+pub mod Values
