@@ -46,7 +46,7 @@ AreWhole (fetched _ bytes ∷ reads) = ⊥
 
 -- why the last read gave no text
 pub data Lacks (told : Option Files) (ShelfRose : Type 0) (command : Command) (wanted : List Wanted) : Refusal → Type 0 where
-  missing : (name : List ℕ) → IsSomeAnd told (λ files. Misses files command wanted) → Lacks told ShelfRose command wanted (refusal.Read name)
+  missing : (name : List ℕ) → IsSomeAnd told (λ files. Misses files (GoesOn command) wanted) → Lacks told ShelfRose command wanted (refusal.Read name)
   faulty : (name : List ℕ) → ShelfRose → Lacks told ShelfRose command wanted (refusal.Read name)
   long : (r : Refusal) → IsLonger wanted r → ((files : Files) → told ≡ Some files → Passes files command wanted) → Lacks told ShelfRose command wanted r
 
@@ -81,7 +81,7 @@ module _ {S : Type 0} (gives : S → List ℕ → ℕ → Result Fetched (Or She
       → Lacks (told s) (Rose (faults s) (faults u)) command (file ∷ wanted) r
   lacks_later command file wanted text _ s t u on g (missing name m) =
       missing name (then_told (told s) _ _ (λ files e m'. missing_later file wanted text (is_held file text s t files g e) on m')
-      (subst (λ o. IsSomeAnd o (λ files. Misses files command wanted)) g.files m))
+      (subst (λ o. IsSomeAnd o (λ files. Misses files (GoesOn command) wanted)) g.files m))
   lacks_later command file wanted text _ s t u on g (faulty name rose) = faulty name (subst (λ n. Rose n (faults u)) g.fetches.2 rose)
   lacks_later command file wanted text _ s t u on g (long r is passes) =
       long r (of_later file wanted r is) (λ files e. beyond file wanted text (is_held file text s t files g e) on (passes files (g.files ∙ e)))

@@ -5,7 +5,7 @@ use Rattle.chw_cli.specs.Answer.{CommandAnswer, EmitAnswer, NormaliseAnswer, Run
 use Rattle.chw_cli.specs.Descriptions.{IsCompilable}
 use Rattle.chw_cli.specs.Exact.{AreHeld, BreakNothing, HasNormalRun, Misses}
 use Rattle.chw_cli.specs.Lines.{status_of}
-use Rattle.chw_cli.specs.Reads.{Read, description_in, stimulus_in, verilog_in, wants}
+use Rattle.chw_cli.specs.Reads.{CanGoOn, Read, description_in, stimulus_in, verilog_in, wants}
 use Rattle.chw_cli.specs.declared.refusal.Refusal.{Refusal}
 use Rattle.chw_cli.specs.declared.status.Status.{Status}
 use Rattle.chw_cli.specs.declared.status.Status.TheVariants as status
@@ -17,7 +17,7 @@ use Rattle.chw_cli.proofs.Making.{make_is_answered, make_status, whole_made}
 use Rattle.chw_cli.proofs.Normal.{normal_is_answered, normal_status}
 use Rattle.chw_cli.proofs.OneText.{HasNoFault, HasNoNameFault, HasNoTypeFault, OneDescription, misses_one, one_text_is_answered, text_status, whole_text}
 use Rattle.chw_cli.proofs.Runs.{NothingRefused, NothingWrong, run_is_answered, run_status, runnable_is_right, runs_are_of_two}
-use Rattle.chw_cli.proofs.Simulating.{compiled_is_right, simulate_is_answered, simulate_status, simulations_are_of_two}
+use Rattle.chw_cli.proofs.Simulating.{compilable_is_right, simulate_is_answered, simulate_status, simulations_are_of_two}
 use Rattle.chw_cli.proofs.TwoTexts.{misses_two, whole_two}
 use Rattle.chw_grammar.specs.Text.{Text}
 use Rattle.chw_norm.specs.Laws.{NothingRefusesANormalRun, OneLastState}
@@ -86,19 +86,19 @@ not_refused l files (Make taps) texts reads r held_texts breaks held_reads a =
 
 -- no command answers where one of its files is missing
 abbrev pub NoAnswer : Type 0
-NoAnswer = (files : Files) (command : Command) (reads : List Read) (answer : Result (List ℕ) Refusal) → Misses files command (wants command)
+NoAnswer = (files : Files) (command : Command) (reads : List Read) (answer : Result (List ℕ) Refusal) → Misses files (CanGoOn command) (wants command)
     → Held files command (wants command) reads → CommandAnswer command reads answer → ⊥
 
 pub no_answer : Laws → NoAnswer
 no_answer l files (Emit file budget) reads answer m h a =
-    misses_one files (Emit file budget) (description_in file) (λ text tree answer. EmitAnswer tree budget answer) reads answer (λ text no. no) m h a
+    misses_one files (Emit file budget) (description_in file) (λ text tree answer. EmitAnswer tree budget answer) reads answer (λ text no. no) (λ text no. no) m h a
 no_answer l files (Simulate file stimulus budget) reads answer m h a =
     misses_two (SimulateAnswer budget) (simulations_are_of_two budget) files (Simulate file stimulus budget) (description_in file) (stimulus_in stimulus) reads answer
-    (λ text on r w. compiled_is_right l.sound l.same l.named l.alone l.typed l.compiles budget text on.0 on.1 r w) m h a
+    (λ text on r w. compilable_is_right l.sound l.same l.named l.alone l.typed l.compiles budget text on.0 on.1 r w) m h a
 no_answer l files (Check file) reads answer m h a =
-    misses_one files (Check file) (description_in file) (λ text tree answer. answer ≡ Ok (Text tree)) reads answer (λ text no. no) m h a
+    misses_one files (Check file) (description_in file) (λ text tree answer. answer ≡ Ok (Text tree)) reads answer (λ text no. no) (λ text no. no) m h a
 no_answer l files (Normalise file budget) reads answer m h a =
-    misses_one files (Normalise file budget) (description_in file) (λ text tree answer. NormaliseAnswer tree budget answer) reads answer (λ text no. no) m h a
+    misses_one files (Normalise file budget) (description_in file) (λ text tree answer. NormaliseAnswer tree budget answer) reads answer (λ text no. no) (λ text no. no) m h a
 no_answer l files (Run verilog stimulus) reads answer m h a =
     misses_two RunAnswer runs_are_of_two files (Run verilog stimulus) (verilog_in verilog) (stimulus_in stimulus) reads answer
     (λ text on r w. runnable_is_right l.right text on.0 on.1 r w) m h a

@@ -1,8 +1,8 @@
--- A text that compiles has no fault, and neither has a stimulus of values for its program.
+-- A text that can be compiled has no fault, and neither has a stimulus of values for its program.
 use Rattle.std.proofs.Common.{◌≡◌, ℕ, List, sym, subst}
 use Rattle.chw_clock.specs.declared.event.Event.{Event}
 use Rattle.chw_clock.specs.declared.event.Ports.{Ports}
-use Rattle.chw_cli.specs.Descriptions.{Compiles, HasProgram, IsTypedText}
+use Rattle.chw_cli.specs.Descriptions.{CanCompile, Compiles, HasProgram, IsTypedText}
 use Rattle.chw_cli.proofs.OneText.{OneDescription, one_program_for}
 use Rattle.chw_grammar.specs.declared.program.Tree.{Tree}
 use Rattle.chw_terms.specs.declared.program.Program.{Program}
@@ -28,16 +28,16 @@ text_compiles text budget tree p q net flat d has is to = record {
   compiles = to;
 }
 
--- its program isn't refused
+-- where it can be compiled, its program isn't refused
 pub compiles_without_fault : OneDescription → OneProgram → NothingRefusesACompile → (text : List ℕ) (budget : ℕ) (p q : Program) (tree : Tree)
-    (fault : CompileFault) → Compiles text budget p → IsTypedText text tree → HasProgram tree q → IsCompileFault q budget fault → ⊥
+    (fault : CompileFault) → CanCompile text budget p → IsTypedText text tree → HasProgram tree q → IsCompileFault q budget fault → ⊥
 compiles_without_fault same alone law text budget p q tree fault can d has w =
     let one = one_program_for same alone text tree can.tree q p d has can.typed can.has in
-    law p budget can.net can.flat fault can.compiles (subst (λ x. IsCompileFault x budget fault) one w)
+    law p budget fault can.ends (subst (λ x. IsCompileFault x budget fault) one w)
 
 -- nor is a stimulus of values for its program
 pub values_without_fault : OneDescription → OneProgram → NothingRefusesAStimulus → (text stimulus : List ℕ) (budget : ℕ) (p q : Program) (ports : Ports)
-    (events : List Event) (fault : SimFault) → Compiles text budget p → Compiles text budget q → IsStimulus p stimulus ports events → IsSimFault q stimulus fault → ⊥
+    (events : List Event) (fault : SimFault) → CanCompile text budget p → Compiles text budget q → IsStimulus p stimulus ports events → IsSimFault q stimulus fault → ⊥
 values_without_fault same alone law text stimulus budget p q ports events fault can can' values w =
     let one = one_program_for same alone text can'.tree can.tree q p can'.typed can'.has can.typed can.has in
     law p stimulus ports events fault values (subst (λ x. IsSimFault x stimulus fault) one w)

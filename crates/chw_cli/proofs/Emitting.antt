@@ -27,7 +27,7 @@ fault_refuses p budget fault r wrong (inl short) = inl short
 fault_refuses p budget fault r wrong (inr is) =
     inr (subst (λ x. CompileAnswer p budget (Err x)) (sym is) (not_compiled fault wrong))
 
--- a description whose text compiles isn't refused
+-- a description whose text can be compiled isn't refused
 pub good_is_emitted : OneDescription → OneProgram → NothingRefusesACompile → (budget : ℕ) (text : List ℕ) (tree : Tree)
     (r : Refusal) → IsTypedText text tree → IsCompilable budget text → EmitAnswer tree budget (Err r) → ⊥
 good_is_emitted same alone law budget text tree r d h a = only refl a.answers

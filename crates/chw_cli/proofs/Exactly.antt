@@ -19,7 +19,7 @@ use Rattle.chw_cli.specs.Outcome.{AnswersBy, Outcome, Told, stopped}
 use Rattle.chw_cli.specs.Outcome.Outcome.{answered, refused, unwritten}
 use Rattle.chw_cli.specs.Outcome.Told.{told as was_told, untold as was_untold}
 use Rattle.chw_cli.specs.Outcome.Refuses.{for_memory, by_answer}
-use Rattle.chw_cli.specs.Reads.{Asks, Read, ReadsFor, Wanted, wants}
+use Rattle.chw_cli.specs.Reads.{Asks, CanGoOn, GoesOn, Read, ReadsFor, Wanted, wants}
 use Rattle.chw_cli.specs.Reads.Asks.{uncalled, called}
 use Rattle.chw_cli.specs.declared.refusal.Refusal.{Refusal}
 use Rattle.chw_cli.specs.declared.refusal.Refusal.TheVariants as refusal
@@ -38,9 +38,9 @@ abbrev pub OneCommand : Type 0
 OneCommand = (words : List (List ℕ)) (a b : Command) → IsCommand words a → IsCommand words b → a ≡ b
 
 -- a file that is missed isn't held, nor too long
-misses_held : (files : Files) (command : Command) (wanted : List Wanted) (texts : List (List ℕ)) → Misses files command wanted → AreHeld files wanted texts → ⊥
-misses_held files command _ _ (here _ _ none_) (more _ _ text _ has rest) = let some = has.0 in absurd (cc)
-misses_held files command _ _ (later _ wanted _ _ _ m) (more _ _ text texts has rest) = misses_held files command wanted texts m rest
+misses_held : (files : Files) (On : List ℕ → Type 0) (wanted : List Wanted) (texts : List (List ℕ)) → Misses files On wanted → AreHeld files wanted texts → ⊥
+misses_held files On _ _ (here _ _ none_) (more _ _ text _ has rest) = let some = has.0 in absurd (cc)
+misses_held files On _ _ (later _ wanted _ _ _ m) (more _ _ text texts has rest) = misses_held files On wanted texts m rest
 
 same_text : (files : Files) (file : Wanted) (a b : List ℕ) → file_of files file.name ≡ Some a → file_of files file.name ≡ Some b → length a ≡ length b
 same_text files file a b e f = let is : a ≡ b = cc in ap length is
@@ -50,12 +50,13 @@ passes_held files command _ _ (longer file _ text some over) (more _ _ other _ h
     let same = same_text files file text other some has.0 in let within = has.1 in absurd (omega (arith, same, within, over))
 passes_held files command _ _ (beyond _ wanted _ _ _ p) (more _ _ text texts has rest) = passes_held files command wanted texts p rest
 
-misses_passes : (files : Files) (command : Command) (wanted : List Wanted) → Misses files command wanted → Passes files command wanted → ⊥
-misses_passes files command _ (here _ _ none_) (longer file _ text some over) = absurd (cc)
-misses_passes files command _ (here _ _ none_) (beyond _ _ text has _ p) = let some = has.0 in absurd (cc)
-misses_passes files command _ (later _ _ other has _ m) (longer file _ text some over) =
+misses_passes : (files : Files) (On : List ℕ → Type 0) (command : Command) (wanted : List Wanted) → Misses files On wanted
+    → Passes files command wanted → ⊥
+misses_passes files On command _ (here _ _ none_) (longer file _ text some over) = absurd (cc)
+misses_passes files On command _ (here _ _ none_) (beyond _ _ text has _ p) = let some = has.0 in absurd (cc)
+misses_passes files On command _ (later _ _ other has _ m) (longer file _ text some over) =
     let same = same_text files file text other some has.0 in let within = has.1 in absurd (omega (arith, same, within, over))
-misses_passes files command _ (later _ wanted _ _ _ m) (beyond _ _ _ _ _ p) = misses_passes files command wanted m p
+misses_passes files On command _ (later _ wanted _ _ _ m) (beyond _ _ _ _ _ p) = misses_passes files On command wanted m p
 
 module _ (told : Option Files) (words : List (List ℕ)) (ShelfRose : Type 0) where
   -- what an answer is by: the words are no command, or what was read for their command
@@ -164,7 +165,7 @@ module _ (told : Option Files) (words : List (List ℕ)) (ShelfRose OutRose : Ty
   wrong_words (memory e) never = inr e
 
   unread : Reason told words ShelfRose OutRose s → s ≡ status.Read
-      → (command : Command) × IsCommand words command × (IsSomeAnd told (λ files. Misses files command (wants command)) ⊎ ShelfRose)
+      → (command : Command) × IsCommand words command × (IsSomeAnd told (λ files. Misses files (GoesOn command) (wants command)) ⊎ ShelfRose)
   unread (ok bytes c e) is = absurd (cc)
   unread (refusal_ r (for_words h r_is) e) is = let q : r ≡ refusal.Words = cc in let st = ap status_of q in absurd (cc)
   unread (refusal_ r (for_file command _ h (missing name m) r_is) e) is = (command, h, inl m)
@@ -177,18 +178,18 @@ module _ (told : Option Files) (words : List (List ℕ)) (ShelfRose OutRose : Ty
 
   -- a command that comes to a file that isn't held has no answer but the refusal of a read
   no_other : (files : Files) (command other : Command) (reads : List Read) (answer : Result (List ℕ) Refusal) → told ≡ Some files → IsCommand words command
-      → Misses files command (wants command) → IsCommand words other → ((files : Files) → told ≡ Some files → Held files other (wants other) reads)
+      → Misses files (CanGoOn command) (wants command) → IsCommand words other → ((files : Files) → told ≡ Some files → Held files other (wants other) reads)
       → CommandAnswer other reads answer → ⊥
   no_other files command other reads answer t is m is' held_reads a =
-      unanswered files other reads answer (subst (λ c. Misses files c (wants c)) (once words command other is is') m) (held_reads files t) a
+      unanswered files other reads answer (subst (λ c. Misses files (CanGoOn c) (wants c)) (once words command other is is') m) (held_reads files t) a
 
-  not_longer : (files : Files) (command other : Command) → told ≡ Some files → IsCommand words command → Misses files command (wants command)
-      → IsCommand words other → ((files : Files) → told ≡ Some files → Passes files other (wants other)) → ⊥
+  not_longer : (files : Files) (command other : Command) → told ≡ Some files → IsCommand words command
+      → Misses files (CanGoOn command) (wants command) → IsCommand words other → ((files : Files) → told ≡ Some files → Passes files other (wants other)) → ⊥
   not_longer files command other t is m is' passes =
-      misses_passes files other (wants other) (subst (λ c. Misses files c (wants c)) (once words command other is is') m) (passes files t)
+      misses_passes files (CanGoOn other) other (wants other) (subst (λ c. Misses files (CanGoOn c) (wants c)) (once words command other is is') m) (passes files t)
 
   absent : Reason told words ShelfRose OutRose s → (files : Files) (command : Command) → told ≡ Some files → IsCommand words command
-      → Misses files command (wants command) → Ends status.Read s
+      → Misses files (CanGoOn command) (wants command) → Ends status.Read s
   absent (ok bytes (for_words h e') e) files command t is m = absurd (cc)
   absent (ok bytes (for_file other r h l e') e) files command t is m = absurd (cc)
   absent (ok bytes (for_texts other reads h held_reads a) e) files command t is m = absurd (no_other files command other reads (Ok bytes) t is m h held_reads a)
@@ -218,8 +219,8 @@ module _ (told : Option Files) (words : List (List ℕ)) (ShelfRose OutRose : Ty
   complete (ok bytes c e) files command texts t is has b shelf out = inl e
   complete (refusal_ r (for_words h r_is) e) files command texts t is has b shelf out = absurd (h command is)
   complete (refusal_ r (for_file other _ h (missing name m) r_is) e) files command texts t is has b shelf out =
-      let m' = subst (λ o. IsSomeAnd o (λ files. Misses files other (wants other))) t m in
-      absurd (misses_held files other (wants other) texts m' (subst (λ c. AreHeld files (wants c) texts) (once words command other is h) has))
+      let m' = subst (λ o. IsSomeAnd o (λ files. Misses files (GoesOn other) (wants other))) t m in
+      absurd (misses_held files (GoesOn other) (wants other) texts m' (subst (λ c. AreHeld files (wants c) texts) (once words command other is h) has))
   complete (refusal_ r (for_file other _ h (faulty name rose) r_is) e) files command texts t is has b shelf out = absurd (shelf rose)
   complete (refusal_ r (for_file other _ h (long _ _ passes) r_is) e) files command texts t is has b shelf out =
       absurd (passes_held files other (wants other) texts (passes files t) (subst (λ c. AreHeld files (wants c) texts) (once words command other is h) has))

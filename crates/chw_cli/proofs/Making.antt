@@ -7,7 +7,7 @@ use Rattle.chw_clock.specs.declared.event.Event.{Event}
 use Rattle.chw_clock.specs.declared.event.Ports.{Ports}
 use Rattle.chw_cli.specs.Answer.{CompileAnswer}
 use Rattle.chw_cli.specs.Answer.CompileAnswer.{compiled, not_compiled as not_compiled_first}
-use Rattle.chw_cli.specs.Descriptions.{Compiles, HasProgram, IsTypedText}
+use Rattle.chw_cli.specs.Descriptions.{CanCompile, HasProgram, IsTypedText}
 use Rattle.chw_cli.specs.Exact.{MakesWith}
 use Rattle.chw_cli.specs.Exact.MakesWith.{makes}
 use Rattle.chw_cli.specs.Faults.{refusal_of_compile, refusal_of_sim}
@@ -37,9 +37,9 @@ use Rattle.answers.specs.SimAnswer.Laws.{NothingRefusesAStimulus}
 use Rattle.answers.specs.SimAnswer.Simulation.{IsSimFault, IsStimulus}
 use Rattle.answers.specs.declared.sim_answer.fault.SimFault.{SimFault}
 
--- a text that compiles and a stimulus of values for its program aren't refused
+-- a text that can be compiled and a stimulus of values for its program aren't refused
 tally_is_right : OneDescription → OneProgram → NothingRefusesACompile → NothingRefusesAStimulus → (text stimulus : List ℕ) (tree : Tree) (p q : Program)
-    (ports : Ports) (events : List Event) → Compiles text MOST_BUDGET p → IsStimulus p stimulus ports events → IsTypedText text tree → HasProgram tree q
+    (ports : Ports) (events : List Event) → CanCompile text MOST_BUDGET p → IsStimulus p stimulus ports events → IsTypedText text tree → HasProgram tree q
     → (r : Refusal) → TallyAnswer q stimulus (Err r) → ⊥
 tally_is_right same alone compiles taken text stimulus tree p q ports events can values d has r a = only refl a
   where

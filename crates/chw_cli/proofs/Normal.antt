@@ -25,22 +25,22 @@ use Rattle.chw_terms.specs.declared.scene.Made.{Made}
 use Rattle.chw_terms.specs.declared.rule.Rule.{Rule}
 use Rattle.data_kinds.specs.Laws.{OneProgram}
 use Rattle.judge.specs.Lines.{state_line}
-use Rattle.judge.specs.States.{IsFinished, RefusesState, place_of}
+use Rattle.judge.specs.States.{IsBlockedNowhere, IsFinished, RefusesState, place_of}
 use Rattle.judge.specs.declared.states.StateFault.{StateFault}
-use Rattle.judge.specs.declared.states.StateFault.TheVariants.{Blocked, Stuck, Uses}
+use Rattle.judge.specs.declared.states.StateFault.TheVariants.{Blocked, Uses}
 use Rattle.norm_lines.specs.Lines.{normal_lines}
+use Rattle.normal_forms.specs.Uses.{IsAcyclic}
 use Rattle.rewriting.specs.Runs.{Step}
 use Rattle.rewriting.specs.Steps.{HasNoStep}
 use Rattle.chw_norm.specs.Rules.{built}
 use Rattle.norm_lines.specs.Places.{where_of}
 use Rattle.norm_lines.specs.declared.place.StepAt.{StepAt}
 
--- a state that is normal and acyclic isn't refused
-finished_is_taken : (p : Program) (made : List Made) (fault : StateFault) → IsFinished p made
-    → RefusesState p made fault → ⊥
-finished_is_taken p made (Blocked at) h r = h.free (place_of at) r.blocked
-finished_is_taken p made (Stuck m) h r = r.1.other (λ it is. h.normal.bodies m.number it is)
-finished_is_taken p made (Uses cycle) h r = r.2.some h.acyclic
+-- a state that is blocked nowhere and acyclic isn't refused
+free_is_taken : (p : Program) (made : List Made) (fault : StateFault) → IsBlockedNowhere p made
+    → IsAcyclic made → RefusesState p made fault → ⊥
+free_is_taken p made (Blocked at) free acyclic r = free (place_of at) r.blocked
+free_is_taken p made (Uses cycle) free acyclic r = r.2.some acyclic
 
 -- a run that leaves no step leads there
 leads : {rules : List Rule} {p : Program} {budget : ℕ} {steps : List Step} {made : List Made}
@@ -55,7 +55,7 @@ leads is (deep d) = absurd cc
 leads is (no_memory run) = absurd cc
 
 -- a description whose run leaves no step, within the budget and the limit of depth, and leads to a
--- state that is normal and acyclic, isn't refused
+-- state that is blocked nowhere and acyclic, isn't refused
 pub normal_is_answered : OneDescription → OneProgram → NothingRefusesANormalRun → OneLastState → (budget : ℕ) (text : List ℕ) (tree : Tree) (r : Refusal)
     → IsTypedText text tree → HasNormalRun budget text → NormaliseAnswer tree budget (Err r) → ⊥
 normal_is_answered same alone law last budget text tree r d h a = only refl a
@@ -68,7 +68,9 @@ normal_is_answered same alone law last budget text tree r d h a = only refl a
         let there = leads refl ends in
         let state : h.made ≡ made = last built p h.steps steps h.made made
         (subst (λ q. ShallowRun built q h.steps h.made) one h.run) (subst (λ q. HasNoStep built q h.made) one h.ended) there.0 there.1 in
-        finished_is_taken p made fault (subst (IsFinished p) state (subst (λ q. IsFinished q h.made) one h.finished)) wrong
+        free_is_taken p made fault
+        (subst (IsBlockedNowhere p) state (subst (λ q. IsBlockedNowhere q h.made) one h.free))
+        (subst IsAcyclic state h.acyclic) wrong
     only e (not_normalised p steps fault is few ends) =
         let is' : HasProgram tree h.program = subst (λ (t : Tree). HasProgram t h.program) (same text h.tree tree h.description d.description) h.is in
         let one = one_program_of alone tree h.program p is' is in

@@ -5,7 +5,7 @@ use Rattle.chw_clock.specs.declared.event.Event.{Event}
 use Rattle.chw_clock.specs.declared.event.Ports.{Ports}
 use Rattle.chw_cli.specs.Answer.{SimulateAnswer}
 use Rattle.chw_cli.specs.Answer.SimulateAnswer.{wrong_text, not_compiled, no_stimulus, simulated}
-use Rattle.chw_cli.specs.Descriptions.{Compiles}
+use Rattle.chw_cli.specs.Descriptions.{CanCompile}
 use Rattle.chw_cli.specs.Exact.{AreHeld, SimulatesWith}
 use Rattle.chw_cli.specs.Exact.AreHeld.{more}
 use Rattle.chw_cli.specs.Exact.SimulatesWith.{simulates}
@@ -39,10 +39,10 @@ simulations_are_of_two budget _ _ (no_stimulus text stimulus p fault can w) =
 simulations_are_of_two budget _ _ (simulated text stimulus lines p can w) =
     of_both text stimulus (Ok lines) (simulated text stimulus lines p can w)
 
--- a text whose program is compiled isn't refused
-pub compiled_is_right : HasNoFault → OneDescription → HasNoNameFault → OneProgram → HasNoTypeFault → NothingRefusesACompile → (budget : ℕ) (text : List ℕ)
-    (p : Program) → Compiles text budget p → (r : Refusal) → SimulateAnswer budget (whole text ∷ []) (Err r) → ⊥
-compiled_is_right sound same named alone typed_ compiles budget text p can r a = only refl a
+-- a text whose program can be compiled isn't refused
+pub compilable_is_right : HasNoFault → OneDescription → HasNoNameFault → OneProgram → HasNoTypeFault → NothingRefusesACompile → (budget : ℕ) (text : List ℕ)
+    (p : Program) → CanCompile text budget p → (r : Refusal) → SimulateAnswer budget (whole text ∷ []) (Err r) → ⊥
+compilable_is_right sound same named alone typed_ compiles budget text p can r a = only refl a
   where
     only : {answer : Result (List ℕ) Refusal} → answer ≡ Err r → SimulateAnswer budget (whole text ∷ []) answer → ⊥
     only e (wrong_text _ q w) = typed_is_right sound same named alone typed_ text can.tree q can.typed w
@@ -50,7 +50,7 @@ compiled_is_right sound same named alone typed_ compiles budget text p can r a =
 
 -- nor is a stimulus of values for it
 values_are_right : OneDescription → OneProgram → NothingRefusesAStimulus → (budget : ℕ) (text stimulus : List ℕ) (p : Program) (ports : Ports)
-    (events : List Event) → Compiles text budget p → IsStimulus p stimulus ports events → (r : Refusal)
+    (events : List Event) → CanCompile text budget p → IsStimulus p stimulus ports events → (r : Refusal)
     → SimulateAnswer budget (whole text ∷ whole stimulus ∷ []) (Err r) → ⊥
 values_are_right same alone taken budget text stimulus p ports events can values r a = only refl a
   where
@@ -68,7 +68,7 @@ simulate_is_answered sound same named alone typed_ compiles taken budget files c
     by : (texts : List (List ℕ)) → AreHeld files (first ∷ second ∷ []) texts → SimulatesWith budget texts → ⊥
     by _ (more _ _ _ _ has (more _ _ _ _ has' rest)) (simulates text stimulus p ports events can values) =
         two_are_answered (SimulateAnswer budget) (simulations_are_of_two budget) files command first second text stimulus reads r has has'
-        (λ q w. compiled_is_right sound same named alone typed_ compiles budget text p can q w)
+        (λ q w. compilable_is_right sound same named alone typed_ compiles budget text p can q w)
         (λ q w. values_are_right same alone taken budget text stimulus p ports events can values q w) held_reads a
 
 -- the refusals of `simulate` have these statuses

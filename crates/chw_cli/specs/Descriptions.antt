@@ -17,7 +17,7 @@ use Rattle.chw_resolve.specs.declared.fault.NameFault.{NameFault}
 use Rattle.chw_terms.specs.Tidy.{IsTidy}
 use Rattle.chw_terms.specs.declared.program.Program.{Program}
 use Rattle.chw_typing.specs.Programs.{IsTyped}
-use Rattle.answers.specs.Compilation.Compiling.{CompilesTo}
+use Rattle.answers.specs.Compilation.Compiling.{CompilesTo, EndsSmall}
 use Rattle.netlist.specs.declared.net.Flat.{Flat}
 use Rattle.netlist.specs.declared.net.Net.{Net}
 use Rattle.chw_cli.specs.declared.refusal.Refusal.{Refusal}
@@ -69,5 +69,17 @@ pub record Compiles (text : List ℕ) (budget : ℕ) (p : Program) : Type 0 wher
   pub compiles : CompilesTo p budget net flat
 
 -- the text is one of which the program is compiled by so many steps at most
+abbrev pub IsCompiled : ℕ → List ℕ → Type 0
+IsCompiled budget text = (p : Program) × Compiles text budget p
+
+-- the text is a description that is typed, and its program is this one; its run of so many steps at
+-- most ends in a state that is blocked nowhere, acyclic and small
+pub record CanCompile (text : List ℕ) (budget : ℕ) (p : Program) : Type 0 where
+  pub tree : Tree
+  pub typed : IsTypedText text tree
+  pub has : HasProgram tree p
+  pub ends : EndsSmall p budget
+
+-- the text is one of which the program can be compiled by so many steps at most
 abbrev pub IsCompilable : ℕ → List ℕ → Type 0
-IsCompilable budget text = (p : Program) × Compiles text budget p
+IsCompilable budget text = (p : Program) × CanCompile text budget p

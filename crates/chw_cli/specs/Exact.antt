@@ -3,8 +3,8 @@ use Rattle.std.specs.Prelude.{◌≡◌, ◌≤◌, ℕ, List, [], ◌∷◌, le
 use Rattle.chw_base.specs.Files.{Files, file_of}
 use Rattle.chw_clock.specs.declared.event.Event.{Event}
 use Rattle.chw_clock.specs.declared.event.Ports.{Ports}
-use Rattle.chw_cli.specs.Descriptions.{Compiles, HasProgram, IsCompilable, IsDescription, IsTypedText}
-use Rattle.chw_cli.specs.Reads.{GoesOn, Wanted, wants}
+use Rattle.chw_cli.specs.Descriptions.{CanCompile, HasProgram, IsCompilable, IsDescription, IsTypedText}
+use Rattle.chw_cli.specs.Reads.{CanGoOn, GoesOn, Wanted, wants}
 use Rattle.chw_cli.specs.declared.status.Status.{Status}
 use Rattle.chw_cli.specs.declared.status.Status.TheVariants as status
 use Rattle.chw_grammar.specs.declared.program.Tree.{Tree}
@@ -15,9 +15,10 @@ use Rattle.chw_words.specs.Commands.{IsCommand, AreNoCommand}
 use Rattle.chw_words.specs.declared.budget.TheConstants.{MOST_BUDGET}
 use Rattle.chw_words.specs.declared.command.Command.{Command}
 use Rattle.chw_words.specs.declared.command.Command.TheVariants.{Emit, Simulate, Check, Normalise, Run, Make}
-use Rattle.judge.specs.States.{IsFinished}
+use Rattle.judge.specs.States.{IsBlockedNowhere}
 use Rattle.answers.specs.MakeAnswer.Events.{make_stimulus}
 use Rattle.make_text.specs.MakeText.{make_text}
+use Rattle.normal_forms.specs.Uses.{IsAcyclic}
 use Rattle.netlist.specs.declared.net.Flat.{Flat}
 use Rattle.rewriting.specs.Runs.{Step}
 use Rattle.rewriting.specs.Steps.{HasNoStep}
@@ -36,8 +37,8 @@ pub data BreaksNone (Suits : List ℕ → Type 0) : List (List ℕ) → Type 0 w
       → BreaksNone Suits (text ∷ [])
 
 -- the program of the text has a run of so many steps at most to a state in which no step is left,
--- and which is normal and acyclic; no step leads to a body over the limit of depth, or to more made
--- definitions than may be held
+-- and which is blocked nowhere and acyclic; no step leads to a body over the limit of depth, or to
+-- more made definitions than may be held
 pub record HasNormalRun (budget : ℕ) (text : List ℕ) : Type 0 where
   pub tree : Tree
   pub description : IsDescription text tree
@@ -48,24 +49,25 @@ pub record HasNormalRun (budget : ℕ) (text : List ℕ) : Type 0 where
   pub made : List Made
   pub run : ShallowRun built program steps made
   pub ended : HasNoStep built program made
-  pub finished : IsFinished program made
+  pub free : IsBlockedNowhere program made
+  pub acyclic : IsAcyclic made
 
 -- the first text can be run, and the second is a stimulus for the ports of its flat net
 pub data RunsWith : List (List ℕ) → Type 0 where
   runs : (text stimulus : List ℕ) (flat : Flat) (events : List Event) → CanRun text flat
       → Stim stimulus flat.ports events → RunsWith (text ∷ stimulus ∷ [])
 
--- the program of the first text is compiled to some net by so many steps at most, and the second is
--- a stimulus of values for it
+-- the program of the first text can be compiled by so many steps at most, and the second is a
+-- stimulus of values for it
 pub data SimulatesWith (budget : ℕ) : List (List ℕ) → Type 0 where
   simulates : (text stimulus : List ℕ) (p : Program) (ports : Ports) (events : List Event)
-      → Compiles text budget p → IsStimulus p stimulus ports events
+      → CanCompile text budget p → IsStimulus p stimulus ports events
       → SimulatesWith budget (text ∷ stimulus ∷ [])
 
--- no file is wanted, the text is one of which the program is compiled, and the other a stimulus of
--- values for it
+-- no file is wanted, the text is one of which the program can be compiled, and the other a stimulus
+-- of values for it
 pub data MakesWith (text stimulus : List ℕ) : List (List ℕ) → Type 0 where
-  makes : (p : Program) (ports : Ports) (events : List Event) → Compiles text MOST_BUDGET p
+  makes : (p : Program) (ports : Ports) (events : List Event) → CanCompile text MOST_BUDGET p
       → IsStimulus p stimulus ports events → MakesWith text stimulus []
 
 -- the texts of the files of a command break no restriction
@@ -88,13 +90,13 @@ pub data AreHeld (files : Files) : List Wanted → List (List ℕ) → Type 0 wh
       → IsHeld files file text → AreHeld files wanted texts
       → AreHeld files (file ∷ wanted) (text ∷ texts)
 
--- the command comes to a file that isn't held: those before it are, and with each of them it goes
--- on
-pub data Misses (files : Files) (command : Command) : List Wanted → Type 0 where
+-- a command that goes on after such texts comes to a file that isn't held: those before it are,
+-- with such texts
+pub data Misses (files : Files) (On : List ℕ → Type 0) : List Wanted → Type 0 where
   here : (file : Wanted) (wanted : List Wanted) → file_of files file.name ≡ None
-      → Misses files command (file ∷ wanted)
+      → Misses files On (file ∷ wanted)
   later : (file : Wanted) (wanted : List Wanted) (text : List ℕ) → IsHeld files file text
-      → GoesOn command text → Misses files command wanted → Misses files command (file ∷ wanted)
+      → On text → Misses files On wanted → Misses files On (file ∷ wanted)
 
 -- by the files where they are told, the words, and whether the faults of the shelf and of `out`
 -- rose
@@ -104,11 +106,11 @@ pub record IsExact (told : Option Files) (words : List (List ℕ)) (ShelfRose Ou
   pub words_wrong : s ≡ status.Words → AreNoCommand words
   pub wrong_words : AreNoCommand words → Ends status.Words s
   -- a read is refused only where the command comes to a file that isn't held or the shelf's faults
-  -- rose, and always where it comes to such a file
+  -- rose, and always where it can come to such a file
   pub unread : s ≡ status.Read → (command : Command) × IsCommand words command
-      × (IsSomeAnd told (λ files. Misses files command (wants command)) ⊎ ShelfRose)
+      × (IsSomeAnd told (λ files. Misses files (GoesOn command) (wants command)) ⊎ ShelfRose)
   pub absent : (files : Files) (command : Command) → told ≡ Some files → IsCommand words command
-      → Misses files command (wants command) → Ends status.Read s
+      → Misses files (CanGoOn command) (wants command) → Ends status.Read s
   -- the write is refused only where the faults of `out` rose
   pub unwritten : s ≡ status.Write → OutRose
   -- files that break no restriction are answered where no fault rose

@@ -7,7 +7,7 @@ use Rattle.chw_base.specs.declared.outcome.Or.{Or}
 use Rattle.chw_base.specs.declared.shelf.Fetched.{Fetched}
 use Rattle.chw_base.specs.declared.shelf.Fetched.TheVariants.{Whole}
 use Rattle.chw_base.specs.declared.shelf.ShelfFault.{ShelfFault}
-use Rattle.chw_cli.specs.Descriptions.{IsCompilable}
+use Rattle.chw_cli.specs.Descriptions.{IsCompilable, IsCompiled}
 use Rattle.chw_cli.specs.declared.refusal.Refusal.{Refusal}
 use Rattle.chw_cli.specs.declared.refusal.Refusal.TheVariants.{LongText, Stimulus, Verilog}
 use Rattle.chw_words.specs.Commands.{IsCommand}
@@ -55,11 +55,20 @@ wants (Make taps) = []
 -- that can be run
 abbrev pub GoesOn : Command → List ℕ → Type 0
 GoesOn (Emit file budget) text = ⊥
-GoesOn (Simulate file stimulus budget) text = IsCompilable budget text
+GoesOn (Simulate file stimulus budget) text = IsCompiled budget text
 GoesOn (Check file) text = ⊥
 GoesOn (Normalise file budget) text = ⊥
 GoesOn (Run verilog stimulus) text = (flat : Flat) × CanRun text flat
 GoesOn (Make taps) text = ⊥
+
+-- after a file with this text nothing but memory and the shelf keeps the command from the next one
+abbrev pub CanGoOn : Command → List ℕ → Type 0
+CanGoOn (Emit file budget) text = ⊥
+CanGoOn (Simulate file stimulus budget) text = IsCompilable budget text
+CanGoOn (Check file) text = ⊥
+CanGoOn (Normalise file budget) text = ⊥
+CanGoOn (Run verilog stimulus) text = (flat : Flat) × CanRun text flat
+CanGoOn (Make taps) text = ⊥
 
 -- one read: what a call of `fetch` answered, with the bytes
 pub data Read : Type 0 where

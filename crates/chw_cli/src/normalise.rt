@@ -10,6 +10,7 @@ ghost use Rattle.chw_norm.specs.Running.{ShallowRun};
 ghost use Rattle.chw_terms.specs.Tidy.{IsTidy};
 ghost use Rattle.chw_typing.specs.Programs.{IsTyped};
 ghost use Rattle.judge.specs.States.{IsFinished, RefusesState};
+ghost use Rattle.normal_form.specs.Entries.{IsEntry};
 ghost use Rattle.rewriting.specs.Runs.{Step};
 ghost use Rattle.rewriting.specs.Steps.{HasNoStep};
 ghost use Rattle.rewriting.specs.Typed.{IsTypedScene};
@@ -22,6 +23,7 @@ use chw_norm::run;
 use chw_terms::{Made, Program, Scene};
 use judge::{StateFault, judge_state, state_line};
 use looks::LookCount;
+use net_means::net_fits::laws::runs_begin_with_top;
 use norm_lines::put_lines;
 use std::alloc::Global;
 
@@ -56,6 +58,7 @@ fn check_last(alloc: Global, program: &Program, made: &[Made]) -> Result<(), Ref
     ensures refused { IfErr result (RefusesLast program.now made.now) }
 {
     last_states_are_typed();
+    runs_begin_with_top();
     let scene = Scene { program, made };
     let outcome = judged(alloc, &scene);
     let Scene {
@@ -72,6 +75,7 @@ fn check_last(alloc: Global, program: &Program, made: &[Made]) -> Result<(), Ref
 // Judges the last state of a run, and keeps no more of it than why it is refused.
 fn judged(alloc: Global, scene: &Scene) -> Result<(), Or<StateFault>>
     requires typed { IsTypedScene scene.now }
+    requires entry { IsEntry scene.now.program.now scene.now.made.now }
     requires ended { HasNoStep built scene.now.program.now scene.now.made.now }
     ensures finished { OnOk result (IsFinished scene.now.program.now scene.now.made.now) }
     ensures fault { IfFault result (RefusesState scene.now.program.now scene.now.made.now) }

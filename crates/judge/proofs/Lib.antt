@@ -1,3 +1,3 @@
-pub mod Bodies
 pub mod Faults
 pub mod Places
+pub mod Verdicts

@@ -10,10 +10,13 @@ use Rattle.rewriting.specs.Origins.{made_of}
 use Rattle.rewriting.specs.Steps.{origins_in}
 use Rattle.normal_forms.specs.Blocked.{BlockedPlace, HasBlocked, IsBlocked, IsBlockedBefore}
 use Rattle.blocked_places.specs.Answers.{block_of}
-use Rattle.blocked_places.specs.Walks.{AnswersBody}
+use Rattle.blocked_places.specs.Walks.{IsFirstAt}
 use Rattle.blocked_places.specs.declared.bodies.BlockedPart.{BlockedPart}
 use Rattle.judge.specs.States.{FindsBlocked, FindsBlockedIn, IsFirstBlockedIn}
 use Rattle.judge.specs.States.{IsFirstPlace, IsPlacedIn, place_of}
+use Rattle.judge.specs.Verdicts.{Judges}
+use Rattle.judge.specs.declared.judging.Verdict.{Verdict}
+use Rattle.judge.specs.declared.judging.Verdict.TheVariants.{Normal, Blocked}
 use Rattle.judge.specs.declared.states.BlockedAt.{BlockedAt}
 
 one_made : (made : List Made) (n k : ℕ) (a b : Made)
@@ -30,19 +33,24 @@ of_body p state it n at is same h =
 
 -- what blocks a body first is the first blocked place of its made definition
 pub first_in : (p : Program) (state : List Made) (it : Made) (n : ℕ) (part : BlockedPart)
-    (found : BlockedAt) → slice_get state n ≡ Some it → found.made.number ≡ n
-    → found.path.items ≡ part.path.items → found.block ≡ part.block
-    → AnswersBody (origins_in p state) (made_of it) it.body (Some part)
+    (verdict : Verdict) (found : BlockedAt) → slice_get state n ≡ Some it
+    → verdict ≡ Blocked part → IsPlacedIn n part found
+    → Judges (origins_in p state) (made_of it) it.body verdict
     → FindsBlockedIn p state n (Some found)
-first_in p state it n part found is number path block x =
+first_in p state it n part verdict found is blocked placed judged =
     subst (IsFirstBlockedIn p state n) (sym there)
     (record { in_it = refl; blocked = (it, is, x.it); first = first })
   where
+    x : IsFirstAt (IsBlocked (origins_in p state) (made_of it) it.body) part.path.items
+        (block_of part.block)
+    x = (subst (Judges (origins_in p state) (made_of it) it.body) blocked judged).1
+
     place : BlockedPlace
     place = record { number = n; path = part.path.items; block = block_of part.block }
 
     there : place_of found ≡ place
-    there i = record { number = number i; path = path i; block = block_of (block i) }
+    there i =
+        record { number = placed.0 i; path = placed.1 i; block = block_of (placed.2 i) }
 
     first : (other : BlockedPlace) → other.number ≡ n → HasBlocked p state other
         → IsBlockedBefore other place → ⊥
@@ -51,22 +59,12 @@ first_in p state it n part found is number path block x =
         x.first other.path other.block (of_body p state it n other is same h) q.1
 
 -- and where nothing blocks the body, it has none
-pub none_in : (p : Program) (state : List Made) (it : Made) (n : ℕ)
-    → slice_get state n ≡ Some it
-    → AnswersBody (origins_in p state) (made_of it) it.body None
-    → FindsBlockedIn p state n None
-none_in p state it n is x at same h = x at.path at.block (of_body p state it n at is same h)
-
--- so with the answer that has the number
-pub placed_first : (p : Program) (state : List Made) (it : Made) (n : ℕ)
-    (found : Option BlockedPart) (answer : Option BlockedAt) → slice_get state n ≡ Some it
-    → AnswersBody (origins_in p state) (made_of it) it.body found → IsPlacedIn n found answer
-    → FindsBlockedIn p state n answer
-placed_first p state it n None answer at none is =
-    subst (FindsBlockedIn p state n) (sym is) (none_in p state it n at none)
-placed_first p state it n (Some part) None at x is = absurd is
-placed_first p state it n (Some part) (Some found) at x is =
-    first_in p state it n part found at is.0 is.1 is.2 x
+pub none_in : (p : Program) (state : List Made) (it : Made) (n : ℕ) (verdict : Verdict)
+    → slice_get state n ≡ Some it → verdict ≡ Normal
+    → Judges (origins_in p state) (made_of it) it.body verdict → FindsBlockedIn p state n None
+none_in p state it n verdict is normal x at same h =
+    let judged = subst (Judges (origins_in p state) (made_of it) it.body) normal x in
+    judged.1 at.path at.block (of_body p state it n at is same h)
 
 -- no place is blocked in the made definitions before this number
 abbrev pub IsFreeBelow : Program → List Made → ℕ → Type 0

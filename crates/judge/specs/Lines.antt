@@ -11,7 +11,7 @@ use Rattle.chw_types.specs.TypeTree.{TypeTree}
 use Rattle.normal_forms.specs.Blocked.{Block, recursion, payload, limit}
 use Rattle.blocked_places.specs.Answers.{block_of}
 use Rattle.judge.specs.declared.states.StateFault.{StateFault}
-use Rattle.judge.specs.declared.states.StateFault.TheVariants.{Blocked, Stuck, Uses}
+use Rattle.judge.specs.declared.states.StateFault.TheVariants.{Blocked, Uses}
 
 -- numbers, each after a space
 abbrev pub number_texts : List ℕ → List ℕ
@@ -51,10 +51,6 @@ place_line p m (recursion cycle) = recursion_line m cycle
 place_line p m (payload t) = payload_line p m t
 place_line p m (limit what) = wide_line m what
 
--- a body is neither normal nor blocked; it is shown by the path of its root
-abbrev pub stuck_line : ℕ → List ℕ
-stuck_line m = codes "chw: E19 stuck made " ++ decimal m ++ codes " -\n"
-
 -- made definitions use each other in a cycle
 abbrev pub uses_line : List MadeId → List ℕ
 uses_line cycle = codes "chw: E13 recursion uses" ++ made_texts cycle ++ codes "\n"
@@ -62,5 +58,4 @@ uses_line cycle = codes "chw: E13 recursion uses" ++ made_texts cycle ++ codes "
 -- why a state is refused
 abbrev pub state_line : Program → StateFault → List ℕ
 state_line p (Blocked at) = place_line p at.made.number (block_of at.block)
-state_line p (Stuck made) = stuck_line made.number
 state_line p (Uses cycle) = uses_line cycle.items

@@ -1,21 +1,18 @@
 -- What is said of a state that no rule rewrites.
-use Rattle.std.specs.Prelude.{◌≡◌, ℕ, ◌<◌, List, map, Option, None, Some, MatchOption}
-use Rattle.std.specs.List.{slice_get}
+use Rattle.std.specs.Prelude.{◌≡◌, ℕ, List, map, Option, MatchOption}
 use Rattle.chw_base.specs.declared.index.MadeId.{MadeId}
 use Rattle.graph_order.specs.Orders.{LeastFirst}
 use Rattle.chw_terms.specs.declared.program.Program.{Program}
 use Rattle.chw_terms.specs.declared.scene.Made.{Made}
 use Rattle.data_kinds.specs.Cycles.{IsCycleOf}
-use Rattle.rewriting.specs.Origins.{made_of}
-use Rattle.rewriting.specs.Steps.{origins_in}
 use Rattle.normal_forms.specs.Blocked.{BlockedPlace, HasBlocked, IsBlockedBefore, IsFirstBlocked}
-use Rattle.normal_forms.specs.Normal.{IsNormal, IsNormalBody}
+use Rattle.normal_forms.specs.Normal.{IsNormal}
 use Rattle.normal_forms.specs.Uses.{Uses as UsesMade, IsAcyclic}
 use Rattle.blocked_places.specs.Answers.{block_of}
 use Rattle.blocked_places.specs.declared.bodies.BlockedPart.{BlockedPart}
 use Rattle.judge.specs.declared.states.BlockedAt.{BlockedAt}
 use Rattle.judge.specs.declared.states.StateFault.{StateFault}
-use Rattle.judge.specs.declared.states.StateFault.TheVariants.{Blocked, Stuck, Uses}
+use Rattle.judge.specs.declared.states.StateFault.TheVariants.{Blocked, Uses}
 
 -- a blocked place, as definitions have it
 abbrev pub place_of : BlockedAt → BlockedPlace
@@ -47,12 +44,9 @@ FindsBlockedIn p state number answer =
     (λ found. IsFirstBlockedIn p state number (place_of found))
 
 -- the answer is this part, in the made definition of this number
-abbrev pub IsPlacedIn : ℕ → Option BlockedPart → Option BlockedAt → Type 0
-IsPlacedIn number found answer =
-    MatchOption found (answer ≡ None)
-    (λ part. MatchOption answer ⊥
-    (λ at. (at.made.number ≡ number) × (at.path.items ≡ part.path.items)
-    × (at.block ≡ part.block)))
+abbrev pub IsPlacedIn : ℕ → BlockedPart → BlockedAt → Type 0
+IsPlacedIn number part at =
+    (at.made.number ≡ number) × (at.path.items ≡ part.path.items) × (at.block ≡ part.block)
 
 -- it is a blocked place of the state, and the first of them
 pub record IsFirstPlace (p : Program) (state : List Made) (at : BlockedPlace) : Type 0 where
@@ -64,33 +58,6 @@ abbrev pub FindsBlocked : Program → List Made → Option BlockedAt → Type 0
 FindsBlocked p state answer =
     MatchOption answer (IsBlockedNowhere p state) (λ found. IsFirstPlace p state (place_of found))
 
--- the body of the made definition of this number is in normal form
-abbrev pub IsNormalAt : Program → List Made → ℕ → Type 0
-IsNormalAt p state number =
-    (it : Made) → slice_get state number ≡ Some it
-    → IsNormalBody (origins_in p state) (made_of it) it.body
-
--- the made definition of this number has another body, and none before it has
-pub record IsFirstOther (p : Program) (state : List Made) (number : ℕ) : Type 0 where
-  pub other : IsNormalAt p state number → ⊥
-  pub first : (n : ℕ) → n < number → IsNormalAt p state n
-
--- the answer is the made definition of this number
-abbrev pub IsNumbered : ℕ → Option MadeId → Type 0
-IsNumbered number answer = MatchOption answer ⊥ (λ m. m.number ≡ number)
-
--- the answer is this number where it has another body, or nothing where its body is in normal form
-abbrev pub FindsOtherIn : Program → List Made → ℕ → Option MadeId → Type 0
-FindsOtherIn p state number answer =
-    MatchOption answer (IsNormalAt p state number)
-    (λ m. (m.number ≡ number) × (IsNormalAt p state number → ⊥))
-
--- the answer is the first made definition whose body isn't in normal form, or nothing where there
--- is none
-abbrev pub FindsOther : Program → List Made → Option MadeId → Type 0
-FindsOther p state answer =
-    MatchOption answer ((n : ℕ) → IsNormalAt p state n) (λ m. IsFirstOther p state m.number)
-
 -- a cycle of uses: some made definitions, each once, of which each uses the next and the last one
 -- the first, with the least number first; so some uses itself
 pub record IsUseCycle (state : List Made) (ms : List ℕ) : Type 0 where
@@ -98,11 +65,10 @@ pub record IsUseCycle (state : List Made) (ms : List ℕ) : Type 0 where
   pub least : LeastFirst ms
   pub some : IsAcyclic state → ⊥
 
--- why the state is refused: its first blocked place; where it is blocked nowhere, its first body
--- that isn't in normal form; where all are, a cycle of uses
+-- why the state is refused: its first blocked place; where it is blocked nowhere, and so normal, a
+-- cycle of uses
 abbrev pub RefusesState : Program → List Made → StateFault → Type 0
 RefusesState p state (Blocked at) = IsFirstBlocked p state (place_of at)
-RefusesState p state (Stuck made) = IsBlockedNowhere p state × IsFirstOther p state made.number
 RefusesState p state (Uses cycle) =
     IsBlockedNowhere p state × IsNormal p state
     × IsUseCycle state (map (λ (m : MadeId). m.number) cycle.items)

@@ -1,33 +1,34 @@
 //! The verdict on the body of a made definition.
 ghost use Rattle.std.specs.Prelude.{IfOk};
 ghost use Rattle.rewriting.specs.Origins.{made_of, origins_of};
+ghost use Rattle.rewriting.specs.Steps.{HasNoStep};
 ghost use Rattle.rewriting.specs.Typed.{IsTypedScene};
 ghost use Rattle.term_frames.specs.Signatures.{IsSignature};
-ghost use Rattle.normal_bodies.specs.Results.{IsMadeOf};
-ghost use Rattle.judge.specs.Verdicts.{Judges};
+ghost use Rattle.normal_forms.specs.Normal.{all_rules};
+ghost use Rattle.judge.specs.Verdicts.{IsMadeOf, Judges};
 
 use blocked_places::{BlockedPart, first_blocked};
 use chw_base::NoMemory;
 use chw_terms::{Made, Scene};
-use normal_bodies::is_normal;
+use ended_laws::laws::none_is_stuck;
+use normal_laws::laws::normal_is_not_blocked;
 use std::alloc::Global;
 use term_types::Signature;
 
 /// What is found of the body of a made definition.
 #[derive(Drop)]
 pub enum Verdict {
-    /// It is in normal form.
+    /// It is in normal form, and nothing blocks it.
     Normal,
-    /// It is not, and this is its first blocked place, by path and then by what blocks.
+    /// It isn't in normal form, and this is its first blocked place, by path and then by what blocks.
     Blocked(BlockedPart),
-    /// It is not, and is blocked nowhere.
-    Stuck,
 }
 
-/// Whether the body of a made definition is in normal form, else what blocks it first. Each verdict comes exactly where it holds.
+/// Whether the body of a made definition is in normal form, else what blocks it first. It is in
+/// normal form exactly where nothing blocks it.
 ///
-/// It is meant for a body that no rule rewrites; the contract speaks of each. The scene is typed, the made definition is one of it, and
-/// the signature is that of its program.
+/// The scene is typed, and no rule has an instance in its state. The made definition is one of it,
+/// and the signature is that of its program.
 /// Where a number would pass 32 bits, the answer is want of memory.
 pub fn judge(
     alloc: Global,
@@ -36,15 +37,15 @@ pub fn judge(
     it: &Made,
 ) -> Result<Verdict, NoMemory>
     requires typed { IsTypedScene scene.now }
+    requires ended { HasNoStep all_rules scene.now.program.now scene.now.made.now }
     requires table { IsSignature scene.now.program.now signature.now }
     requires made { IsMadeOf scene.now it.now }
     ensures { IfOk result (Judges (origins_of scene.now) (made_of it.now) it.now.body) }
 {
-    if is_normal(alloc, scene, signature, it)? {
-        return Ok(Verdict::Normal);
-    }
+    none_is_stuck();
+    normal_is_not_blocked();
     match first_blocked(alloc, scene, signature, it)? {
         Some(part) => Ok(Verdict::Blocked(part)),
-        None => Ok(Verdict::Stuck),
+        None => Ok(Verdict::Normal),
     }
 }

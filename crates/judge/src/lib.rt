@@ -1,5 +1,5 @@
-//! What is found of made definitions that no rule rewrites: each is normal, blocked, or neither; and together they are a normal state of
-//! which none uses itself, or are refused for the first reason that there is.
+//! What is found of made definitions that no rule rewrites: each is normal or blocked; and together they are a normal state of which none
+//! uses itself, or are refused for the first reason that there is.
 #![tactic(auto)]
 
 pub mod judging;

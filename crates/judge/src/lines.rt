@@ -1,7 +1,7 @@
 //! The line that says why a state is refused.
 ghost use Rattle.std.specs.Prelude.{◌≡◌, ◌++◌, decimal, IfOk, OnOk};
 ghost use Rattle.blocked_places.specs.Answers.{block_of};
-ghost use Rattle.judge.specs.Lines.{limit_text, number_texts, payload_line, place_line, recursion_line, state_line, stuck_line, uses_line, wide_line};
+ghost use Rattle.judge.specs.Lines.{limit_text, number_texts, payload_line, place_line, recursion_line, state_line, uses_line, wide_line};
 
 use crate::states::{BlockedAt, StateFault};
 use blocked_places::Block;
@@ -99,16 +99,6 @@ fn wide_line(alloc: Global, made: MadeId, what: NoLayout) -> Result<Vec<u8>, NoM
     Ok(line)
 }
 
-// The line of a body that is neither normal nor blocked.
-fn stuck_line(alloc: Global, made: MadeId) -> Result<Vec<u8>, NoMemory>
-    ensures { IfOk result (λ line. line.items ≡ stuck_line made.number) }
-{
-    let mut line = Vec::new(alloc);
-    put_counted(&mut line, b"chw: E19 stuck made ", made.number)?;
-    put(&mut line, b" -\n")?;
-    Ok(line)
-}
-
 // The line of a cycle of uses.
 fn uses_line(alloc: Global, cycle: &[MadeId]) -> Result<Vec<u8>, NoMemory>
     ensures { IfOk result (λ line. line.items ≡ uses_line cycle.now) }
@@ -135,14 +125,12 @@ fn place_line(alloc: Global, program: &Program, at: &BlockedAt) -> Result<Vec<u8
 
 /// The line that says why a state of this program is refused, with its line feed.
 ///
-/// Bindings and made definitions are shown by their numbers, a payload as it stands. A body that is neither normal nor blocked is shown by
-/// the path of its root.
+/// Bindings and made definitions are shown by their numbers, a payload as it stands.
 pub fn state_line(alloc: Global, program: &Program, fault: &StateFault) -> Result<Vec<u8>, NoMemory>
     ensures { IfOk result (λ line. line.items ≡ state_line program.now fault.now) }
 {
     match fault {
         StateFault::Blocked(at) => place_line(alloc, program, at),
-        StateFault::Stuck { made } => stuck_line(alloc, *made),
         StateFault::Uses { cycle } => uses_line(alloc, cycle.as_slice()),
     }
 }

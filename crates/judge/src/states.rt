@@ -5,12 +5,14 @@ ghost use Rattle.rewriting.specs.Steps.{HasNoStep};
 ghost use Rattle.rewriting.specs.Typed.{IsTypedScene};
 ghost use Rattle.term_frames.specs.Signatures.{IsSignature};
 ghost use Rattle.normal_forms.specs.Normal.{IsNormal, all_rules};
-ghost use Rattle.judge.specs.States.{FindsBlocked, FindsBlockedIn, FindsFault, FindsOther, FindsOtherIn, IsBlockedNowhere, IsFinished, IsNumbered, IsPlacedIn, RefusesState};
+ghost use Rattle.normal_form.specs.Entries.{IsEntry};
+ghost use Rattle.judge.specs.States.{FindsBlocked, FindsBlockedIn, FindsFault, IsBlockedNowhere, IsFinished, IsPlacedIn, RefusesState};
 
-use blocked_places::{Block, BlockedPart, first_blocked};
+use crate::judging::{Verdict, judge};
+use blocked_places::{Block, BlockedPart};
 use chw_base::{MadeId, NoMemory, Or, narrow};
 use chw_terms::{Made, Program, Scene};
-use normal_bodies::is_normal;
+use ended_laws::laws::none_is_stuck;
 use normal_form::Normal;
 use std::alloc::Global;
 use term_types::Signature;
@@ -28,26 +30,19 @@ pub struct BlockedAt {
 pub enum StateFault {
     /// This is its first blocked place.
     Blocked(BlockedAt),
-    /// It is blocked nowhere, and of the made definitions whose bodies aren't in normal form this is the first.
-    Stuck { made: MadeId },
-    /// It is normal and blocked nowhere. Each of these made definitions uses the next one, and the last one the first.
+    /// It is blocked nowhere, and so normal. Each of these made definitions uses the next one, and the last one the first.
     Uses { cycle: Vec<MadeId> },
 }
 
 // The blocked place with the number of its made definition.
-fn placed_in(number: usize, part: Option<BlockedPart>) -> Result<Option<BlockedAt>, NoMemory>
+fn placed_in(number: usize, part: BlockedPart) -> Result<BlockedAt, NoMemory>
     ensures { IfOk result (IsPlacedIn number part) }
 {
-    match part {
-        Some(part) => {
-            let made = MadeId {
-                number: narrow(number)?,
-            };
-            let BlockedPart { path, block } = part;
-            Ok(Some(BlockedAt { made, path, block }))
-        }
-        None => Ok(None),
-    }
+    let made = MadeId {
+        number: narrow(number)?,
+    };
+    let BlockedPart { path, block } = part;
+    Ok(BlockedAt { made, path, block })
 }
 
 // The first blocked place of the made definition of this number.
@@ -59,11 +54,15 @@ fn blocked_in(
     it: &Made,
 ) -> Result<Option<BlockedAt>, NoMemory>
     requires typed { IsTypedScene scene.now }
+    requires ended { HasNoStep all_rules scene.now.program.now scene.now.made.now }
     requires table { IsSignature scene.now.program.now signature.now }
     requires is { slice_get scene.now.made.now number ≡ Some it.now }
     ensures { IfOk result (FindsBlockedIn scene.now.program.now scene.now.made.now number) }
 {
-    placed_in(number, first_blocked(alloc, scene, signature, it)?)
+    match judge(alloc, scene, signature, it)? {
+        Verdict::Normal => Ok(None),
+        Verdict::Blocked(part) => Ok(Some(placed_in(number, part)?)),
+    }
 }
 
 // The first blocked place of a state.
@@ -73,6 +72,7 @@ fn blocked_at(
     signature: &Signature,
 ) -> Result<Option<BlockedAt>, NoMemory>
     requires typed { IsTypedScene scene.now }
+    requires ended { HasNoStep all_rules scene.now.program.now scene.now.made.now }
     requires table { IsSignature scene.now.program.now signature.now }
     ensures { IfOk result (FindsBlocked scene.now.program.now scene.now.made.now) }
 {
@@ -86,81 +86,16 @@ fn blocked_at(
     Ok(None)
 }
 
-// This number, where the body of the made definition isn't in normal form.
-fn other_in(
-    alloc: Global,
-    scene: &Scene,
-    signature: &Signature,
-    number: usize,
-    it: &Made,
-) -> Result<Option<MadeId>, NoMemory>
-    requires typed { IsTypedScene scene.now }
-    requires table { IsSignature scene.now.program.now signature.now }
-    requires is { slice_get scene.now.made.now number ≡ Some it.now }
-    ensures { IfOk result (FindsOtherIn scene.now.program.now scene.now.made.now number) }
-{
-    if !is_normal(alloc, scene, signature, it)? {
-        return numbered(number);
-    }
-    Ok(None)
-}
-
-// The made definition of this number.
-fn numbered(number: usize) -> Result<Option<MadeId>, NoMemory>
-    ensures { IfOk result (IsNumbered number) }
-{
-    Ok(Some(MadeId {
-        number: narrow(number)?,
-    }))
-}
-
-// The first made definition whose body isn't in normal form.
-fn first_other(
-    alloc: Global,
-    scene: &Scene,
-    signature: &Signature,
-) -> Result<Option<MadeId>, NoMemory>
-    requires typed { IsTypedScene scene.now }
-    requires table { IsSignature scene.now.program.now signature.now }
-    ensures { IfOk result (FindsOther scene.now.program.now scene.now.made.now) }
-{
-    let made = scene.made;
-    for number in 0..made.len() {
-        let found = other_in(alloc, scene, signature, number, &made[number])?;
-        if found.is_some() {
-            return Ok(found);
-        }
-    }
-    Ok(None)
-}
-
 // What is at fault with the bodies of a state.
 fn fault_of_bodies(alloc: Global, scene: &Scene) -> Result<Option<StateFault>, NoMemory>
     requires typed { IsTypedScene scene.now }
     requires ended { HasNoStep all_rules scene.now.program.now scene.now.made.now }
     ensures { IfOk result (FindsFault scene.now.program.now scene.now.made.now) }
 {
+    none_is_stuck();
     let signature = Signature::of(alloc, scene.program)?;
     match blocked_at(alloc, scene, &signature)? {
         Some(at) => Ok(Some(StateFault::Blocked(at))),
-        None => other_fault(alloc, scene, &signature),
-    }
-}
-
-// What is at fault with the bodies of a state that is blocked nowhere.
-fn other_fault(
-    alloc: Global,
-    scene: &Scene,
-    signature: &Signature,
-) -> Result<Option<StateFault>, NoMemory>
-    requires typed { IsTypedScene scene.now }
-    requires table { IsSignature scene.now.program.now signature.now }
-    requires ended { HasNoStep all_rules scene.now.program.now scene.now.made.now }
-    requires free { IsBlockedNowhere scene.now.program.now scene.now.made.now }
-    ensures { IfOk result (FindsFault scene.now.program.now scene.now.made.now) }
-{
-    match first_other(alloc, scene, signature)? {
-        Some(made) => Ok(Some(StateFault::Stuck { made })),
         None => Ok(None),
     }
 }
@@ -171,6 +106,7 @@ fn ordered<'a>(
     program: &'a Program,
     made: &'a [Made],
 ) -> Result<Normal<'a>, Or<StateFault>>
+    requires entry { IsEntry program.now made.now }
     requires normal { IsNormal program.now made.now }
     requires free { IsBlockedNowhere program.now made.now }
     ensures state { IfOk result (λ n. n ≡ record { program = program.now; made = made.now }) }
@@ -186,10 +122,12 @@ fn ordered<'a>(
 
 /// The state as a normal one of which no made definition uses itself, or why it isn't one. Each answer comes exactly where it holds.
 ///
-/// The scene is typed, and no rule has an instance in its state. A normal state is taken only where it is blocked nowhere.
+/// The scene is typed, its state is one with which a program is entered, and no rule has an instance in it.
+/// So it is normal exactly where nothing of it is blocked.
 /// Where a number would pass 32 bits, the answer is want of memory.
 pub fn judge_state<'a>(alloc: Global, scene: &Scene<'a>) -> Result<Normal<'a>, Or<StateFault>>
     requires typed { IsTypedScene scene.now }
+    requires entry { IsEntry scene.now.program.now scene.now.made.now }
     requires ended { HasNoStep all_rules scene.now.program.now scene.now.made.now }
     ensures state { IfOk result (λ n. n ≡ record { program = scene.now.program.now; made = scene.now.made.now }) }
     ensures finished { IfOk result (λ _. IsFinished scene.now.program.now scene.now.made.now) }

@@ -21,7 +21,9 @@ use Rattle.rule_types.specs.States.{IsTypedState}
 use Rattle.chw_terms.specs.Tidy.{IsTidy}
 use Rattle.chw_typing.specs.Programs.{IsTyped}
 use Rattle.net_flat.specs.Flattened.{IsFlatOf}
+use Rattle.normal_form.specs.Entries.{IsEntry}
 use Rattle.net_means.specs.Laws.{BuiltNetsMean}
+use Rattle.net_means.specs.NetFits.Laws.{RunsBeginWithTop}
 use Rattle.net_means.specs.Outputs.{NetMeans}
 use Rattle.net_rules.specs.WellFormed.{WellFormed}
 use Rattle.netlist.specs.Orders.{IsOrder}
@@ -57,20 +59,38 @@ stay_few : {rules : List Rule} {p : Program} {made made' : List Made} {steps : L
 stay_few few no_step = few
 stay_few few (step_and s within rest) = stay_few within.few rest
 
+-- a run within the limits is one of that many steps
+run_of : {rules : List Rule} {p : Program} {steps : List Step} {state : List Made}
+    → ShallowRun rules p steps state → Run rules p (length steps) steps state
+run_of run = record { opening = run.opening; opens = run.opens; runs = are_steps run.runs }
+
+-- and the state holds no more made definitions than may be held
+few_held : {rules : List Rule} {p : Program} {steps : List Step} {state : List Made}
+    → ShallowRun rules p steps state → length state ≤ MADE_DEFINITIONS
+few_held run =
+    let one : length run.opening ≡ 1 = ap length run.opens.2 in
+    stay_few (omega (arith, one)) run.runs
+
+-- a net can be built of its last state, if that is normal
+pub is_entry : LastStatesAreTyped → RunsBeginWithTop → {rules : List Rule} {p : Program}
+    {steps : List Step} {state : List Made}
+    → IsTidy p → IsTyped p → ShallowRun rules p steps state → IsEntry p state
+is_entry law begin {rules} {p} {steps} {state} tidy typed run =
+    record {
+      typed = law rules p steps state tidy typed run;
+      begins = begin rules p (length steps) steps state (run_of run);
+      few = few_held run;
+    }
+
 -- the run is one of that many steps
 pub is_run : {p : Program} {budget : ℕ} {state : List Made} → (e : EndsIn p budget state)
     → Run built p (length e.steps) e.steps state
-is_run e =
-    let run = (leads refl e.ends).0 in
-    record { opening = run.opening; opens = run.opens; runs = are_steps run.runs }
+is_run e = run_of (leads refl e.ends).0
 
 -- and the state holds no more made definitions than may be held
 pub is_few : {p : Program} {budget : ℕ} {state : List Made} → EndsIn p budget state
     → length state ≤ MADE_DEFINITIONS
-is_few e =
-    let run = (leads refl e.ends).0 in
-    let one : length run.opening ≡ 1 = ap length run.opens.2 in
-    stay_few (omega (arith, one)) run.runs
+is_few e = few_held (leads refl e.ends).0
 
 -- it is typed
 pub is_typed : LastStatesAreTyped → {p : Program} {budget : ℕ} {state : List Made}

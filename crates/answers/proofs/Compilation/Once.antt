@@ -1,4 +1,4 @@
--- A program is compiled to one net, and then nothing refuses it.
+-- A program is compiled to one net at most. Nothing refuses one whose run ends in a small state.
 use Rattle.std.proofs.Common.{◌≡◌, ℕ, zero, suc, ◌≤◌, ◌<◌, List, [], ◌∷◌, length, refl, ap, subst, arith}
 use Rattle.chw_base.specs.declared.limits.TheConstants.{FLAT_WIRES}
 use Rattle.chw_terms.specs.declared.program.Program.{Program}
@@ -7,20 +7,21 @@ use Rattle.chw_norm.specs.Laws.{NothingRefusesANormalRun, OneLastState}
 use Rattle.chw_norm.specs.Rules.{built}
 use Rattle.chw_norm.specs.Running.{IsLeft, ShallowSteps, no_step, step_and, spent}
 use Rattle.chw_norm.specs.declared.running.RunFault.TheVariants.{Spent}
-use Rattle.judge.specs.States.{IsFinished, RefusesState, place_of}
+use Rattle.judge.specs.States.{IsBlockedNowhere, RefusesState, place_of}
 use Rattle.judge.specs.declared.states.StateFault.{StateFault}
-use Rattle.judge.specs.declared.states.StateFault.TheVariants.{Blocked, Stuck, Uses}
+use Rattle.judge.specs.declared.states.StateFault.TheVariants.{Blocked, Uses}
 use Rattle.net_built.specs.Built.{Built}
 use Rattle.net_built.specs.Laws.{OneNetBuilt}
 use Rattle.net_flat.specs.Flattened.{IsFlatOf, widths_in}
-use Rattle.netlist.specs.Orders.{IsLoop}
+use Rattle.netlist.specs.Orders.{HasNoLoop}
 use Rattle.netlist.specs.declared.net.Flat.{Flat}
 use Rattle.netlist.specs.declared.net.Net.{Net}
+use Rattle.normal_forms.specs.Uses.{IsAcyclic}
 use Rattle.rewriting.specs.Runs.{Step}
-use Rattle.answers.specs.Compilation.Compiling.{EndsIn, HasCircuit, HasManyWires, HasNet, IsNetFault}
+use Rattle.answers.specs.Compilation.Compiling.{EndsIn, HasManyWires, HasNet, IsNetFault, IsSmall}
 use Rattle.answers.specs.Compilation.Compiling.IsCompileFault.{not_normalised, not_finished, no_circuit}
 use Rattle.answers.specs.Compilation.Compiling.IsNetFault.{too_large, loops}
-use Rattle.answers.specs.Compilation.Laws.{NothingRefusesACompile, OneCompiled, OneCount}
+use Rattle.answers.specs.Compilation.Laws.{CompiledEndsSmall, NothingRefusesACompile, OneCompiled, OneCount}
 use Rattle.answers.specs.declared.compiled.fault.CompileFault.{CompileFault}
 use Rattle.answers.proofs.Compilation.Ends.{leads}
 
@@ -106,12 +107,11 @@ one_compiled one once flat_once p budget other a b f g x y =
     let same = same_net one once p budget other a b x.net_is y.net_is in
     (same, flat_once b f g (subst (λ n. IsFlatOf n f) same x.circuit.is) y.circuit.is)
 
--- a state that is normal and acyclic isn't refused
-finished_is_taken : (p : Program) (made : List Made) (fault : StateFault) → IsFinished p made
-    → RefusesState p made fault → ⊥
-finished_is_taken p made (Blocked at) h r = h.free (place_of at) r.blocked
-finished_is_taken p made (Stuck m) h r = r.1.other (λ it is. h.normal.bodies m.number it is)
-finished_is_taken p made (Uses cycle) h r = r.2.some h.acyclic
+-- a state that is blocked nowhere and acyclic isn't refused
+free_is_taken : (p : Program) (made : List Made) (fault : StateFault) → IsBlockedNowhere p made
+    → IsAcyclic made → RefusesState p made fault → ⊥
+free_is_taken p made (Blocked at) free acyclic r = free (place_of at) r.blocked
+free_is_taken p made (Uses cycle) free acyclic r = r.2.some acyclic
 
 -- a flat net with few wires is that of no net with many
 few_or_many : (net : Net) (flat : Flat) → IsFlatOf net flat → length flat.widths ≤ FLAT_WIRES
@@ -124,24 +124,46 @@ few_or_many net flat is few (top, last, many) =
     let wires = ap length is.widths in
     absurd (omega (arith, over, wires, few))
 
--- a net with a circuit isn't refused
-no_net_fault : OneFlat → (net : Net) (flat : Flat) (fault : CompileFault) → HasCircuit net flat
-    → IsNetFault net fault → ⊥
-no_net_fault one net flat _ c (too_large many) = few_or_many net flat c.is c.few many
-no_net_fault one net flat _ c (loops other cycle is few l) =
-    c.no_loop cycle (subst (λ f. IsLoop f cycle) (one net other flat is c.is) l)
+-- of a program that is compiled to some net the state is small: all nets that are built of it are
+-- this one
+pub compiled_ends_small : OneNetBuilt → OneFlat → CompiledEndsSmall
+compiled_ends_small once one p budget net flat x = record {
+  state = h.state;
+  run = h.run;
+  free = h.finished.free;
+  acyclic = h.finished.acyclic;
+  small = record {
+    few = λ other built many.
+        few_or_many net flat x.circuit.is x.circuit.few (subst HasManyWires (same other built) many);
+    no_loop = λ other flat' built is.
+        subst HasNoLoop
+        (one net flat flat' x.circuit.is (subst (λ n. IsFlatOf n flat') (same other built) is))
+        x.circuit.no_loop;
+  };
+}
+  where
+    h : HasNet p budget net
+    h = x.net_is
 
-pub nothing_refuses : NothingRefusesANormalRun → OneLastState → OneNetBuilt → OneFlat
-    → NothingRefusesACompile
-nothing_refuses law one once flat_once p budget net flat _ x (not_normalised steps fault within ends) =
-    let there = leads refl x.net_is.run.ends in
-    law built p budget x.net_is.run.steps steps x.net_is.state fault there.0 there.1
-    x.net_is.run.within ends
-nothing_refuses law one once flat_once p budget net flat _ x (not_finished state fault run wrong) =
-    finished_is_taken p x.net_is.state fault x.net_is.finished
-    (subst (λ s. RefusesState p s fault)
-    (same_state one p budget budget state x.net_is.state run x.net_is.run) wrong)
-nothing_refuses law one once flat_once p budget net flat _ x (no_circuit other fault has wrong) =
-    no_net_fault flat_once net flat fault x.circuit
-    (subst (λ n. IsNetFault n fault)
-    (same_net one once p budget budget other net has x.net_is) wrong)
+    same : (other : Net) → Built p h.state other → other ≡ net
+    same other built = once p h.state other net h.finished.normal built h.is
+
+-- a net that is built of a small state isn't refused
+no_net_fault : (p : Program) (state : List Made) (net : Net) (fault : CompileFault)
+    → IsSmall p state → Built p state net → IsNetFault net fault → ⊥
+no_net_fault p state net _ small built (too_large many) = small.few net built many
+no_net_fault p state net _ small built (loops flat cycle is few l) =
+    small.no_loop net flat built is cycle l
+
+pub nothing_refuses : NothingRefusesANormalRun → OneLastState → NothingRefusesACompile
+nothing_refuses law one p budget _ x (not_normalised steps fault within ends) =
+    let there = leads refl x.run.ends in
+    law built p budget x.run.steps steps x.state fault there.0 there.1 x.run.within ends
+nothing_refuses law one p budget _ x (not_finished state fault run wrong) =
+    free_is_taken p x.state fault x.free x.acyclic
+    (subst (λ s. RefusesState p s fault) (same_state one p budget budget state x.state run x.run)
+    wrong)
+nothing_refuses law one p budget _ x (no_circuit net fault has wrong) =
+    no_net_fault p x.state net fault x.small
+    (subst (λ s. Built p s net) (same_state one p budget budget has.state x.state has.run x.run)
+    has.is) wrong

@@ -9,7 +9,7 @@ use Rattle.rewriting.specs.Runs.{Step}
 use Rattle.chw_norm.specs.Rules.{built}
 use Rattle.chw_norm.specs.Running.{Ends}
 use Rattle.chw_norm.specs.declared.running.RunFault.{RunFault}
-use Rattle.judge.specs.States.{IsFinished, RefusesState}
+use Rattle.judge.specs.States.{IsBlockedNowhere, IsFinished, RefusesState}
 use Rattle.judge.specs.declared.states.StateFault.{StateFault}
 use Rattle.net_built.specs.Built.{Built}
 use Rattle.net_rules.specs.WellFormed.{WellFormed}
@@ -19,6 +19,7 @@ use Rattle.netlist.specs.Orders.{HasNoLoop, IsLoop, IsOrder}
 use Rattle.netlist.specs.Sound.{Sound}
 use Rattle.netlist.specs.declared.net.Flat.{Flat}
 use Rattle.netlist.specs.declared.net.Net.{Net}
+use Rattle.normal_forms.specs.Uses.{IsAcyclic}
 use Rattle.answers.specs.declared.compiled.compiling.Compiled.{Compiled}
 use Rattle.answers.specs.declared.compiled.fault.CompileFault.{CompileFault}
 use Rattle.answers.specs.declared.compiled.fault.CompileFault.TheVariants.{Run, State}
@@ -67,6 +68,20 @@ pub record HasCircuit (net : Net) (flat : Flat) : Type 0 where
 pub record CompilesTo (p : Program) (budget : ℕ) (net : Net) (flat : Flat) : Type 0 where
   pub net_is : HasNet p budget net
   pub circuit : HasCircuit net flat
+
+-- no net that is built of the state has a flat net with more wires than the limit, or with a loop
+pub record IsSmall (p : Program) (state : List Made) : Type 0 where
+  pub few : (net : Net) → Built p state net → HasManyWires net → ⊥
+  pub no_loop : (net : Net) (flat : Flat) → Built p state net → IsFlatOf net flat → HasNoLoop flat
+
+-- a run of so many steps at most ends in a state that is blocked nowhere, acyclic and small; that a
+-- net is built of it isn't said
+pub record EndsSmall (p : Program) (budget : ℕ) : Type 0 where
+  pub state : List Made
+  pub run : EndsIn p budget state
+  pub free : IsBlockedNowhere p state
+  pub acyclic : IsAcyclic state
+  pub small : IsSmall p state
 
 -- why a net has none: its size, or a loop
 pub data IsNetFault (net : Net) : CompileFault → Type 0 where

@@ -7,7 +7,8 @@ use Rattle.rewriting.specs.Runs.{Run}
 use Rattle.chw_norm.specs.Rules.{built}
 use Rattle.netlist.specs.declared.net.Flat.{Flat}
 use Rattle.netlist.specs.declared.net.Net.{Net}
-use Rattle.answers.specs.Compilation.Compiling.{CompilesTo, EndsIn, HasCounts, IsCompileFault}
+use Rattle.answers.specs.Compilation.Compiling.{EndsSmall, CompilesTo, EndsIn, HasCounts}
+use Rattle.answers.specs.Compilation.Compiling.{IsCompileFault}
 use Rattle.answers.specs.declared.compiled.fault.CompileFault.{CompileFault}
 
 -- the state in which a run ends is one to which so many first steps lead, and it holds no more made
@@ -32,8 +33,14 @@ OneCompiled =
     → CompilesTo p budget net flat → CompilesTo p other net' flat'
     → (net ≡ net') × (flat ≡ flat')
 
--- a program that is compiled to some net within a budget isn't refused within it
+-- a program whose run ends so within a budget isn't refused within it
 abbrev pub NothingRefusesACompile : Type 0
 NothingRefusesACompile =
-    (p : Program) (budget : ℕ) (net : Net) (flat : Flat) (fault : CompileFault)
-    → CompilesTo p budget net flat → IsCompileFault p budget fault → ⊥
+    (p : Program) (budget : ℕ) (fault : CompileFault)
+    → EndsSmall p budget → IsCompileFault p budget fault → ⊥
+
+-- that of one that is compiled to some net ends so
+abbrev pub CompiledEndsSmall : Type 0
+CompiledEndsSmall =
+    (p : Program) (budget : ℕ) (net : Net) (flat : Flat)
+    → CompilesTo p budget net flat → EndsSmall p budget

@@ -21,6 +21,7 @@ use net_build::build;
 use net_flat::TooLarge;
 use net_flat::flatten::flatten;
 use net_means::laws::built_nets_mean;
+use net_means::net_fits::laws::runs_begin_with_top;
 use net_means::net_widths::laws::runs_build_well_formed;
 use netlist::laws::an_order_excludes_loops;
 use netlist::ordering::order;
@@ -77,6 +78,7 @@ fn normal_of<'a>(
     ensures fault { IfFault result (RefusesState program.now made.now) }
 {
     last_states_are_typed();
+    runs_begin_with_top();
     let scene = Scene { program, made };
     let outcome = judge_state(alloc, &scene);
     let Scene {

@@ -1,5 +1,6 @@
 //! The laws of what is compiled, each as the contract of a call that does nothing.
-ghost use Rattle.answers.specs.Compilation.Laws.{EndsAreRuns, NothingRefusesACompile, OneCompiled, OneCount};
+ghost use Rattle.answers.specs.Compilation.Laws.{CompiledEndsSmall, EndsAreRuns};
+ghost use Rattle.answers.specs.Compilation.Laws.{NothingRefusesACompile, OneCompiled, OneCount};
 
 use chw_norm::laws::{nothing_refuses_a_normal_run, one_last_state};
 use net_built::laws::one_net_built;
@@ -27,9 +28,11 @@ pub fn one_compiled()
     one_flat_net();
 }
 
-/// Nothing refuses a program that is compiled to some net.
+/// Nothing refuses a program whose run ends in a small state, and the run of one that is compiled to
+/// some net ends so.
 pub fn nothing_refuses_a_compile()
-    ensures { NothingRefusesACompile }
+    ensures refused { NothingRefusesACompile }
+    ensures compiled { CompiledEndsSmall }
 {
     nothing_refuses_a_normal_run();
     one_last_state();

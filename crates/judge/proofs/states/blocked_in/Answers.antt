@@ -1,14 +1,18 @@
-use Rattle.std.proofs.lemmas.Result.{IfOk-weaker}
-use Rattle.judge.proofs.Places.{placed_first}
+use Rattle.judge.proofs.Places.{first_in, none_in}
 use Rattle.judge.proofs.states.blocked_in.Goals as goal
 
-pub first_blocked-requires-clause-made : goal.first_blocked-requires-clause-made
-first_blocked-requires-clause-made c = (c.args.number, c.requires.is)
+pub judge-requires-clause-made : goal.judge-requires-clause-made
+judge-requires-clause-made c = (c.args.number, c.requires.is)
 
-pub returns : goal.returns
-returns c =
+pub returns-in-Normal : goal.returns-in-Normal
+returns-in-Normal c =
     let scene = c.args.scene.now in
-    IfOk-weaker c.placed_in.result _ _
-    (λ answer is. placed_first scene.program.now scene.made.now c.args.it.now c.args.number
-    c.in_ok-first_blocked.field-0 answer c.requires.is c.in_ok-first_blocked.ensures is)
-    c.placed_in.ensures
+    none_in scene.program.now scene.made.now c.args.it.now c.args.number c.in_ok-judge.field-0
+    c.requires.is c.in-Normal.is c.in_ok-judge.ensures
+
+pub returns-in_ok-placed_in-in-Blocked : goal.returns-in_ok-placed_in-in-Blocked
+returns-in_ok-placed_in-in-Blocked c =
+    let scene = c.args.scene.now in
+    first_in scene.program.now scene.made.now c.args.it.now c.args.number c.in-Blocked.part
+    c.in_ok-judge.field-0 c.in_ok-placed_in-in-Blocked.field-0 c.requires.is c.in-Blocked.is
+    c.in_ok-placed_in-in-Blocked.ensures c.in_ok-judge.ensures
