@@ -1,5 +1,5 @@
 -- The block of a typed circuit in normal form is ready.
-use Rattle.std.proofs.Common.{◌≡◌, ◌<◌, ℕ, List, [], ◌∷◌, ◌++◌, map, Some, refl, sym, ap, subst}
+use Rattle.std.proofs.Common.{◌≡◌, ◌<◌, ℕ, List, [], ◌∷◌, ◌++◌, Some, refl, sym, subst}
 use Rattle.std.specs.List.{slice_get, AllByRecursion}
 use Rattle.std.proofs.lemmas.List.{map-append}
 use Rattle.chw_base.specs.declared.index.ConId.{ConId}
@@ -14,7 +14,7 @@ use Rattle.chw_terms.specs.declared.term.Pattern.TheVariants.{OfCon}
 use Rattle.chw_terms.specs.TermTree.{TermTree, var, made, letrec, con, case_of, Group, no_alts, alt}
 use Rattle.chw_typing.specs.HeadTypes.{PatternOf}
 use Rattle.chw_typing.specs.Programs.{IsSound}
-use Rattle.chw_typing.specs.Scopes.{Setting, AreTermTypes, with_more, declared}
+use Rattle.chw_typing.specs.Scopes.{Setting, AreTermTypes, declared}
 use Rattle.chw_typing.specs.Typing.{HasType, h_letrec, h_case, AreBound, none_bound, bound_and}
 use Rattle.chw_layout.specs.EncodingPromises.{ValueIsEncoded}
 use Rattle.layout_laws.specs.SameLayout.{SameKeepsMeasure}

@@ -13,9 +13,8 @@ use Rattle.chw_types.specs.TypeMoves.{Substitution, sub}
 use Rattle.chw_types.specs.TypeTree.{TypeTree, TypeTrees, nat_lit, scalar, vector, data_of}
 use Rattle.chw_types.specs.TypeView.{trees_of}
 use Rattle.type_laws.specs.SameKept.{FieldsKeepSame}
-use Rattle.chw_terms.specs.Constructors.{con_at}
 use Rattle.chw_terms.specs.TermTree.{TermTree, con, lit}
-use Rattle.chw_terms.specs.TermView.{applied, terms_of}
+use Rattle.chw_terms.specs.TermView.{terms_of}
 use Rattle.chw_typing.specs.Given.{types_then, AreGiven}
 use Rattle.chw_typing.specs.Programs.{IsSound}
 use Rattle.chw_typing.specs.Scopes.{Setting, AreTermTypes}

@@ -1,5 +1,5 @@
 -- What a term declares itself, and what its parts declare.
-use Rattle.std.proofs.Common.{◌≡◌, ℕ, suc, List, [], ◌∷◌, Some, refl, option_map, option_and_then}
+use Rattle.std.proofs.Common.{◌≡◌, ℕ, List, [], ◌∷◌, Some, refl, option_map, option_and_then}
 use Rattle.std.specs.List.{AllByRecursion}
 use Rattle.chw_types.specs.TypeTree.{TypeTree}
 use Rattle.chw_terms.specs.TermTree.{TermTree, lam, Group, Alts}

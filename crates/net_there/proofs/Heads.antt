@@ -1,9 +1,9 @@
 -- Heads on types and terms: their arguments.
-use Rattle.std.proofs.Common.{◌≡◌, ℕ, zero, List, [], ◌∷◌, ◌++◌, length, map, refl, sym, ap, ◌∙◌, subst, arith, append_assoc, append-nil}
+use Rattle.std.proofs.Common.{◌≡◌, ℕ, List, [], ◌∷◌, ◌++◌, length, refl, sym, ap, ◌∙◌, subst, arith, append_assoc, append-nil}
 use Rattle.chw_types.specs.TypeTree.{TypeTree}
 use Rattle.chw_terms.specs.declared.term.Arg.{Arg}
 use Rattle.chw_terms.specs.declared.term.Arg.TheVariants.{OfTerm, OfType}
-use Rattle.chw_terms.specs.TermTree.{TermTree, var, app, ty_app, Terms}
+use Rattle.chw_terms.specs.TermTree.{TermTree, app, ty_app}
 use Rattle.chw_terms.specs.TermView.{applied, terms_of}
 use Rattle.chw_typing.specs.Given.{types_then}
 use Rattle.normal_forms.specs.Values.{on_names}

@@ -1,5 +1,5 @@
 -- Variables in scope have parts: those of lambdas and of letrecs, and the fields of what is taken apart.
-use Rattle.std.proofs.Common.{◌≡◌, ℕ, zero, suc, ◌<◌, ◌≤◌, List, [], ◌∷◌, ◌++◌, length, map, Some, slice_get, Contains, refl, sym, subst, arith}
+use Rattle.std.proofs.Common.{◌≡◌, ℕ, zero, suc, ◌≤◌, List, [], ◌∷◌, map, Some, slice_get, Contains, refl, sym, subst, arith}
 use Rattle.std.specs.List.{AllByRecursion}
 use Rattle.chw_base.specs.declared.index.ConId.{ConId}
 use Rattle.chw_base.specs.declared.limits.TheConstants.{DATA_BITS}

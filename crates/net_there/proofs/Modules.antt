@@ -1,6 +1,6 @@
 -- Each made definition of a typed normal state is ready.
-use Rattle.std.proofs.Common.{◌≡◌, ℕ, List, [], ◌∷◌, map, Some, refl, sym, ap, ◌∙◌, subst}
-use Rattle.std.specs.List.{slice_get, AllByRecursion}
+use Rattle.std.proofs.Common.{◌≡◌, ℕ, List, [], ◌∷◌, Some, refl, sym, ap, ◌∙◌, subst}
+use Rattle.std.specs.List.{slice_get}
 use Rattle.chw_types.specs.declared.declarations.Data.{Data}
 use Rattle.chw_types.specs.SamePromises.{SameValues}
 use Rattle.chw_types.specs.TypeTree.{TypeTree}
@@ -21,12 +21,11 @@ use Rattle.chw_typing.specs.Typing.{HasType, h_lam}
 use Rattle.chw_layout.specs.EncodingPromises.{ValueIsEncoded}
 use Rattle.layout_laws.specs.SameLayout.{SameKeepsMeasure}
 use Rattle.rewriting.specs.Named.{IsNamed, mode_of, UnderLambdas, under_none, under_one}
-use Rattle.rewriting.specs.Origins.{MadeOf, Origins, setting_at, made_of}
+use Rattle.rewriting.specs.Origins.{MadeOf, Origins, setting_at}
 use Rattle.rewriting.specs.Steps.{origins_in}
 use Rattle.rule_types.specs.States.{IsTypedState, StatesHaveTypedOrigins}
 use Rattle.normal_forms.specs.Normal.{HasForm, HoldsWidths, IsNormalBody, IsNormal}
 use Rattle.normal_forms.specs.Parts.{EachDeclared}
-use Rattle.net_built.specs.Data.{HasParts}
 use Rattle.net_built.specs.Terms.{result_of}
 use Rattle.net_ready.specs.Ready.{BlockReady, BodyReady, ready_lambda, ready_block, ModuleReady}
 use Rattle.net_grounds.specs.Facts.{Facts}

@@ -1,12 +1,10 @@
 -- The program of a typed normal state that begins with the top has ports.
-use Rattle.std.proofs.Common.{◌≡◌, ℕ, zero, suc, ◌+◌, List, [], ◌∷◌, ◌++◌, length, map, Some, refl, sym, ap, ◌∙◌, subst, arith, length-append}
-use Rattle.std.specs.List.{slice_get, AllByRecursion}
+use Rattle.std.proofs.Common.{◌≡◌, ℕ, zero, suc, List, [], ◌∷◌, ◌++◌, length, Some, refl, subst, arith, length-append}
+use Rattle.std.specs.List.{slice_get}
 use Rattle.chw_clock.specs.declared.event.Port.{Port}
 use Rattle.chw_clock.specs.declared.event.Ports.{Ports}
 use Rattle.chw_types.specs.declared.declarations.Data.{Data}
-use Rattle.chw_types.specs.declared.kind.Kind.{Kind}
-use Rattle.chw_types.specs.SameTypes.{SameTypes}
-use Rattle.chw_types.specs.TypeTree.{TypeTree, fun}
+use Rattle.chw_types.specs.TypeTree.{TypeTree}
 use Rattle.type_ports.specs.declared.ports.Leaf.{Leaf}
 use Rattle.type_ports.specs.Ports.{Leaves, one_leaf, leaves_of_fields}
 use Rattle.type_laws.specs.SameKept.{FieldsKeepSame}
@@ -17,7 +15,6 @@ use Rattle.chw_terms.specs.TermTree.{TermTree}
 use Rattle.chw_typing.specs.Programs.{IsSound, LeadsToPort, to_port, from_port}
 use Rattle.chw_typing.specs.Scopes.{Setting}
 use Rattle.chw_typing.specs.Typing.{HasType, h_lam}
-use Rattle.chw_layout.specs.Measured.{HasWidth}
 use Rattle.chw_meaning.specs.Means.{LeadsFrom, leads_to, leads_from, PortsOf, no_ports, port_and, no_port_and, HasPorts}
 use Rattle.layout_laws.specs.SameLayout.{SameKeepsMeasure}
 use Rattle.rewriting.specs.Named.{UnderLambdas, under_none, under_one}

@@ -1,10 +1,8 @@
 -- Entries in normal form are ready, and so there is a well formed net of each.
-use Rattle.std.proofs.Common.{◌≡◌, ◌≤◌, ℕ, List, [], length, Some, refl, sym, ap, ◌∙◌, subst}
-use Rattle.std.specs.List.{slice_get}
+use Rattle.std.proofs.Common.{◌≡◌, ◌≤◌, ℕ, List, [], length, refl, subst}
 use Rattle.std.proofs.lemmas.Option.{slice_get_within}
 use Rattle.chw_base.specs.declared.limits.TheConstants.{MADE_DEFINITIONS}
 use Rattle.chw_clock.specs.declared.event.Ports.{Ports}
-use Rattle.chw_types.specs.TypeTree.{TypeTree}
 use Rattle.type_laws.specs.SameKept.{FieldsKeepSame}
 use Rattle.chw_terms.specs.declared.program.Def.{Def}
 use Rattle.chw_terms.specs.declared.program.Program.{Program}
@@ -17,7 +15,7 @@ use Rattle.chw_typing.specs.Scopes.{Setting}
 use Rattle.chw_meaning.specs.Means.{HasPorts}
 use Rattle.layout_laws.specs.SameLayout.{SameKeepsMeasure}
 use Rattle.rewriting.specs.Named.{UnderLambdas}
-use Rattle.rewriting.specs.Origins.{MadeOf, setting_at}
+use Rattle.rewriting.specs.Origins.{setting_at}
 use Rattle.rewriting.specs.Runs.{Run, Step}
 use Rattle.rewriting.specs.Steps.{origins_in}
 use Rattle.rule_types.specs.States.{IsTypedState, StatesHaveTypedOrigins}
@@ -40,7 +38,7 @@ use Rattle.net_means.specs.NetWidths.Laws.{StatesBuildWellFormed}
 use Rattle.net_there.proofs.Measured.{HasSomeParts, AllHaveParts}
 use Rattle.net_there.proofs.Modules.{params_parts, result_parts}
 use Rattle.net_there.proofs.Ports.{ports_there}
-use Rattle.net_there.specs.Laws.{ModulesAreReady, PortsAreThere, StatesAreReady, FinishedStatesHaveNets}
+use Rattle.net_there.specs.Laws.{ModulesAreReady, PortsAreThere, StatesAreReady}
 
 pub state_ports : Facts → FieldsKeepSame → SameKeepsMeasure → StatesHaveTypedOrigins → (p : Program) (state : List Made) → IsTypedState p state → IsNormal p state → BeginsWithTop p state → (ports : Ports) × HasPorts p ports
 state_ports facts keep law typed_origins p state typed normal begins =

@@ -1,7 +1,6 @@
 -- The block of a typed value in normal form is ready.
-use Rattle.std.proofs.Common.{◌≡◌, ◌⊎◌, inl, inr, ℕ, suc, ◌+◌, List, [], ◌∷◌, ◌++◌, length, map, Some, refl, sym, ap, ◌∙◌, subst, arith, append-nil}
-use Rattle.std.specs.List.{slice_get, AllByRecursion}
-use Rattle.std.proofs.lemmas.List.{length-map}
+use Rattle.std.proofs.Common.{◌≡◌, ◌⊎◌, inl, inr, ℕ, suc, ◌+◌, List, [], ◌∷◌, ◌++◌, length, Some, refl, sym, ap, ◌∙◌, subst, arith, append-nil}
+use Rattle.std.specs.List.{AllByRecursion}
 use Rattle.chw_types.specs.Arguments.{arguments}
 use Rattle.chw_types.specs.declared.declarations.Data.{Data}
 use Rattle.chw_types.specs.declared.kind.Kind.{Kind}
@@ -11,7 +10,7 @@ use Rattle.chw_types.specs.Kinds.{KindsOf, kind_and}
 use Rattle.chw_types.specs.SamePromises.{SameValues}
 use Rattle.chw_types.specs.SameTypes.{SameTypes}
 use Rattle.chw_types.specs.TypeMoves.{sub}
-use Rattle.chw_types.specs.TypeTree.{TypeTree, TypeTrees, type_and, ty_var, nat_lit, nat_sum, scalar, vector, data_of}
+use Rattle.chw_types.specs.TypeTree.{TypeTree, TypeTrees, ty_var, nat_lit, nat_sum, scalar, vector, data_of}
 use Rattle.chw_types.specs.TypeView.{trees_of}
 use Rattle.type_ports.specs.Representable.{Representable}
 use Rattle.type_laws.specs.SameKept.{FieldsKeepSame}
@@ -20,24 +19,19 @@ use Rattle.chw_prims.specs.declared.prim.Primitive.TheVariants.{VGet, VGetC, VAt
 use Rattle.chw_prims.specs.Schemas.{schema_type}
 use Rattle.chw_terms.specs.Constructors.{Constructor, con_at}
 use Rattle.chw_terms.specs.declared.scene.Sort.TheVariants.{Value}
-use Rattle.chw_terms.specs.declared.term.Arg.{Arg}
-use Rattle.chw_terms.specs.declared.term.Arg.TheVariants.{OfTerm, OfType}
-use Rattle.chw_terms.specs.TermTree.{TermTree, var, made, letrec, con, prim, case_of, Group, Alts}
-use Rattle.chw_terms.specs.TermView.{applied}
-use Rattle.chw_typing.specs.Given.{types_then, AsksForNone}
+use Rattle.chw_terms.specs.TermTree.{TermTree, var, made, letrec, con, prim, Group, Alts}
+use Rattle.chw_typing.specs.Given.{types_then}
 use Rattle.chw_typing.specs.NamedLaws.{RepresentableIsVal}
 use Rattle.chw_typing.specs.Programs.{IsSound}
-use Rattle.chw_typing.specs.Scopes.{HasKind, AreTermTypes, with_more, declared}
+use Rattle.chw_typing.specs.Scopes.{HasKind, AreTermTypes, declared}
 use Rattle.chw_typing.specs.Typing.{HasType, h_letrec, AreBound, none_bound, bound_and, AllGive, none_give, give_and}
 use Rattle.chw_layout.specs.Measured.{fits, MeasuredFields, HasWidth}
-use Rattle.rewriting.specs.Named.{IsNamed}
 use Rattle.rewriting.specs.Origins.{Origins, setting_at}
 use Rattle.rewriting.specs.Spots.{asked_for, IsOnWords, TakesElement}
 use Rattle.normal_forms.specs.Normal.{HoldsWidths}
 use Rattle.normal_forms.specs.Parts.{EachDeclared}
 use Rattle.normal_forms.specs.Values.{on_names, IsBlock, block_variable, block_letrec, AreSides, no_sides, side_and, IsSide, side_variable, side_literal, side_constructor, side_vector, side_primitive, side_call, side_case, AreBlocks, no_blocks, block_and}
-use Rattle.net_built.specs.Terms.{head_of}
-use Rattle.net_ready.specs.Ready.{args_of, ConstructorReady, ElementReady, ElementAtReady, PrimitiveReady, ValueReady, BlockReady, ready_variable, ready_letrec, GroupReady, ready_none, ready_and, SideReady, ready_value, ready_case, AltsReady, ready_no_alts, ready_alt}
+use Rattle.net_ready.specs.Ready.{ConstructorReady, ElementReady, ElementAtReady, PrimitiveReady, ValueReady, BlockReady, ready_variable, ready_letrec, GroupReady, ready_none, ready_and, SideReady, ready_value, ready_case, AltsReady, ready_no_alts, ready_alt}
 use Rattle.net_grounds.specs.Facts.{Facts}
 use Rattle.net_means.proofs.NetFits.Shapes.{names}
 use Rattle.net_means.proofs.NetFits.ValueDrivers.{case_typed}
