@@ -122,8 +122,9 @@ fn ordered<'a>(
 
 /// The state as a normal one of which no made definition uses itself, or why it isn't one. Each answer comes exactly where it holds.
 ///
-/// The scene is typed, its state is one with which a program is entered, and no rule has an instance in it.
-/// So it is normal exactly where nothing of it is blocked.
+/// The scene is typed, and no rule has an instance in its state. So the state is normal exactly
+/// where nothing of it is blocked. It begins with the program's top, and has no more made
+/// definitions than a run may make.
 /// Where a number would pass 32 bits, the answer is want of memory.
 pub fn judge_state<'a>(alloc: Global, scene: &Scene<'a>) -> Result<Normal<'a>, Or<StateFault>>
     requires typed { IsTypedScene scene.now }
