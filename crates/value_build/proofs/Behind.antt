@@ -2,7 +2,7 @@
 use Rattle.std.proofs.Common.{◌≡◌, ◌∙◌, ap, sym, ℕ, arith, length-append}
 use Rattle.net_built.specs.Wires.{Piece, nothing, ◌▸◌, after}
 use Rattle.net_pieces.proofs.Behind.{behind_nothing, behind_both}
-use Rattle.value_build.specs.Added.{Adds, next}
+use Rattle.value_build.specs.Added.{Adds}
 
 -- the number behind two pieces
 pub after_both : (n : ℕ) (p q : Piece) → after (after n p) q ≡ after n (p ▸ q)

@@ -1,10 +1,13 @@
 pub mod Behind
+pub mod Heads
 pub mod Kept
 pub mod Lambdas
 pub mod Measures
 pub mod Operands
+pub mod Ordered
 pub mod Parts
 pub mod Patterns
+pub mod Ready
 pub mod Rows
 pub mod Scopes
 pub mod Spines

@@ -1,14 +1,14 @@
 -- Arguments, one after the other.
-use Rattle.std.proofs.Common.{◌≡◌, ◌∙◌, sym, ap, refl, ℕ, suc, ◌+◌, ◌<◌, ◌≤◌, arith, add-one, List, [], ◌∷◌, ◌++◌, drop, drop-cons, length, get_or, append_assoc, append-nil}
+use Rattle.std.proofs.Common.{◌≡◌, ◌∙◌, sym, ap, refl, ℕ, ◌+◌, ◌<◌, ◌≤◌, add-one, List, [], ◌∷◌, ◌++◌, drop, drop-cons, length, get_or, append_assoc, append-nil}
 use Rattle.std.proofs.lemmas.List.{drop_all}
 use Rattle.std.proofs.lemmas.Grind.{flat_map-append}
-use Rattle.chw_base.specs.declared.index.WireId.{WireId}
 use Rattle.net_built.specs.Terms.{Variable, list_of, wires_of, wires_of_all}
 use Rattle.chw_terms.specs.TermView.{terms_of}
-use Rattle.chw_types.specs.TypeTree.{TypeTree}
 use Rattle.chw_terms.specs.declared.term.Arg.{Arg}
 use Rattle.chw_terms.specs.declared.term.Arg.TheVariants.{OfTerm, OfType}
 use Rattle.chw_terms.specs.TermTree.{TermTree}
+use Rattle.net_ready.specs.Ready.{types_among, AreNames}
+use Rattle.net_ready.proofs.Arguments.{names_untyped}
 use Rattle.value_build.specs.Arguments.{terms_in, types_in}
 
 -- what is left begins with the item that is read
@@ -56,3 +56,13 @@ one_wires scope e = append-nil (wires_of scope e)
 pub list_back : (es : List TermTree) → list_of (terms_of es) ≡ es
 list_back [] = refl
 list_back (e ∷ es) = ap (λ fs. e ∷ fs) (list_back es)
+
+-- the types among arguments
+pub types_same : (args : List Arg) → types_among args ≡ types_in args
+types_same [] = refl
+types_same (OfTerm e ∷ args) = types_same args
+types_same (OfType t ∷ args) = ap (λ ts. t ∷ ts) (types_same args)
+
+-- among variables there are none
+pub no_types : (args : List Arg) → AreNames args → types_in args ≡ []
+no_types args names = sym (types_same args) ∙ names_untyped args names

@@ -1,24 +1,21 @@
 -- Patterns for values of a type, their words, and the numbers of constructors.
-use Rattle.std.proofs.Common.{◌≡◌, ◌∙◌, sym, ap, refl, subst, ℕ, zero, suc, ◌+◌, ◌-◌, ◌<◌, ◌≤◌, arith, Bool, true, false, not, rules, List, [], ◌∷◌, ◌++◌, map, drop, drop-cons, length, get_or, append_assoc, append-nil, Some, IsTrue, ◌↔◌}
-use denote.Enum.Bare.{sameb, same_true}
-use Rattle.std.specs.Bool.{OnTrue}
-use Rattle.std.proofs.lemmas.Bool.{OnTrue_from}
+use Rattle.std.proofs.Common.{◌≡◌, ◌∙◌, sym, ap, refl, subst, ℕ, zero, suc, ◌+◌, ◌-◌, ◌<◌, ◌≤◌, arith, Bool, List, [], ◌∷◌, ◌++◌, map, drop, drop-cons, length, get_or, append_assoc, append-nil, Some, None}
 use Rattle.chw_base.specs.declared.index.ConId.{ConId}
 use Rattle.chw_base.specs.declared.index.WireId.{WireId}
 use Rattle.chw_types.specs.declared.declarations.Data.{Data}
-use Rattle.chw_types.specs.contracts.kind.Scalar as scalar_type
 use Rattle.chw_types.specs.declared.kind.Scalar.{Scalar}
 use Rattle.chw_types.specs.Arguments.{arguments}
-use Rattle.chw_types.specs.SameTypes.{SameTypes}
 use Rattle.chw_types.specs.TypeMoves.{sub}
-use Rattle.chw_types.specs.TypeTree.{TypeTree, TypeTrees, data_of, scalar, nat_lit}
-use Rattle.chw_types.specs.TypeView.{trees_of}
+use Rattle.chw_types.specs.TypeTree.{TypeTree, TypeTrees, data_of}
+use Rattle.chw_types.specs.TypeView.{tree_of as node_tree, trees_of}
+use Rattle.chw_types.specs.declared.ty.TyNode.{TyNode}
+use Rattle.chw_types.specs.declared.ty.TyNode.TheVariants.{DataOf, Unsigned, Signed, BitVector}
 use Rattle.chw_terms.specs.Constructors.{Constructor, con_at, first_con}
 use Rattle.chw_terms.specs.declared.term.Alt.{Alt}
 use Rattle.chw_terms.specs.declared.term.Pattern.TheVariants.{OfCon, OfLit}
 use Rattle.chw_terms.specs.TermTree.{TermTree, con}
 use Rattle.chw_terms.specs.TermView.{alts_of}
-use Rattle.chw_typing.specs.HeadTypes.{PatternOf, of_con, of_lit, widest}
+use Rattle.chw_typing.specs.HeadTypes.{PatternOf, of_con, of_lit}
 use Rattle.chw_layout.specs.Encodes.{first_constructor}
 use Rattle.chw_layout.specs.Measured.{fits, MeasuredFields, tag_width}
 use Rattle.net_built.specs.Bodies.{ValueCells, value_constructor}
@@ -27,6 +24,7 @@ use Rattle.net_built.specs.Data.{constructed, word_of, words_of}
 use Rattle.net_built.specs.Terms.{Variable, wires_of_all}
 use Rattle.net_built.specs.Wires.{Piece, ◌▸◌}
 use Rattle.value_build.specs.Added.{Adds, next}
+use Rattle.value_build.specs.ReadyParts.{IsScalar}
 use Rattle.value_build.specs.Tests.{first_of}
 use Rattle.value_build.proofs.Behind.{adds_one}
 use Rattle.value_build.proofs.Operands.{left_of}
@@ -56,22 +54,53 @@ pattern_there datas it c n d args given fields done t is of are count same type 
     (subst (λ ts. PatternOf datas (data_of d (trees_of args)) (OfCon c n) (map (λ f. sub f (arguments (trees_of ts))) it.decl.fields)) (sym same)
     (of_con it is (sym of) (ap length (sym are) ∙ count)))))
 
-is_set : (b : Bool) → false ≡ not b → b ≡ true
-is_set true e = refl
-is_set false e = absurd cc
+-- the constructor of a pattern for values of the type
+pub record IsOfCon (datas : List Data) (t : TypeTree) (c n : ℕ) : Type 0 where
+  pub it : Constructor
+  pub at : con_at datas c ≡ Some it
+  pub args : TypeTrees
+  pub ty : t ≡ data_of it.of args
+  pub count : length it.decl.fields ≡ n
 
--- sorts that aren't told apart are one
-pub one_sort : (r s : Scalar) → false ≡ not (sameb scalar_type.the_type r s) → r ≡ s
-one_sort r s e = same_true scalar_type.the_type (search rules) r s (is_set (sameb scalar_type.the_type r s) e)
+pub of_con_is : {datas : List Data} {t : TypeTree} {c : ConId} {n : ℕ} {fs : List TypeTree} → PatternOf datas t (OfCon c n) fs → IsOfCon datas t c.number n
+of_con_is (of_con {ts = ts} it at of count) = record { it = it; at = at; args = ts; ty = ap (λ k. data_of k ts) (sym of); count = count }
 
--- a pattern for a literal
-pub literal_there : (t w width : TypeTree) (r s : Scalar) (bits : List Bool) (b : Bool)
-    → t ≡ scalar r w → r ≡ s → length bits ≤ widest → width ≡ nat_lit (length bits) → (IsTrue b ↔ SameTypes w width)
-    → OnTrue b ((datas : List Data) → PatternOf datas t (OfLit s bits) [])
-literal_there t w width r s bits b is same small wide told =
-    OnTrue_from b ((datas : List Data) → PatternOf datas t (OfLit s bits) [])
-    (λ yes datas. subst (λ u. PatternOf datas u (OfLit s bits) []) (sym (is ∙ ap (λ k. scalar k w) same))
-    (of_lit small (subst (SameTypes w) wide (told.0 yes))))
+pub con_there : (datas : List Data) (c : ℕ) (it : Constructor) → con_at datas c ≡ Some it → con_at datas c ≡ None → ⊥
+con_there datas c it at none = let both : Some it ≡ None = sym at ∙ none in absurd cc
+
+pub con_once : (datas : List Data) (c : ℕ) (a b : Constructor) → con_at datas c ≡ Some a → con_at datas c ≡ Some b → a ≡ b
+con_once datas c a b at there = let both : Some a ≡ Some b = sym at ∙ there in cc
+
+abbrev IsData : TypeTree → Type 0
+IsData (data_of d ts) = Unit {0}
+IsData _ = ⊥
+
+other_node : (node : TyNode) → ((x : _) (y : _) → node ≡ DataOf x y → ⊥) → IsData (node_tree node) → ⊥
+other_node (DataOf x y) n r = n x y refl
+other_node _ n r = r
+
+-- data is of a data type
+pub no_other_node : (node : TyNode) (t : TypeTree) (d : ℕ) (ts : TypeTrees) → node_tree node ≡ t → t ≡ data_of d ts
+    → ((x : _) (y : _) → node ≡ DataOf x y → ⊥) → ⊥
+no_other_node node t d ts is ty n = other_node node n (subst IsData (sym (is ∙ ty)) tt)
+
+other_scalar : (node : TyNode) → ((x : _) → node ≡ Unsigned x → ⊥) → ((x : _) → node ≡ Signed x → ⊥) → ((x : _) → node ≡ BitVector x → ⊥)
+    → IsScalar (node_tree node) → ⊥
+other_scalar (Unsigned x) a b c r = a x refl
+other_scalar (Signed x) a b c r = b x refl
+other_scalar (BitVector x) a b c r = c x refl
+other_scalar _ a b c r = r
+
+-- nor is a scalar
+pub no_other_scalar : (node : TyNode) (t : TypeTree) → node_tree node ≡ t
+    → ((x : _) → node ≡ Unsigned x → ⊥) → ((x : _) → node ≡ Signed x → ⊥) → ((x : _) → node ≡ BitVector x → ⊥) → IsScalar t → ⊥
+no_other_scalar node t is a b c r = other_scalar node a b c (subst IsScalar (sym is) r)
+
+pub data_number : (a b : ℕ) (ts us : TypeTrees) → data_of a ts ≡ data_of b us → a ≡ b
+data_number a b ts us e = cc
+
+pub literal_fields : {datas : List Data} {t : TypeTree} {s : Scalar} {bits : List Bool} {fs : List TypeTree} → PatternOf datas t (OfLit s bits) fs → PatternOf datas t (OfLit s bits) []
+literal_fields (of_lit l s) = of_lit l s
 
 -- the cells of a constructor
 pub constructor_made : (ground : Ground) (scope : List Variable) (w c place fields tag : ℕ) (types : List TypeTree) (es : List TermTree)

@@ -1,6 +1,5 @@
 -- Heads on arguments, as heads on types and operands.
-use Rattle.std.proofs.Common.{◌≡◌, ◌∙◌, sym, ap, refl, subst, ℕ, ◌==◌, Bool, true, false, eqb-true, eq-eqb, arith, List, [], ◌∷◌, ◌++◌, length, append_assoc, append-nil}
-use Rattle.chw_base.specs.declared.index.WireId.{WireId}
+use Rattle.std.proofs.Common.{◌≡◌, ◌∙◌, sym, ap, refl, subst, ℕ, ◌==◌, Bool, true, false, eqb-true, eq-eqb, List, [], ◌∷◌, ◌++◌, length, append_assoc, append-nil}
 use Rattle.chw_types.specs.TypeTree.{TypeTree}
 use Rattle.chw_terms.specs.declared.term.Arg.{Arg}
 use Rattle.chw_terms.specs.declared.term.Arg.TheVariants.{OfTerm, OfType}
@@ -9,6 +8,7 @@ use Rattle.chw_terms.specs.declared.term.Head.TheVariants.{Var, Global, Made, La
 use Rattle.chw_terms.specs.TermTree.{TermTree, app, ty_app}
 use Rattle.chw_terms.specs.TermView.{tree_of, applied}
 use Rattle.net_built.specs.Terms.{head_of, types_of, operands_of, Variable, wires_of}
+use Rattle.net_ready.specs.Ready.{args_of}
 use Rattle.value_build.specs.Arguments.{terms_in, types_in}
 
 head_applied : (e : TermTree) (args : List Arg) → head_of (applied e args) ≡ head_of e
@@ -28,24 +28,37 @@ operands_applied e (OfTerm a ∷ args) =
     operands_applied (app e a) args ∙ append_assoc (operands_of e) (a ∷ []) (terms_in args)
 operands_applied e (OfType t ∷ args) = operands_applied (ty_app e t) args
 
+pub args_applied : (e : TermTree) (args : List Arg) → args_of (applied e args) ≡ args_of e ++ args
+args_applied e [] = sym (append-nil (args_of e))
+args_applied e (OfTerm a ∷ args) = args_applied (app e a) args ∙ append_assoc (args_of e) (OfTerm a ∷ []) args
+args_applied e (OfType t ∷ args) = args_applied (ty_app e t) args ∙ append_assoc (args_of e) (OfType t ∷ []) args
+
 -- a head alone
 pub record IsAlone (e : TermTree) : Type 0 where
   pub head : head_of e ≡ e
   pub types : types_of e ≡ []
   pub operands : operands_of e ≡ []
+  pub args : args_of e ≡ []
 
 pub alone : (h : Head) → IsAlone (tree_of h)
-alone (Var x) = record { head = refl; types = refl; operands = refl }
-alone (Global d) = record { head = refl; types = refl; operands = refl }
-alone (Made m) = record { head = refl; types = refl; operands = refl }
-alone (Lam t e) = record { head = refl; types = refl; operands = refl }
-alone (TyLam k e) = record { head = refl; types = refl; operands = refl }
-alone (LetRec bs e) = record { head = refl; types = refl; operands = refl }
-alone (Con c) = record { head = refl; types = refl; operands = refl }
-alone (PrimOf p) = record { head = refl; types = refl; operands = refl }
-alone (Lit s b) = record { head = refl; types = refl; operands = refl }
-alone (VecLit t es) = record { head = refl; types = refl; operands = refl }
-alone (Case e alts) = record { head = refl; types = refl; operands = refl }
+alone (Var x) = record { head = refl; types = refl; operands = refl; args = refl }
+alone (Global d) = record { head = refl; types = refl; operands = refl; args = refl }
+alone (Made m) = record { head = refl; types = refl; operands = refl; args = refl }
+alone (Lam t e) = record { head = refl; types = refl; operands = refl; args = refl }
+alone (TyLam k e) = record { head = refl; types = refl; operands = refl; args = refl }
+alone (LetRec bs e) = record { head = refl; types = refl; operands = refl; args = refl }
+alone (Con c) = record { head = refl; types = refl; operands = refl; args = refl }
+alone (PrimOf p) = record { head = refl; types = refl; operands = refl; args = refl }
+alone (Lit s b) = record { head = refl; types = refl; operands = refl; args = refl }
+alone (VecLit t es) = record { head = refl; types = refl; operands = refl; args = refl }
+alone (Case e alts) = record { head = refl; types = refl; operands = refl; args = refl }
+
+-- the head and the arguments of the whole
+pub head_is : (h : Head) (args : List Arg) (e : TermTree) → applied (tree_of h) args ≡ e → tree_of h ≡ head_of e
+head_is h args e is = let it = alone h in sym it.head ∙ sym (head_applied (tree_of h) args) ∙ ap head_of is
+
+pub args_are : (h : Head) (args : List Arg) (e : TermTree) → applied (tree_of h) args ≡ e → args ≡ args_of e
+args_are h args e is = let it = alone h in sym (args_applied (tree_of h) args ∙ ap (λ xs. xs ++ args) it.args) ∙ ap args_of is
 
 -- what holds of a head with the types and the terms among its arguments holds of the parts of the whole
 pub of_whole : (P : TermTree → List TypeTree → List TermTree → Type 0) (h : Head) (args : List Arg) (e : TermTree)

@@ -7,4 +7,5 @@ pub mod Groups
 pub mod InScope
 pub mod Known
 pub mod Places
+pub mod ReadyParts
 pub mod Tests

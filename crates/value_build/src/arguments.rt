@@ -3,7 +3,6 @@ ghost use Rattle.std.specs.Prelude.{◌≡◌, ◌++◌, ◌∷◌, [], map, sli
 ghost use Rattle.chw_layout.specs.Measured.{closed_value};
 ghost use Rattle.net_built.specs.Bodies.{operand_at};
 ghost use Rattle.net_built.specs.Terms.{wires_of_all};
-ghost use Rattle.std.specs.Bool.{OnTrue};
 ghost use Rattle.value_build.specs.Arguments.{terms_in, types_in};
 ghost use Rattle.value_build.specs.InScope.{in_scope};
 
@@ -126,25 +125,4 @@ pub fn closed_number(t: &Ty) -> u32
         TyNode::Times(a, b) => closed_number(a).saturating_mul(closed_number(b)),
         _ => 0,
     }
-}
-
-fn is_term(arg: &Arg) -> bool
-    ensures { OnTrue result (types_in (arg.now ∷ []) ≡ []) }
-{
-    match arg {
-        Arg::OfTerm(_) => true,
-        Arg::OfType(_) => false,
-    }
-}
-
-/// Whether no argument is a type.
-pub fn are_terms(args: &[Arg]) -> bool
-    ensures { OnTrue result (types_in args.now ≡ []) }
-{
-    for arg in args {
-        if !is_term(arg) {
-            return false;
-        }
-    }
-    true
 }

@@ -5,6 +5,7 @@ ghost use Rattle.chw_layout.specs.Measured.{HasWidth};
 ghost use Rattle.chw_terms.specs.Constructors.{con_at};
 ghost use Rattle.con_places.specs.Constructing.{IsConstructor};
 ghost use Rattle.net_built.specs.Circuits.{module_of};
+ghost use Rattle.value_build.specs.ReadyParts.{IsMeasured};
 
 use crate::places::Places;
 use crate::widths::Widths;
@@ -76,6 +77,7 @@ impl<'a> Base<'a> {
 
     /// How many bits each value of a closed type has, as `Widths::width` says.
     pub fn width(&mut self, alloc: Global, t: &Ty) -> Result<u32, NoMemory>
+        requires { IsMeasured self.old.datas t.now }
         ensures width { IfOk result (HasWidth self.old.datas t.now) }
         ensures same { self.new ≡ self.old }
     {
@@ -98,8 +100,8 @@ impl<'a> Base<'a> {
     }
 
     /// The module of a made definition, as `Places::module_of` says.
-    pub fn module_of(&self, m: MadeId) -> Result<ModId, NoMemory>
-        ensures { IfOk result (λ it. it ≡ module_of self.now m.number) }
+    pub fn module_of(&self, m: MadeId) -> ModId
+        ensures { result ≡ module_of self.now m.number }
     {
         self.places.module_of(m)
     }

@@ -1,5 +1,5 @@
 //! What a case tests, and the choice of its results.
-ghost use Rattle.std.specs.Prelude.{◌≡◌, ◌-◌, ◌∷◌, [], IfOk, OnOk};
+ghost use Rattle.std.specs.Prelude.{◌≡◌, ℕ, ◌-◌, ◌∷◌, [], IfOk, OnOk};
 ghost use Rattle.chw_bits.specs.Bits.{bits_of};
 ghost use Rattle.chw_layout.specs.Measured.{tag_width};
 ghost use Rattle.chw_terms.specs.TermView.{alts_of};
@@ -7,7 +7,9 @@ ghost use Rattle.net_built.specs.Data.{constructor_count, last_of, tested_of, wo
 ghost use Rattle.net_built.specs.Wires.{wire, one, ◌▸◌, new_wires, wire_count, wires_from};
 ghost use Rattle.net_built.specs.Words.{only};
 ghost use Rattle.netlist.specs.declared.net.Cell.TheVariants.{Cut};
+ghost use Rattle.chw_terms.specs.declared.term.Pattern.TheVariants.{OfCon};
 ghost use Rattle.value_build.specs.Added.{next};
+ghost use Rattle.value_build.specs.ReadyParts.{AreAlternatives, IsPattern};
 ghost use Rattle.value_build.specs.Tests.{first_of, IsTested, IsChoice};
 
 use crate::base::Base;
@@ -85,22 +87,18 @@ fn constructor_word(
     bits: u32,
     at: ConId,
 ) -> Result<Bits, NoMemory>
+    requires { (n : ℕ) × IsPattern base.now.datas ty.now (OfCon at n) }
     ensures { IfOk result (λ b. b ≡ bits_of bits (at.number - first_of base.now.datas ty.now)) }
 {
     let Some(it) = base.constructor(at) else {
-        return Err(NoMemory);
+        unreachable!();
     };
-    let TyNode::DataOf(of, _) = &ty.node else {
-        return Err(NoMemory);
-    };
-    if of.number != it.of.number {
-        return Err(NoMemory);
-    }
     parts::number(alloc, bits, it.place)
 }
 
 // The word of so many bits for which an alternative on values of this type stands.
 fn word(alloc: Global, base: &Base<'_>, ty: &Ty, bits: u32, q: &Pattern) -> Result<Bits, NoMemory>
+    requires { IsPattern base.now.datas ty.now q.now }
     ensures { IfOk result (λ b. b ≡ word_of bits (first_of base.now.datas ty.now) q.now) }
 {
     match q {
@@ -118,6 +116,7 @@ fn words(
     bits: u32,
     alts: &[Alt],
 ) -> Result<Vec<Bits>, NoMemory>
+    requires { AreAlternatives base.now.datas ty.now (alts_of alts.now) }
     ensures { IfOk result (λ ws. ws.items ≡ words_of bits (first_of base.now.datas ty.now) (alts_of alts.now)) }
 {
     let mut words = Vec::new(alloc);
@@ -157,6 +156,7 @@ pub(crate) fn choice(
     results: &[Seq<WireId>],
     w: u32,
 ) -> Result<Seq<WireId>, NoMemory>
+    requires { AreAlternatives base.now.datas ty.now (alts_of alts.now) }
     ensures { IfOk result (IsChoice on.now.bits on.now.wires
         (words_of on.now.bits (first_of base.now.datas ty.now) (alts_of alts.now)) results.now w into.old into.new) }
 {

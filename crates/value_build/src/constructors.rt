@@ -6,9 +6,11 @@ ghost use Rattle.chw_types.specs.Arguments.{arguments};
 ghost use Rattle.chw_types.specs.TypeMoves.{sub};
 ghost use Rattle.chw_types.specs.TypeView.{trees_of};
 ghost use Rattle.net_built.specs.Bodies.{ValueCells};
+ghost use Rattle.net_ready.specs.Ready.{ConstructorReady};
 ghost use Rattle.value_build.specs.Added.{Adds, next};
 ghost use Rattle.value_build.specs.Arguments.{terms_in, types_in};
 ghost use Rattle.value_build.specs.InScope.{in_scope};
+ghost use Rattle.value_build.specs.ReadyParts.{FieldsMeasured, IsMeasured};
 
 use crate::arguments::{operand_wires, types};
 use crate::base::Base;
@@ -22,6 +24,7 @@ use std::alloc::Global;
 
 // The width of a field with the arguments put in.
 fn field_width(alloc: Global, base: &mut Base<'_>, field: &Ty, args: &[Ty]) -> Result<u32, NoMemory>
+    requires { IsMeasured base.old.datas (sub field.now (arguments (trees_of args.now))) }
     ensures width { IfOk result (HasWidth base.old.datas (sub field.now (arguments (trees_of args.now)))) }
     ensures same { base.new ≡ base.old }
 {
@@ -38,6 +41,7 @@ fn fields_width(
     fields: &[Ty],
     args: &[Ty],
 ) -> Result<u32, NoMemory>
+    requires { FieldsMeasured base.old.datas fields.now (arguments (trees_of args.now)) }
     ensures width { IfOk result (λ w. MeasuredFields base.old.datas fields.now (arguments (trees_of args.now)) (fits w)) }
     ensures same { base.new ≡ base.old }
 {
@@ -56,6 +60,7 @@ fn fields_width_at(
     fields: &[Ty],
     args: &[Arg],
 ) -> Result<u32, NoMemory>
+    requires { FieldsMeasured base.old.datas fields.now (arguments (trees_of (types_in args.now))) }
     ensures width { IfOk result (λ w. MeasuredFields base.old.datas fields.now (arguments (trees_of (types_in args.now))) (fits w)) }
     ensures same { base.new ≡ base.old }
 {
@@ -75,12 +80,13 @@ pub(crate) fn built(
     c: ConId,
     args: &[Arg],
 ) -> Result<(), NoMemory>
+    requires { ConstructorReady base.old.datas c.number args.now }
     ensures cells { OnOk result (Adds (ValueCells base.old (in_scope scope.now) (next into.old) w
         (con c.number) (types_in args.now) (terms_in args.now)) into.old into.new) }
     ensures same { base.new ≡ base.old }
 {
     let Some(it) = base.constructor(c) else {
-        return Err(NoMemory);
+        unreachable!();
     };
     let fields = fields_width_at(alloc, base, it.decl.fields.as_slice(), args)?;
     let wires = operand_wires(alloc, scope, args)?;

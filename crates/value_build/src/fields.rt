@@ -1,24 +1,21 @@
 //! The fields of patterns: their types, their widths, and their variables.
-ghost use Rattle.std.specs.Prelude.{◌≡◌, ◌++◌, [], List, map, length, IfOk, IfSome, OnOk};
-ghost use Rattle.std.specs.Bool.{OnTrue};
+ghost use Rattle.std.specs.Prelude.{◌≡◌, ◌++◌, map, length, IfOk, OnOk};
 ghost use Rattle.chw_types.specs.Arguments.{arguments};
 ghost use Rattle.chw_types.specs.TypeMoves.{sub};
 ghost use Rattle.chw_types.specs.TypeTree.{scalar};
 ghost use Rattle.chw_types.specs.TypeView.{trees_of};
 ghost use Rattle.chw_typing.specs.HeadTypes.{PatternOf};
 ghost use Rattle.net_built.specs.Data.{HaveWidths, variables_from};
-ghost use Rattle.chw_terms.specs.declared.term.Pattern.TheVariants.{OfCon, OfLit};
-ghost use Rattle.chw_types.specs.declared.declarations.Data.{Data};
+ghost use Rattle.chw_terms.specs.declared.term.Pattern.TheVariants.{OfCon};
 ghost use Rattle.value_build.specs.Alternatives.{AreFields, IsBound};
 ghost use Rattle.value_build.specs.InScope.{as_variable, as_variables};
+ghost use Rattle.value_build.specs.ReadyParts.{AreMeasured, IsPattern, IsScalar, PatternReady};
 
 use crate::base::Base;
 use crate::scope::{Variable, push_part};
-use chw_base::limits::SCALAR_BITS;
 use chw_base::{ConId, NoMemory};
-use chw_bits::Bits;
 use chw_terms::Pattern;
-use chw_types::{Scalar, Ty, TyNode, put_arguments, same};
+use chw_types::{Scalar, Ty, TyNode, put_arguments};
 use net_pieces::{Pieces, data, parts};
 use std::alloc::Global;
 
@@ -41,68 +38,44 @@ fn constructor_fields(
     at: ConId,
     names: u32,
 ) -> Result<Vec<Ty>, NoMemory>
+    requires { IsPattern base.now.datas ty.now (OfCon at names) }
     ensures { IfOk result (λ ts. PatternOf base.now.datas ty.now (OfCon at names) ts.items) }
 {
     let Some(it) = base.constructor(at) else {
-        return Err(NoMemory);
+        unreachable!();
     };
-    let TyNode::DataOf(of, args) = &ty.node else {
-        return Err(NoMemory);
+    let TyNode::DataOf(_, args) = &ty.node else {
+        unreachable!();
     };
-    let fields = it.decl.fields.as_slice();
-    if of.number != it.of.number || fields.len() != names as usize {
-        return Err(NoMemory);
-    }
-    fields_put(alloc, fields, args)
+    fields_put(alloc, it.decl.fields.as_slice(), args)
 }
 
-/// The sort and the width of a scalar.
-pub fn scalar_parts(ty: &Ty) -> Option<(Scalar, &Ty)>
-    ensures { IfSome result (λ p. ty.now ≡ scalar p.0 p.1.now) }
+/// The sort and the width of a type, which is a scalar.
+pub fn scalar_parts(ty: &Ty) -> (Scalar, &Ty)
+    requires { IsScalar ty.now }
+    ensures { ty.now ≡ scalar result.0 result.1.now }
 {
     match &ty.node {
-        TyNode::Unsigned(w) => Some((Scalar::U, w)),
-        TyNode::Signed(w) => Some((Scalar::S, w)),
-        TyNode::BitVector(w) => Some((Scalar::B, w)),
-        _ => None,
+        TyNode::Unsigned(w) => (Scalar::U, w),
+        TyNode::Signed(w) => (Scalar::S, w),
+        TyNode::BitVector(w) => (Scalar::B, w),
+        _ => unreachable!(),
     }
-}
-
-// Whether a literal of this sort and these bits is one of the type.
-fn is_literal_of(alloc: Global, ty: &Ty, sort: Scalar, bits: &Bits) -> Result<bool, NoMemory>
-    ensures { IfOk result (λ is. OnTrue is ((datas : List Data) → PatternOf datas ty.now (OfLit sort bits.now) [])) }
-{
-    let Some((s, w)) = scalar_parts(ty) else {
-        return Ok(false);
-    };
-    if s != sort || SCALAR_BITS < bits.len() {
-        return Ok(false);
-    }
-    let width = Ty::nat(bits.len());
-    let is = same(alloc, w, &width);
-    drop(width);
-    is
 }
 
 /// The types of the variables that a pattern for values of this type binds.
-///
-/// A pattern for other values finds no memory. No case of a normal state has one.
 pub fn pattern_fields(
     alloc: Global,
     base: &Base<'_>,
     ty: &Ty,
     q: &Pattern,
 ) -> Result<Vec<Ty>, NoMemory>
+    requires { IsPattern base.now.datas ty.now q.now }
     ensures { IfOk result (λ ts. PatternOf base.now.datas ty.now q.now ts.items) }
 {
     match q {
         Pattern::OfCon(at, names) => constructor_fields(alloc, base, ty, *at, *names),
-        Pattern::OfLit(sort, bits) => {
-            if !is_literal_of(alloc, ty, *sort, bits)? {
-                return Err(NoMemory);
-            }
-            Ok(Vec::new(alloc))
-        }
+        Pattern::OfLit(_, _) => Ok(Vec::new(alloc)),
         Pattern::Default => Ok(Vec::new(alloc)),
     }
 }
@@ -113,6 +86,7 @@ pub(crate) fn widths_of(
     base: &mut Base<'_>,
     types: &[Ty],
 ) -> Result<Vec<u32>, NoMemory>
+    requires { AreMeasured base.old.datas types.now }
     ensures widths { IfOk result (λ ws. HaveWidths base.old.datas types.now ws.items) }
     ensures same { base.new ≡ base.old }
 {
@@ -153,6 +127,7 @@ pub(crate) fn bind_fields(
     below: u32,
     q: &Pattern,
 ) -> Result<(), NoMemory>
+    requires { PatternReady base.old.datas it.now.ty q.now }
     ensures bound { OnOk result (IsBound base.old (as_variable it.now) below q.now into.old into.new (as_variables scope.old.items) (as_variables scope.new.items)) }
     ensures base { base.new ≡ base.old }
 {
@@ -172,6 +147,7 @@ fn cut_fields(
     below: u32,
     types: &[Ty],
 ) -> Result<(), NoMemory>
+    requires { AreMeasured base.old.datas types.now }
     ensures bound { OnOk result (AreFields base.old (as_variable it.now) below types.now into.old into.new (as_variables scope.old.items) (as_variables scope.new.items)) }
     ensures base { base.new ≡ base.old }
 {

@@ -1,10 +1,12 @@
 //! The variables in scope.
-ghost use Rattle.std.specs.Prelude.{◌≡◌, ◌++◌, ◌∷◌, [], Some, slice_get, slice_index_or, IfOk, IfSome, OnOk};
+ghost use Rattle.std.specs.Prelude.{◌≡◌, ◌<◌, ◌++◌, ◌∷◌, [], length, Some, IfOk, OnOk};
+ghost use Rattle.std.specs.Prelude.{slice_get, slice_index_or};
 ghost use Rattle.chw_terms.specs.TermTree.{var};
 ghost use Rattle.net_built.specs.Terms.{variable, wires_at, wires_of};
 ghost use Rattle.net_built.specs.Wires.{new_wires};
 ghost use Rattle.value_build.specs.Groups.{bound_of};
 ghost use Rattle.value_build.specs.InScope.{as_variable, as_variables, in_scope};
+ghost use Rattle.value_build.specs.ReadyParts.{IsName};
 
 use chw_base::{NoMemory, Seq, VarIx, WireId};
 use chw_terms::{Binding, Head, Term};
@@ -52,12 +54,10 @@ pub fn copy_wires(alloc: Global, wires: &[WireId]) -> Result<Seq<WireId>, NoMemo
 
 /// A variable in scope once more.
 pub fn variable_at(alloc: Global, scope: &[Variable], x: VarIx) -> Result<Variable, NoMemory>
+    requires { x.number < length scope.now }
     ensures { IfOk result (λ it. slice_get (in_scope scope.now) x.number ≡ Some (as_variable it)) }
 {
     let number = x.number as usize;
-    if scope.len() <= number {
-        return Err(NoMemory);
-    }
     let it = &scope[scope.len() - 1 - number];
     let wires = copy_wires(alloc, it.wires.as_slice())?;
     let ty = it.ty.copy(alloc)?;
@@ -95,16 +95,14 @@ pub(crate) fn push_part(
     push(alloc, scope, ty, wires.as_slice())
 }
 
-/// The variable that a term is.
-pub fn variable_of(e: &Term) -> Option<VarIx>
-    ensures { IfSome result (λ x. e.now ≡ var x.number) }
+/// The variable that a term is, which is one.
+pub fn name_of(e: &Term) -> VarIx
+    requires { IsName e.now }
+    ensures { e.now ≡ var result.number }
 {
-    if !e.args.is_empty() {
-        return None;
-    }
     match &e.head {
-        Head::Var(x) => Some(*x),
-        _ => None,
+        Head::Var(x) => *x,
+        _ => unreachable!(),
     }
 }
 

@@ -1,116 +1,41 @@
 //! The cells of right sides that are no cases.
-ghost use Rattle.std.specs.Prelude.{◌≡◌, ◌∷◌, [], IfSome, OnOk};
-ghost use Rattle.std.specs.Bool.{OnTrue};
-ghost use Rattle.chw_terms.specs.declared.term.Arg.TheVariants.{OfTerm, OfType};
-ghost use Rattle.chw_terms.specs.TermTree.{made, prim, vec_lit};
+ghost use Rattle.std.specs.Prelude.{◌≡◌, ℕ, [], OnOk};
+ghost use Rattle.chw_terms.specs.TermTree.{made, prim, var, vec_lit};
 ghost use Rattle.chw_terms.specs.TermView.{tree_of, terms_of};
 ghost use Rattle.chw_prims.specs.declared.prim.Primitive.TheVariants.{VGet, VAt};
 ghost use Rattle.chw_types.specs.TypeTree.{TypeTree};
 ghost use Rattle.net_built.specs.Bodies.{ValueCells};
 ghost use Rattle.net_built.specs.Circuits.{Ground};
 ghost use Rattle.net_built.specs.Terms.{head_of, types_of, operands_of};
+ghost use Rattle.net_built.specs.Wires.{wire, one, ◌▸◌};
+ghost use Rattle.netlist.specs.declared.net.Cell.TheVariants.{Const};
+ghost use Rattle.net_ready.specs.Ready.{args_of, AreNames, ElementReady, ElementAtReady};
+ghost use Rattle.net_ready.specs.Ready.{PrimitiveReady, ValueReady};
 ghost use Rattle.rewriting.specs.Spots.{IsOnWords};
 ghost use Rattle.value_build.specs.Added.{Adds, next};
 ghost use Rattle.value_build.specs.Arguments.{terms_in, types_in};
 ghost use Rattle.value_build.specs.InScope.{in_scope};
 
-use crate::arguments::{
-    are_terms, closed_number, element_wires, number_at, operand_at, operand_wires,
-};
+use crate::arguments::{element_wires, number_at, operand_at, operand_wires};
 use crate::base::Base;
 use crate::constructors::built;
-use crate::scope::{Variable, wires_at, wires_of};
-use chw_base::{MadeId, NoMemory, Seq};
-use chw_prims::{Prim, Row};
+use crate::scope::{Variable, wires_at};
+use chw_base::{MadeId, NoMemory, Seq, VarIx};
+use chw_bits::Bits;
+use chw_prims::Prim;
 use chw_terms::{Arg, Head, Term};
-use chw_types::Ty;
 use net_pieces::{Pieces, copies, vectors, words};
 use netlist::Cell;
 use std::alloc::Global;
 
-// Whether a primitive is one on words.
-fn is_on_words(which: Prim) -> bool
-    ensures { OnTrue result (IsOnWords which) }
-{
-    match Row::of(which) {
-        Row::Binary(_) | Row::WideSum(_) | Row::WideProduct(_) | Row::Unary(_) => true,
-        Row::Shift(_) | Row::Compare(_) | Row::Extend(_) | Row::Truncate(_) => true,
-        Row::Cut | Row::Joined | Row::Reduce | Row::Packed(_) | Row::Unpacked(_) => true,
-        _ => false,
-    }
-}
-
-// The arguments of an element of a vector.
-#[derive(Clone, Copy)]
-struct OfVector<'t> {
-    first: &'t Ty,
-    second: &'t Ty,
-    third: &'t Ty,
-    vector: &'t Term,
-}
-
-// Three types and a term as arguments.
-fn of_vector<'t>(args: &'t [Arg]) -> Option<OfVector<'t>>
-    ensures { IfSome result (λ p. args.now ≡ OfType p.first.now ∷ OfType p.second.now ∷ OfType p.third.now ∷ OfTerm p.vector.now ∷ []) }
-{
-    match args {
-        [
-            Arg::OfType(first),
-            Arg::OfType(second),
-            Arg::OfType(third),
-            Arg::OfTerm(vector),
-        ] => Some(OfVector {
-            first,
-            second,
-            third,
-            vector,
-        }),
-        _ => None,
-    }
-}
-
 // An element of a vector, by a number of the type.
 fn element(scope: &[Variable], into: &mut Pieces, w: u32, args: &[Arg]) -> Result<(), NoMemory>
+    requires { ElementReady args.now }
     ensures { OnOk result ((g : Ground) → Adds (ValueCells g (in_scope scope.now) (next into.old) w (prim VGet)
         (types_in args.now) (terms_in args.now)) into.old into.new) }
 {
-    let Some(p) = of_vector(args) else {
-        return Err(NoMemory);
-    };
-    let behind = closed_number(p.second);
-    vectors::element(into, w, behind, wires_of(scope, p.vector))
-}
-
-// The arguments of an element of a vector by a word.
-#[derive(Clone, Copy)]
-struct ByWord<'t> {
-    length: &'t Ty,
-    bits: &'t Ty,
-    element: &'t Ty,
-    vector: &'t Term,
-    index: &'t Term,
-}
-
-// Three types and two terms as arguments.
-fn by_word<'t>(args: &'t [Arg]) -> Option<ByWord<'t>>
-    ensures { IfSome result (λ p. args.now ≡ OfType p.length.now ∷ OfType p.bits.now ∷ OfType p.element.now ∷ OfTerm p.vector.now ∷ OfTerm p.index.now ∷ []) }
-{
-    match args {
-        [
-            Arg::OfType(length),
-            Arg::OfType(bits),
-            Arg::OfType(element),
-            Arg::OfTerm(vector),
-            Arg::OfTerm(index),
-        ] => Some(ByWord {
-            length,
-            bits,
-            element,
-            vector,
-            index,
-        }),
-        _ => None,
-    }
+    let behind = number_at(args, 1);
+    vectors::element(into, w, behind, operand_at(scope, args, 0))
 }
 
 // An element of a vector, by a word.
@@ -121,16 +46,12 @@ fn element_at(
     w: u32,
     args: &[Arg],
 ) -> Result<(), NoMemory>
+    requires { ElementAtReady args.now }
     ensures { OnOk result ((g : Ground) → Adds (ValueCells g (in_scope scope.now) (next into.old) w (prim VAt)
         (types_in args.now) (terms_in args.now)) into.old into.new) }
 {
-    let Some(p) = by_word(args) else {
-        return Err(NoMemory);
-    };
-    let n = closed_number(p.length);
-    let k = closed_number(p.bits);
-    let v = wires_of(scope, p.vector);
-    let i = wires_of(scope, p.index);
+    let (n, k) = (number_at(args, 0), number_at(args, 1));
+    let (v, i) = (operand_at(scope, args, 0), operand_at(scope, args, 1));
     vectors::element_at(into, alloc, w, n, k, v, i)
 }
 
@@ -143,17 +64,29 @@ fn primitive(
     which: Prim,
     args: &[Arg],
 ) -> Result<(), NoMemory>
+    requires { PrimitiveReady which args.now }
     ensures { OnOk result ((g : Ground) → Adds (ValueCells g (in_scope scope.now) (next into.old) w (prim which)
         (types_in args.now) (terms_in args.now)) into.old into.new) }
 {
     match which {
-        Prim::VGet => return element(scope, into, w, args),
-        Prim::VAt => return element_at(alloc, scope, into, w, args),
-        _ => {}
+        Prim::VGet => element(scope, into, w, args),
+        Prim::VAt => element_at(alloc, scope, into, w, args),
+        _ => on_words(alloc, scope, into, which, args),
     }
-    if !is_on_words(which) {
-        return Err(NoMemory);
-    }
+}
+
+// A primitive on words.
+fn on_words(
+    alloc: Global,
+    scope: &[Variable],
+    into: &mut Pieces,
+    which: Prim,
+    args: &[Arg],
+) -> Result<(), NoMemory>
+    requires { IsOnWords which }
+    ensures { OnOk result ((g : Ground) (w : ℕ) → Adds (ValueCells g (in_scope scope.now) (next into.old) w (prim which)
+        (types_in args.now) (terms_in args.now)) into.old into.new) }
+{
     let (n, m) = (number_at(args, 0), number_at(args, 1));
     let (a, b) = (operand_at(scope, args, 0), operand_at(scope, args, 1));
     words::word_cells(into, alloc, which, n, m, a, b)
@@ -185,37 +118,29 @@ fn call(
     m: MadeId,
     args: &[Arg],
 ) -> Result<(), NoMemory>
+    requires { AreNames args.now }
     ensures { OnOk result (Adds (ValueCells base.now (in_scope scope.now) (next into.old) w (made m.number)
         (types_in args.now) (terms_in args.now)) into.old into.new) }
 {
-    if !are_terms(args) {
-        return Err(NoMemory);
-    }
-    let callee = base.module_of(m)?;
+    let callee = base.module_of(m);
     let reads = operand_wires(alloc, scope, args)?;
     copies::used(into, alloc, callee, &reads, &[w])
 }
 
-// The cells of a head without arguments.
-fn bare_cells(
-    alloc: Global,
-    scope: &[Variable],
-    into: &mut Pieces,
-    w: u32,
-    head: &Head,
-) -> Result<(), NoMemory>
+// A variable.
+fn copy(scope: &[Variable], into: &mut Pieces, w: u32, x: VarIx) -> Result<(), NoMemory>
     ensures { OnOk result ((g : Ground) → Adds (ValueCells g (in_scope scope.now) (next into.old) w
-        (tree_of head.now) [] []) into.old into.new) }
+        (var x.number) [] []) into.old into.new) }
 {
-    match head {
-        Head::Var(x) => copies::copies(into, wires_at(scope, *x), &[w]),
-        Head::Lit(_, bits) => {
-            let bits = bits.copy(alloc)?;
-            copies::constant(into, w, bits)
-        }
-        Head::VecLit(_, elements) => vector(alloc, scope, into, w, elements),
-        _ => Err(NoMemory),
-    }
+    copies::copies(into, wires_at(scope, x), &[w])
+}
+
+// A literal of these bits.
+fn literal(alloc: Global, into: &mut Pieces, w: u32, bits: &Bits) -> Result<(), NoMemory>
+    ensures { OnOk result (into.new ≡ into.old ▸ one w (Const (wire (next into.old)) bits.now)) }
+{
+    let bits = bits.copy(alloc)?;
+    copies::constant(into, w, bits)
 }
 
 // The cells of a head on arguments.
@@ -228,6 +153,7 @@ fn applied_cells(
     head: &Head,
     args: &[Arg],
 ) -> Result<(), NoMemory>
+    requires { ValueReady base.old.datas (tree_of head.now) args.now }
     ensures cells { OnOk result (Adds (ValueCells base.old (in_scope scope.now) (next into.old) w
         (tree_of head.now) (types_in args.now) (terms_in args.now)) into.old into.new) }
     ensures same { base.new ≡ base.old }
@@ -236,18 +162,14 @@ fn applied_cells(
         Head::Con(c) => built(alloc, base, scope, into, w, *c, args),
         Head::PrimOf(which) => primitive(alloc, scope, into, w, *which, args),
         Head::Made(m) => call(alloc, base, scope, into, w, *m, args),
-        _ => {
-            if !args.is_empty() {
-                return Err(NoMemory);
-            }
-            bare_cells(alloc, scope, into, w, head)
-        }
+        Head::Var(x) => copy(scope, into, w, *x),
+        Head::Lit(_, bits) => literal(alloc, into, w, bits),
+        Head::VecLit(_, elements) => vector(alloc, scope, into, w, elements),
+        _ => unreachable!(),
     }
 }
 
 /// Appends the cells of a right side of so many bits, which is no case.
-///
-/// A term that is no right side finds no memory. No block of a normal state has one.
 pub(crate) fn value_cells(
     alloc: Global,
     base: &mut Base<'_>,
@@ -256,6 +178,7 @@ pub(crate) fn value_cells(
     w: u32,
     e: &Term,
 ) -> Result<(), NoMemory>
+    requires { ValueReady base.old.datas (head_of e.now) (args_of e.now) }
     ensures cells { OnOk result (Adds (ValueCells base.old (in_scope scope.now) (next into.old) w
         (head_of e.now) (types_of e.now) (operands_of e.now)) into.old into.new) }
     ensures same { base.new ≡ base.old }

@@ -1,10 +1,13 @@
 //! The widths of types, each worked out once.
 ghost use Rattle.std.specs.Prelude.{◌≡◌, ◌<◌, ◌^◌, length, IfOk, OnOk};
+ghost use Rattle.chw_base.specs.Outcome.{OfFault};
 ghost use Rattle.chw_types.specs.References.{HasNoCycle};
 ghost use Rattle.chw_layout.specs.Measured.{HasWidth};
 ghost use Rattle.value_build.specs.Known.{Keeps, KeepsKnown};
+ghost use Rattle.value_build.specs.ReadyParts.{IsMeasured};
 
 use chw_base::{NoMemory, Or};
+use chw_layout::NoLayout;
 use chw_types::{Data, Ty};
 use std::alloc::Global;
 use std::marker::Model;
@@ -61,9 +64,8 @@ impl<'a> Widths<'a> {
     }
 
     /// How many bits each value of a closed type has.
-    ///
-    /// A type that has no width finds no memory. No type of a normal state is one.
     pub fn width(&mut self, alloc: Global, t: &Ty) -> Result<u32, NoMemory>
+        requires { IsMeasured self.old t.now }
         ensures width { IfOk result (HasWidth self.old t.now) }
         ensures same { self.new ≡ self.old }
     {
@@ -79,13 +81,23 @@ impl<'a> Widths<'a> {
 
 // The width of a type that has one.
 fn measured(alloc: Global, t: &Ty, datas: &[Data]) -> Result<u32, NoMemory>
-    requires { HasNoCycle datas.now }
+    requires order { HasNoCycle datas.now }
+    requires measured { IsMeasured datas.now t.now }
     ensures { IfOk result (HasWidth datas.now t.now) }
 {
     match chw_layout::width(alloc, t, datas) {
         Ok(width) => Ok(width),
-        Err(Or::Memory) => Err(NoMemory),
-        Err(Or::Fault(_)) => Err(NoMemory),
+        Err(why) => Err(want_of_memory(why)),
+    }
+}
+
+// Want of memory, where an answer is no fault.
+fn want_of_memory(why: Or<NoLayout>) -> NoMemory
+    requires { OfFault why (λ _. ⊥) }
+{
+    match why {
+        Or::Memory => NoMemory,
+        Or::Fault(_) => unreachable!(),
     }
 }
 

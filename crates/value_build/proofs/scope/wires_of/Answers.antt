@@ -1,6 +1,5 @@
-use Rattle.std.proofs.Common.{◌≡◌, ◌∙◌, [], ap, sym, subst}
-use Rattle.chw_terms.specs.TermTree.{var}
-use Rattle.chw_terms.specs.TermView.{tree_of, applied}
+use Rattle.std.proofs.Common.{◌∙◌, ap, sym}
+use Rattle.chw_terms.specs.TermView.{tree_of}
 use Rattle.net_built.specs.Terms.{wires_of}
 use Rattle.value_build.specs.InScope.{in_scope}
 use Rattle.value_build.proofs.Spines.{no_args, some_args, bare_is, no_wires_on, no_wires}

@@ -1,28 +1,18 @@
-use Rattle.std.proofs.Common.{◌≡◌, ◌∙◌, map}
-use Rattle.std.specs.List.{slice_index}
-use Rattle.std.proofs.lemmas.Bool.{OnTrue_at}
+use Rattle.std.proofs.Common.{subst}
 use Rattle.std.proofs.lemmas.Result.{on_ok_weaker}
-use Rattle.chw_layout.specs.Measured.{closed_value}
-use Rattle.chw_terms.specs.TermTree.{prim}
-use Rattle.net_built.specs.Bodies.{ValueCells, value_primitive, operand_at}
-use Rattle.net_built.specs.Words.{word_cells}
-use Rattle.net_built.specs.Wires.{◌▸◌}
-use Rattle.value_build.specs.Added.{next}
-use Rattle.value_build.specs.Arguments.{terms_in, types_in}
-use Rattle.value_build.specs.InScope.{in_scope}
-use Rattle.value_build.proofs.Behind.{adds_one}
+use Rattle.chw_prims.specs.declared.prim.Primitive.{Primitive as Prim}
+use Rattle.net_ready.specs.Ready.{PrimitiveReady}
+use Rattle.value_build.proofs.Heads.{words_ready}
 use Rattle.value_build.proofs.sides.primitive.Goals as goal
 
-pub returns : goal.returns
-returns c =
-    let s = c.args.into.now in
-    let scope = in_scope c.args.scope.now in
-    let which = c.args.which in
-    let ts = types_in c.args.args.now in
-    let es = terms_in c.args.args.now in
-    on_ok_weaker c.word_cells.result
-    (λ is ground. adds_one (ValueCells ground scope (next s) c.args.w (prim which) ts es) s c.word_cells.new.into
-    (word_cells which (slice_index (map closed_value ts) 0) (slice_index (map closed_value ts) 1) (next s) (operand_at scope es 0) (operand_at scope es 1))
-    (is ∙ (λ i. s ▸ word_cells which (c.number_at-n.ensures i) (c.number_at-m.ensures i) (next s) (c.operand_at-a.ensures i) (c.operand_at-b.ensures i)))
-    (value_primitive (OnTrue_at c.if-not-is_on_words.false c.is_on_words.ensures)))
-    c.word_cells.ensures
+pub element-requires : goal.element-requires
+element-requires c = subst (λ (p : Prim). PrimitiveReady p c.args.args.now) c.in-VGet.is c.requires
+
+pub element_at-requires : goal.element_at-requires
+element_at-requires c = subst (λ (p : Prim). PrimitiveReady p c.args.args.now) c.in-VAt.is c.requires
+
+pub on_words-requires : goal.on_words-requires
+on_words-requires c = words_ready c.args.which c.args.args.now c.in_default.not-VGet c.in_default.not-VAt c.requires
+
+pub returns-in_default : goal.returns-in_default
+returns-in_default c = on_ok_weaker c.on_words.result (λ adds ground. adds ground c.args.w) c.on_words.ensures
