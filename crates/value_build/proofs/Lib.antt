@@ -1,4 +1,6 @@
 pub mod Behind
+pub mod DraftParts
+pub mod DraftRows
 pub mod Heads
 pub mod Kept
 pub mod Lambdas
@@ -6,6 +8,7 @@ pub mod Measures
 pub mod Operands
 pub mod Ordered
 pub mod Parts
+pub mod Passing
 pub mod Patterns
 pub mod Ready
 pub mod Rows

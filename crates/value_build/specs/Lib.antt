@@ -2,10 +2,12 @@ pub mod Added
 pub mod Alternatives
 pub mod Arguments
 pub mod Bodies
+pub mod Drafting
 pub mod Grounds
 pub mod Groups
 pub mod InScope
 pub mod Known
+pub mod Passing
 pub mod Places
 pub mod ReadyParts
 pub mod Tests

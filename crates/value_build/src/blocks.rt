@@ -1,53 +1,54 @@
-//! Blocks: letrecs, their right sides, and the alternatives of cases.
-ghost use Rattle.std.specs.Prelude.{◌≡◌, IfOk, OnOk, IsTrue};
+//! Blocks: letrecs, their right sides, and the alternatives of cases. What is built is a draft: a letrec's bindings have the wires that are known.
+ghost use Rattle.std.specs.Prelude.{◌≡◌, ℕ, [], IfOk, OnOk};
 ghost use Rattle.chw_terms.specs.declared.scene.Sort.TheVariants.{Value};
 ghost use Rattle.chw_terms.specs.TermTree.{letrec, case_of};
 ghost use Rattle.chw_terms.specs.TermView.{group_of, alts_of};
-ghost use Rattle.net_built.specs.Bodies.{BlockBuilt, GroupBuilt, SideBuilt, AltsBuilt};
-ghost use Rattle.value_build.specs.Added.{Adds, next};
-ghost use Rattle.value_build.specs.Alternatives.{AltBuilt, IsCase};
 ghost use Rattle.chw_layout.specs.Measured.{HasWidth};
 ghost use Rattle.chw_types.specs.TypeTree.{TypeTree};
-ghost use Rattle.value_build.specs.Groups.{bound_of};
+ghost use Rattle.net_built.specs.Terms.{head_of};
+ghost use Rattle.net_ready.specs.Drafts.{Known, AltsDrafted, BlockDrafted, GroupDrafted};
+ghost use Rattle.net_ready.specs.Drafts.{SideDrafted};
+ghost use Rattle.net_ready.specs.Ready.{types_on, args_of, AltsReady, BlockReady, GroupReady};
+ghost use Rattle.net_ready.specs.Ready.{SideReady, ValueReady};
+ghost use Rattle.value_build.specs.Added.{Adds, next};
+ghost use Rattle.value_build.specs.Drafting.{AltDrafted, CaseDrafted, Drafts};
 ghost use Rattle.value_build.specs.InScope.{in_scope, as_variable};
+ghost use Rattle.value_build.specs.ReadyParts.{AltReady, CaseReady, IsMeasured};
 
 use crate::base::Base;
 use crate::cases::{choice, cut_tested, last_wires};
-use crate::drafts::{Draft, Expected, Wires, expected_at, settle};
+use crate::drafts::{Draft, Wires, known_at};
 use crate::fields::bind_fields;
-use crate::scope::{Variable, copy_wires, enter, variable_at, variable_of, wires_at};
+use crate::scope::{Variable, copy_wires, enter, name_of, variable_at, wires_at};
 use crate::sides::value_cells;
 use chw_base::{NoMemory, Seq, WireId};
 use chw_terms::{Alt, Binding, Head, Term};
+use chw_types::Ty;
 use net_pieces::Pieces;
 use std::alloc::Global;
 
-/// Appends the cells of a block, and gives the wires of its result.
-///
-/// A term that is no block finds no memory, and so do wires that aren't as expected where they must be.
+/// Appends the cells of a block where so much is known, and gives the wires of its result.
 #[cycle(blocks)]
 pub(crate) fn block(
     alloc: Global,
     base: &mut Base<'_>,
-    expected: &Expected<'_>,
+    known: &[Seq<Seq<WireId>>],
     scope: &mut Vec<Variable>,
     draft: &mut Draft,
     e: &Term,
 ) -> Result<Seq<WireId>, NoMemory>
-    ensures built { IfOk result (λ wires. IsTrue expected.now.strict → Adds (λ p. BlockBuilt base.old Value
-        (in_scope scope.old.items) (next draft.old.into) e.now p wires) draft.old.into draft.new.into) }
+    requires { BlockReady base.old.datas Value (types_on (in_scope scope.old.items)) e.now }
+    ensures drafted { IfOk result (λ wires. Drafts (λ at n p inner. BlockDrafted base.old known.now
+        at (in_scope scope.old.items) n e.now p wires inner) draft.old draft.new) }
     ensures scope { OnOk result (scope.new.items ≡ scope.old.items) }
     ensures base { base.new ≡ base.old }
 {
-    if !e.args.is_empty() {
-        return Err(NoMemory);
-    }
     match &e.head {
         Head::Var(x) => copy_wires(alloc, wires_at(scope, *x)),
         Head::LetRec(bindings, body) => {
-            letrec(alloc, base, expected, scope, draft, bindings, body)
+            letrec(alloc, base, known, scope, draft, bindings, body)
         }
-        _ => Err(NoMemory),
+        _ => unreachable!(),
     }
 }
 
@@ -56,29 +57,28 @@ pub(crate) fn block(
 fn letrec(
     alloc: Global,
     base: &mut Base<'_>,
-    expected: &Expected<'_>,
+    known: &[Seq<Seq<WireId>>],
     scope: &mut Vec<Variable>,
     draft: &mut Draft,
     bindings: &[Binding],
     body: &Term,
 ) -> Result<Seq<WireId>, NoMemory>
-    ensures built { IfOk result (λ wires. IsTrue expected.now.strict → Adds (λ p. BlockBuilt base.old Value
-        (in_scope scope.old.items) (next draft.old.into) (letrec (group_of bindings.now) body.now) p wires) draft.old.into draft.new.into) }
+    requires { BlockReady base.old.datas Value (types_on (in_scope scope.old.items))
+        (letrec (group_of bindings.now) body.now) }
+    ensures drafted { IfOk result (λ wires. Drafts (λ at n p inner. BlockDrafted base.old known.now
+        at (in_scope scope.old.items) n (letrec (group_of bindings.now) body.now) p wires inner)
+        draft.old draft.new) }
     ensures scope { OnOk result (scope.new.items ≡ scope.old.items) }
     ensures base { base.new ≡ base.old }
 {
-    let Some(x) = variable_of(body) else {
-        return Err(NoMemory);
-    };
+    let x = name_of(body);
     let left = scope.len();
-    let place = draft.found.len();
-    draft.found.push(Vec::new(alloc))?;
-    let wires = expected_at(expected, place);
-    enter(alloc, scope, bindings, wires)?;
-    let found = sides(alloc, base, expected, scope, draft, bindings)?;
+    let place = draft.make_place(alloc)?;
+    enter(alloc, scope, bindings, known_at(known, place))?;
+    let found = sides(alloc, base, known, scope, draft, bindings)?;
+    draft.fill(place, found);
     let result = copy_wires(alloc, wires_at(scope, x));
     scope.truncate(left);
-    settle(expected, wires, found, &mut draft.found, place)?;
     result
 }
 
@@ -87,47 +87,47 @@ fn letrec(
 fn sides(
     alloc: Global,
     base: &mut Base<'_>,
-    expected: &Expected<'_>,
+    known: &[Seq<Seq<WireId>>],
     scope: &mut Vec<Variable>,
     draft: &mut Draft,
     bindings: &[Binding],
 ) -> Result<Wires, NoMemory>
-    ensures built { IfOk result (λ wires. IsTrue expected.now.strict → Adds (λ p. GroupBuilt base.old Value
-        (in_scope scope.old.items) (next draft.old.into) (group_of bindings.now) p (bound_of bindings.now wires.items)) draft.old.into draft.new.into) }
+    requires { GroupReady base.old.datas Value (types_on (in_scope scope.old.items))
+        (group_of bindings.now) }
+    ensures drafted { IfOk result (λ wires. Drafts (λ at n p inner. GroupDrafted base.old known.now
+        at (in_scope scope.old.items) n (group_of bindings.now) p wires.items inner)
+        draft.old draft.new) }
     ensures scope { OnOk result (scope.new.items ≡ scope.old.items) }
     ensures base { base.new ≡ base.old }
 {
     let mut found = Vec::new(alloc);
     for binding in bindings {
-        found.push(side(alloc, base, expected, scope, draft, binding)?)?;
+        found.push(side(alloc, base, known, scope, draft, &binding.ty, &binding.body)?)?;
     }
     Ok(found)
 }
 
-// The right side of a binding.
+// The right side of a binding of this type.
 #[cycle(blocks)]
 fn side(
     alloc: Global,
     base: &mut Base<'_>,
-    expected: &Expected<'_>,
+    known: &[Seq<Seq<WireId>>],
     scope: &mut Vec<Variable>,
     draft: &mut Draft,
-    binding: &Binding,
+    t: &Ty,
+    e: &Term,
 ) -> Result<Seq<WireId>, NoMemory>
-    ensures built { IfOk result (λ wires. IsTrue expected.now.strict → Adds (λ p. SideBuilt base.old Value
-        (in_scope scope.old.items) (next draft.old.into) binding.now.ty binding.now.body p wires) draft.old.into draft.new.into) }
+    requires { SideReady base.old.datas Value (types_on (in_scope scope.old.items)) t.now e.now }
+    ensures drafted { IfOk result (λ wires. Drafts (λ at n p inner. SideDrafted base.old known.now
+        at (in_scope scope.old.items) n t.now e.now p wires inner) draft.old draft.new) }
     ensures scope { OnOk result (scope.new.items ≡ scope.old.items) }
     ensures base { base.new ≡ base.old }
 {
-    let w = base.width(alloc, &binding.ty)?;
-    match &binding.body.head {
-        Head::Case(on, alts) => {
-            if !binding.body.args.is_empty() {
-                return Err(NoMemory);
-            }
-            case(alloc, base, expected, scope, draft, on, alts, w)
-        }
-        _ => flat_side(alloc, base, scope, &mut draft.into, &binding.body, w),
+    let w = base.width(alloc, t)?;
+    match &e.head {
+        Head::Case(on, alts) => case(alloc, base, known, scope, draft, on, alts, w),
+        _ => flat_side(alloc, base, scope, &mut draft.into, e, w),
     }
 }
 
@@ -140,8 +140,10 @@ fn flat_side(
     e: &Term,
     w: u32,
 ) -> Result<Seq<WireId>, NoMemory>
-    ensures built { IfOk result (λ wires. (t : TypeTree) → HasWidth base.old.datas t w → Adds (λ p. SideBuilt base.old Value
-        (in_scope scope.now) (next into.old) t e.now p wires) into.old into.new) }
+    requires { ValueReady base.old.datas (head_of e.now) (args_of e.now) }
+    ensures drafted { IfOk result (λ wires. (known : Known) (at : ℕ) (t : TypeTree)
+        → HasWidth base.old.datas t w → Adds (λ p. SideDrafted base.old known at (in_scope scope.now)
+        (next into.old) t e.now p wires []) into.old into.new) }
     ensures base { base.new ≡ base.old }
 {
     value_cells(alloc, base, scope, into, w, e)?;
@@ -153,23 +155,24 @@ fn flat_side(
 fn case(
     alloc: Global,
     base: &mut Base<'_>,
-    expected: &Expected<'_>,
+    known: &[Seq<Seq<WireId>>],
     scope: &mut Vec<Variable>,
     draft: &mut Draft,
     on: &Term,
     alts: &[Alt],
     w: u32,
 ) -> Result<Seq<WireId>, NoMemory>
-    ensures built { IfOk result (λ wires. IsTrue expected.now.strict → (t : TypeTree) → HasWidth base.old.datas t w → Adds (λ p. SideBuilt base.old Value
-        (in_scope scope.old.items) (next draft.old.into) t (case_of on.now (alts_of alts.now)) p wires) draft.old.into draft.new.into) }
+    requires { CaseReady base.old.datas (types_on (in_scope scope.old.items)) on.now
+        (alts_of alts.now) }
+    ensures drafted { IfOk result (λ wires. (t : TypeTree) → HasWidth base.old.datas t w
+        → Drafts (λ at n p inner. SideDrafted base.old known.now at (in_scope scope.old.items) n t
+        (case_of on.now (alts_of alts.now)) p wires inner) draft.old draft.new) }
     ensures scope { OnOk result (scope.new.items ≡ scope.old.items) }
     ensures base { base.new ≡ base.old }
 {
-    let Some(x) = variable_of(on) else {
-        return Err(NoMemory);
-    };
+    let x = name_of(on);
     let it = variable_at(alloc, scope, x)?;
-    let wires = case_on(alloc, base, expected, scope, draft, &it, alts, w);
+    let wires = case_on(alloc, base, known, scope, draft, &it, alts, w);
     drop(it);
     wires
 }
@@ -179,21 +182,26 @@ fn case(
 fn case_on(
     alloc: Global,
     base: &mut Base<'_>,
-    expected: &Expected<'_>,
+    known: &[Seq<Seq<WireId>>],
     scope: &mut Vec<Variable>,
     draft: &mut Draft,
     it: &Variable,
     alts: &[Alt],
     w: u32,
 ) -> Result<Seq<WireId>, NoMemory>
-    ensures built { IfOk result (λ wires. IsTrue expected.now.strict → IsCase base.old (in_scope scope.old.items) (as_variable it.now) (alts_of alts.now) w wires draft.old.into draft.new.into) }
+    requires measured { IsMeasured base.old.datas it.now.ty }
+    requires ready { AltsReady base.old.datas (types_on (in_scope scope.old.items)) it.now.ty
+        (alts_of alts.now) }
+    ensures drafted { IfOk result (λ wires. Drafts (λ at n p inner. CaseDrafted base.old known.now
+        at (in_scope scope.old.items) (as_variable it.now) n w (alts_of alts.now) p wires inner)
+        draft.old draft.new) }
     ensures scope { OnOk result (scope.new.items ≡ scope.old.items) }
     ensures base { base.new ≡ base.old }
 {
     let whole = base.width(alloc, &it.ty)?;
     let on = cut_tested(alloc, base, &mut draft.into, it, whole)?;
     let below = whole.saturating_sub(on.bits);
-    let results = alternatives(alloc, base, expected, scope, draft, it, below, alts)?;
+    let results = alternatives(alloc, base, known, scope, draft, it, below, alts)?;
     choice(alloc, base, &mut draft.into, &it.ty, &on, alts, &results, w)
 }
 
@@ -202,21 +210,24 @@ fn case_on(
 fn alternatives(
     alloc: Global,
     base: &mut Base<'_>,
-    expected: &Expected<'_>,
+    known: &[Seq<Seq<WireId>>],
     scope: &mut Vec<Variable>,
     draft: &mut Draft,
     it: &Variable,
     below: u32,
     alts: &[Alt],
 ) -> Result<Wires, NoMemory>
-    ensures built { IfOk result (λ results. IsTrue expected.now.strict → Adds (λ p. AltsBuilt base.old (in_scope scope.old.items)
-        (as_variable it.now) below (next draft.old.into) (alts_of alts.now) p results.items) draft.old.into draft.new.into) }
+    requires { AltsReady base.old.datas (types_on (in_scope scope.old.items)) it.now.ty
+        (alts_of alts.now) }
+    ensures drafted { IfOk result (λ results. Drafts (λ at n p inner. AltsDrafted base.old known.now
+        at (in_scope scope.old.items) (as_variable it.now) below n (alts_of alts.now) p results.items
+        inner) draft.old draft.new) }
     ensures scope { OnOk result (scope.new.items ≡ scope.old.items) }
     ensures base { base.new ≡ base.old }
 {
     let mut results = Vec::new(alloc);
     for alt in alts {
-        results.push(alternative(alloc, base, expected, scope, draft, it, below, alt)?)?;
+        results.push(alternative(alloc, base, known, scope, draft, it, below, alt)?)?;
     }
     Ok(results)
 }
@@ -226,21 +237,24 @@ fn alternatives(
 fn alternative(
     alloc: Global,
     base: &mut Base<'_>,
-    expected: &Expected<'_>,
+    known: &[Seq<Seq<WireId>>],
     scope: &mut Vec<Variable>,
     draft: &mut Draft,
     it: &Variable,
     below: u32,
     alt: &Alt,
 ) -> Result<Seq<WireId>, NoMemory>
-    ensures built { IfOk result (λ wires. IsTrue expected.now.strict → Adds (λ p. AltBuilt base.old (in_scope scope.old.items)
-        (as_variable it.now) below (next draft.old.into) alt.now.pattern alt.now.body p wires) draft.old.into draft.new.into) }
+    requires { AltReady base.old.datas (types_on (in_scope scope.old.items)) it.now.ty
+        alt.now.pattern alt.now.body }
+    ensures drafted { IfOk result (λ wires. Drafts (λ at n p inner. AltDrafted base.old known.now
+        at (in_scope scope.old.items) (as_variable it.now) below n alt.now.pattern alt.now.body p
+        wires inner) draft.old draft.new) }
     ensures scope { OnOk result (scope.new.items ≡ scope.old.items) }
     ensures base { base.new ≡ base.old }
 {
     let left = scope.len();
     bind_fields(alloc, base, scope, &mut draft.into, it, below, &alt.pattern)?;
-    let wires = block(alloc, base, expected, scope, draft, &alt.body);
+    let wires = block(alloc, base, known, scope, draft, &alt.body);
     scope.truncate(left);
     wires
 }

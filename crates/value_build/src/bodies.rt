@@ -3,17 +3,18 @@ ghost use Rattle.std.specs.Prelude.{◌≡◌, ◌++◌, ◌∷◌, [], IfOk, On
 ghost use Rattle.chw_terms.specs.declared.scene.Sort.TheVariants.{Value};
 ghost use Rattle.net_built.specs.Modules.{IsModuleOf};
 ghost use Rattle.net_built.specs.Wires.{present};
-ghost use Rattle.value_build.specs.Bodies.{IsInput, IsUnder, IsModuleBelow};
+ghost use Rattle.net_built.specs.Loops.{HasNoLoops};
+ghost use Rattle.net_ready.specs.Ready.{types_on, BlockReady, BodyReady, ModuleReady};
+ghost use Rattle.value_build.specs.Bodies.{IsInput, IsUnder};
 ghost use Rattle.value_build.specs.InScope.{in_scope};
+ghost use Rattle.value_build.specs.ReadyParts.{IsMeasured};
 
 use crate::base::Base;
-use crate::blocks::block;
-use crate::drafts::{Draft, Expected, Wires, all_same};
+use crate::passes::module;
 use crate::scope::{Variable, push_part};
 use chw_base::{NoMemory, narrow};
 use chw_terms::{Head, Made, Term};
 use chw_types::Ty;
-use net_pieces::Pieces;
 use netlist::Module;
 use std::alloc::Global;
 
@@ -25,6 +26,7 @@ fn push_input(
     inputs: &mut Vec<u32>,
     t: &Ty,
 ) -> Result<(), NoMemory>
+    requires { IsMeasured base.old.datas t.now }
     ensures input { OnOk result (IsInput base.old Value t.now inputs.old.items inputs.new.items scope.old.items scope.new.items) }
     ensures base { base.new ≡ base.old }
 {
@@ -54,123 +56,33 @@ fn inputs<'t>(
     e: &'t Term,
 ) -> Result<&'t Term, NoMemory>
     requires none { (scope.old.items ≡ []) × (inputs.old.items ≡ []) }
+    requires ready { BodyReady base.old.datas Value [] e.now }
+    requires free { HasNoLoops e.now }
+    ensures ready { IfOk result (λ inner. BlockReady base.old.datas Value
+        (types_on (in_scope scope.new.items)) inner.now) }
+    ensures free { IfOk result (λ inner. HasNoLoops inner.now) }
     ensures under { IfOk result (λ inner. IsUnder base.old Value e.now inner.now inputs.new.items scope.new.items) }
     ensures base { base.new ≡ base.old }
 {
     let mut inner = e;
     while let Head::Lam(t, body) = &inner.head {
-        if !inner.args.is_empty() {
-            return Ok(inner);
-        }
         push_input(alloc, base, scope, inputs, t)?;
         inner = body;
     }
     Ok(inner)
 }
 
-// The cells of a block behind inputs of these widths, where it needn't be as expected; the wires of the bindings of its letrecs.
-fn tried(
-    alloc: Global,
-    base: &mut Base<'_>,
-    scope: &mut Vec<Variable>,
-    inputs: &[u32],
-    known: &[Wires],
-    e: &Term,
-) -> Result<Vec<Wires>, NoMemory>
-    ensures scope { OnOk result (scope.new.items ≡ scope.old.items) }
-    ensures base { base.new ≡ base.old }
-{
-    let expected = Expected {
-        wires: known,
-        strict: false,
-    };
-    let mut draft = Draft {
-        into: Pieces::new(alloc, inputs)?,
-        found: Vec::new(alloc),
-    };
-    block(alloc, base, &expected, scope, &mut draft, e)?;
-    Ok(draft.found)
-}
-
-// The wires of the bindings of the letrecs of a block, by passes until they are all known.
-//
-// A binding that gives the wires of one behind it takes one more pass.
-fn wires_found(
-    alloc: Global,
-    base: &mut Base<'_>,
-    scope: &mut Vec<Variable>,
-    inputs: &[u32],
-    e: &Term,
-) -> Result<Vec<Wires>, NoMemory>
-    ensures scope { OnOk result (scope.new.items ≡ scope.old.items) }
-    ensures base { base.new ≡ base.old }
-{
-    let mut known = Vec::new(alloc);
-    for _pass in 0..u32::MAX {
-        let found = tried(alloc, base, scope, inputs, &known, e)?;
-        let settled = are_found(&known, &found);
-        known = found;
-        if settled {
-            break;
-        }
-    }
-    Ok(known)
-}
-
-// Whether the wires are found as they were known.
-fn are_found(known: &[Wires], found: &[Wires]) -> bool {
-    if known.len() != found.len() {
-        return false;
-    }
-    for (i, wires) in known.iter().enumerate() {
-        if !all_same(wires, &found[i]) {
-            return false;
-        }
-    }
-    true
-}
-
-// The module of a block behind inputs of these widths, where the wires of all bindings are known.
-fn module(
-    alloc: Global,
-    base: &mut Base<'_>,
-    scope: &mut Vec<Variable>,
-    inputs: &[u32],
-    known: &[Wires],
-    e: &Term,
-) -> Result<Module, NoMemory>
-    ensures module { IfOk result (IsModuleBelow base.old Value (in_scope scope.old.items) inputs.now e.now) }
-    ensures base { base.new ≡ base.old }
-{
-    let expected = Expected {
-        wires: known,
-        strict: true,
-    };
-    let mut draft = Draft {
-        into: Pieces::new(alloc, inputs)?,
-        found: Vec::new(alloc),
-    };
-    let outputs = block(alloc, base, &expected, scope, &mut draft, e)?;
-    let (widths, cells) = draft.into.into_parts();
-    Ok(Module {
-        inputs: narrow(inputs.len())?,
-        widths,
-        outputs,
-        cells,
-    })
-}
-
 /// The module of a made definition that gives a value.
 ///
-/// A body that isn't in normal form finds no memory. Where a number would pass 32 bits, the answer is want of memory, too.
+/// Where a number would pass 32 bits, the answer is want of memory.
 pub fn build_value(alloc: Global, base: &mut Base<'_>, it: &Made) -> Result<Module, NoMemory>
-    requires { it.now.sort ≡ Value }
+    requires sort { it.now.sort ≡ Value }
+    requires ready { ModuleReady base.old.datas it.now }
     ensures module { IfOk result (IsModuleOf base.old it.now) }
     ensures base { base.new ≡ base.old }
 {
     let mut scope = Vec::new(alloc);
     let mut widths = Vec::new(alloc);
     let inner = inputs(alloc, base, &mut scope, &mut widths, &it.body)?;
-    let known = wires_found(alloc, base, &mut scope, &widths, inner)?;
-    module(alloc, base, &mut scope, &widths, &known, inner)
+    module(alloc, base, &mut scope, &widths, inner)
 }

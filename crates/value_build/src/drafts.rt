@@ -1,31 +1,46 @@
 //! What is built so far, and the wires of bindings: those of a letrec are wanted before its right sides are built.
-ghost use Rattle.std.specs.Prelude.{◌≡◌, OnOk, IsTrue};
-ghost use Rattle.std.specs.Bool.{OnTrue};
+ghost use Rattle.std.specs.Prelude.{◌≡◌, ◌<◌, ◌↔◌, [], length, slice_index_or, IfOk, IsTrue};
+ghost use Rattle.value_build.specs.Drafting.{IsFilled, IsOpened};
 
 use chw_base::{NoMemory, Seq, WireId};
 use net_pieces::Pieces;
+use std::alloc::Global;
 
 /// The wires of a letrec's bindings.
 pub type Wires = Vec<Seq<WireId>>;
 
-/// What is expected of the letrecs of a body, in the order of the text: the wires of their bindings.
-#[derive(Clone, Copy)]
-pub(crate) struct Expected<'g> {
-    pub(crate) wires: &'g [Wires],
-    /// Whether they must be as expected; else what is built is of no worth but for the wires that are found.
-    pub(crate) strict: bool,
-}
+/// Those of letrecs, in the order of the text.
+pub(crate) type Letrecs = Vec<Seq<Seq<WireId>>>;
 
 /// What is built so far: the cells, and the wires of the bindings of each letrec.
 #[derive(Drop)]
 pub(crate) struct Draft {
     pub(crate) into: Pieces,
-    pub(crate) found: Vec<Wires>,
+    pub(crate) found: Letrecs,
+}
+
+impl Draft {
+    /// Makes a place for the wires of the next letrec's bindings, and gives its number.
+    pub(crate) fn make_place(&mut self, alloc: Global) -> Result<usize, NoMemory>
+        ensures { IfOk result (IsOpened self.old self.new) }
+    {
+        let place = self.found.len();
+        self.found.push(Seq::from(Vec::new(alloc)))?;
+        Ok(place)
+    }
+
+    /// Puts the wires of a letrec's bindings at their place.
+    pub(crate) fn fill(&mut self, place: usize, wires: Wires)
+        requires { place < length self.old.found.items }
+        ensures { IsFilled self.old self.new place wires.items }
+    {
+        self.found[place] = Seq::from(wires);
+    }
 }
 
 // Whether two lists of wires are equal.
 fn same_wires(a: &[WireId], b: &[WireId]) -> bool
-    ensures { OnTrue result (a.now ≡ b.now) }
+    ensures { IsTrue result ↔ a.now ≡ b.now }
 {
     if a.len() != b.len() {
         return false;
@@ -38,9 +53,9 @@ fn same_wires(a: &[WireId], b: &[WireId]) -> bool
     true
 }
 
-/// Whether two lists of lists of wires are equal.
-pub fn all_same(a: &[Seq<WireId>], b: &[Seq<WireId>]) -> bool
-    ensures { OnTrue result (a.now ≡ b.now) }
+// Whether two lists of lists of wires are equal.
+fn all_same(a: &[Seq<WireId>], b: &[Seq<WireId>]) -> bool
+    ensures { IsTrue result ↔ a.now ≡ b.now }
 {
     if a.len() != b.len() {
         return false;
@@ -53,29 +68,27 @@ pub fn all_same(a: &[Seq<WireId>], b: &[Seq<WireId>]) -> bool
     true
 }
 
-/// The wires that are expected of the bindings of the letrec of this number.
-pub(crate) fn expected_at<'g>(expected: &Expected<'g>, place: usize) -> &'g [Seq<WireId>] {
-    match expected.wires.get(place) {
-        Some(wires) => wires.as_slice(),
-        None => &[],
+/// Whether the wires of letrecs are found as they were known.
+pub(crate) fn are_found(known: &[Seq<Seq<WireId>>], found: &[Seq<Seq<WireId>>]) -> bool
+    ensures { IsTrue result ↔ known.now ≡ found.now }
+{
+    if known.len() != found.len() {
+        return false;
     }
+    for (i, wires) in known.iter().enumerate() {
+        if !all_same(wires.as_slice(), found[i].as_slice()) {
+            return false;
+        }
+    }
+    true
 }
 
-/// Keeps the wires that were found, if they are as expected or needn't be.
-pub(crate) fn settle(
-    expected: &Expected<'_>,
-    wires: &[Seq<WireId>],
-    found: Wires,
-    all: &mut Vec<Wires>,
-    place: usize,
-) -> Result<(), NoMemory>
-    ensures { OnOk result (IsTrue expected.now.strict → wires.now ≡ found.items) }
+/// The wires that are known of the bindings of the letrec of this number; none where none are.
+pub(crate) fn known_at(known: &[Seq<Seq<WireId>>], place: usize) -> &[Seq<WireId>]
+    ensures { result.now ≡ slice_index_or known.now place [] }
 {
-    if expected.strict && !all_same(wires, &found) {
-        return Err(NoMemory);
+    if known.len() <= place {
+        return &[];
     }
-    if place < all.len() {
-        all[place] = found;
-    }
-    Ok(())
+    known[place].as_slice()
 }

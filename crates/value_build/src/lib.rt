@@ -9,6 +9,7 @@ mod cases;
 mod constructors;
 pub mod drafts;
 pub mod fields;
+mod passes;
 pub mod places;
 pub mod scope;
 mod sides;

@@ -1,6 +1,6 @@
--- the wires so far are equal
-use Rattle.std.proofs.Common.{◌≡◌, take}
+-- what is left is equal where all is
+use Rattle.std.proofs.Common.{◌≡◌, ◌↔◌, drop}
 use Rattle.value_build.proofs.drafts.same_wires.Given as goal
 
 abbrev pub invariant-loop-i : goal.invariant-loop-i
-invariant-loop-i l = take l.i l.a ≡ take l.i l.b
+invariant-loop-i l = (drop l.i l.a ≡ drop l.i l.b) ↔ (l.a ≡ l.b)
