@@ -45,9 +45,7 @@ pub(crate) fn block(
 {
     match &e.head {
         Head::Var(x) => copy_wires(alloc, wires_at(scope, *x)),
-        Head::LetRec(bindings, body) => {
-            letrec(alloc, base, known, scope, draft, bindings, body)
-        }
+        Head::LetRec(bindings, body) => { letrec(alloc, base, known, scope, draft, bindings, body) }
         _ => unreachable!(),
     }
 }
