@@ -29,8 +29,9 @@ fields_width_at-requires c =
     let datas = c.args.base.now.datas in
     let args = c.args.args.now in
     let ready = c.requires in
-    let same : ready.it ≡ constructor_of c.in-Some.it = con_once datas c.args.c.number ready.it (constructor_of c.in-Some.it) ready.held c.in-Some.ensures.is in
-    (ready.fields,
-    subst (λ fs. MeasuredFields datas fs (arguments (trees_of (types_in args))) (fits ready.fields))
-    (ap (λ (k : Constructor). k.decl.fields) same ∙ sym c.as_slice.ensures)
-    (subst (λ ts. MeasuredFields datas ready.it.decl.fields (arguments (trees_of ts)) (fits ready.fields)) (types_same args) ready.measured))
+    let same : ready.it ≡ constructor_of c.in-Some.it = con_once datas c.args.c.number ready.it (constructor_of c.in-Some.it) ready.held c.in-Some.ensures.is in (
+      ready.fields,
+      subst (λ fs. MeasuredFields datas fs (arguments (trees_of (types_in args))) (fits ready.fields))
+          (ap (λ (k : Constructor). k.decl.fields) same ∙ sym c.as_slice.ensures)
+          (subst (λ ts. MeasuredFields datas ready.it.decl.fields (arguments (trees_of ts)) (fits ready.fields)) (types_same args) ready.measured),
+    )
