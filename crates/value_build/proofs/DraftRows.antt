@@ -1,5 +1,5 @@
 -- Bindings and alternatives of drafts one after the other.
-use Rattle.std.proofs.Common.{◌≡◌, ◌∙◌, sym, ap, refl, subst, ℕ, suc, ◌+◌, ◌-◌, ◌<◌, ◌≤◌, arith, add-one, List, [], ◌∷◌, ◌++◌, drop, drop-cons, length, get_or, reverse, append_assoc, append-nil, length-append}
+use Rattle.std.proofs.Common.{◌≡◌, ◌∙◌, sym, ap, refl, subst, ℕ, ◌+◌, ◌<◌, ◌≤◌, arith, add-one, List, [], ◌∷◌, ◌++◌, drop, drop-cons, length, get_or, append_assoc, append-nil, length-append}
 use Rattle.std.proofs.lemmas.List.{drop_all}
 use Rattle.chw_base.specs.declared.index.WireId.{WireId}
 use Rattle.chw_terms.specs.declared.term.Alt.{Alt}

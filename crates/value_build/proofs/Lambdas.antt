@@ -1,7 +1,6 @@
 -- Bodies below their lambdas, and their modules.
-use Rattle.std.proofs.Common.{◌≡◌, ◌∙◌, sym, ap, refl, subst, ℕ, ◌+◌, arith, List, [], ◌∷◌, ◌++◌, reverse, length, append_assoc, append-nil, length-append}
+use Rattle.std.proofs.Common.{◌≡◌, ◌∙◌, sym, ap, subst, ℕ, ◌+◌, List, [], ◌∷◌, ◌++◌, reverse, length, append_assoc, append-nil, length-append}
 use Rattle.std.proofs.lemmas.List.{reverse-append}
-use Rattle.chw_base.specs.declared.index.WireId.{WireId}
 use Rattle.chw_types.specs.TypeTree.{TypeTree}
 use Rattle.chw_terms.specs.declared.scene.Made.{Made}
 use Rattle.chw_terms.specs.declared.scene.Sort.{Sort}
@@ -11,7 +10,7 @@ use Rattle.net_built.specs.Bodies.{BodyBuilt, body_lambda, body_block}
 use Rattle.net_built.specs.Circuits.{Ground}
 use Rattle.net_built.specs.Modules.{IsModuleOf}
 use Rattle.net_built.specs.Terms.{Variable, variable}
-use Rattle.net_built.specs.Wires.{Piece, new_wires, present, wire_count}
+use Rattle.net_built.specs.Wires.{new_wires, present, wire_count}
 use Rattle.value_build.specs.Bodies.{IsInput, IsUnder, IsModuleBelow}
 use Rattle.value_build.specs.InScope.{in_scope, as_variables}
 use Rattle.value_build.specs.declared.scope.Variable.{Variable as Held}

@@ -1,11 +1,9 @@
 -- A pass that finds what is known, and passes that find other wires.
-use Rattle.std.proofs.Common.{◌≡◌, ◌∙◌, sym, ap, refl, subst, ℕ, suc, ◌+◌, ◌-◌, ◌<◌, ◌≤◌, arith, add-one, List, [], ◌++◌, length}
+use Rattle.std.proofs.Common.{◌≡◌, ◌∙◌, sym, ap, subst, ℕ, suc, ◌+◌, ◌-◌, ◌<◌, ◌≤◌, arith, add-one, List, [], ◌++◌, length}
 use Rattle.chw_base.specs.declared.index.WireId.{WireId}
 use Rattle.chw_terms.specs.declared.scene.Sort.TheVariants.{Value}
 use Rattle.chw_terms.specs.TermTree.{TermTree}
-use Rattle.netlist.specs.declared.net.Cell.{Cell}
 use Rattle.netlist.specs.declared.net.Module.{Module}
-use Rattle.net_built.specs.Bodies.{BlockBuilt}
 use Rattle.net_built.specs.Circuits.{Ground}
 use Rattle.net_built.specs.Loops.{HasNoLoops}
 use Rattle.net_built.specs.Terms.{Variable}

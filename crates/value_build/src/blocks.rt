@@ -1,4 +1,6 @@
-//! Blocks: letrecs, their right sides, and the alternatives of cases. What is built is a draft: a letrec's bindings have the wires that are known.
+//! Blocks: letrecs, their right sides, and the alternatives of cases.
+//!
+//! What is built is a draft: the bindings of a letrec have the wires that are known.
 ghost use Rattle.std.specs.Prelude.{◌≡◌, ℕ, [], IfOk, OnOk};
 ghost use Rattle.chw_terms.specs.declared.scene.Sort.TheVariants.{Value};
 ghost use Rattle.chw_terms.specs.TermTree.{letrec, case_of};
@@ -140,8 +142,9 @@ fn flat_side(
 ) -> Result<Seq<WireId>, NoMemory>
     requires { ValueReady base.old.datas (head_of e.now) (args_of e.now) }
     ensures drafted { IfOk result (λ wires. (known : Known) (at : ℕ) (t : TypeTree)
-        → HasWidth base.old.datas t w → Adds (λ p. SideDrafted base.old known at (in_scope scope.now)
-        (next into.old) t e.now p wires []) into.old into.new) }
+        → HasWidth base.old.datas t w
+        → Adds (λ p. SideDrafted base.old known at (in_scope scope.now) (next into.old) t e.now p
+        wires []) into.old into.new) }
     ensures base { base.new ≡ base.old }
 {
     value_cells(alloc, base, scope, into, w, e)?;
@@ -203,7 +206,7 @@ fn case_on(
     choice(alloc, base, &mut draft.into, &it.ty, &on, alts, &results, w)
 }
 
-// Alternatives on a variable with so many bits below what is tested, with the wires of their results.
+// Alternatives on a variable with so many bits below what is tested; the wires of their results.
 #[cycle(blocks)]
 fn alternatives(
     alloc: Global,
@@ -218,8 +221,8 @@ fn alternatives(
     requires { AltsReady base.old.datas (types_on (in_scope scope.old.items)) it.now.ty
         (alts_of alts.now) }
     ensures drafted { IfOk result (λ results. Drafts (λ at n p inner. AltsDrafted base.old known.now
-        at (in_scope scope.old.items) (as_variable it.now) below n (alts_of alts.now) p results.items
-        inner) draft.old draft.new) }
+        at (in_scope scope.old.items) (as_variable it.now) below n (alts_of alts.now) p
+        results.items inner) draft.old draft.new) }
     ensures scope { OnOk result (scope.new.items ≡ scope.old.items) }
     ensures base { base.new ≡ base.old }
 {

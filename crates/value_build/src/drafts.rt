@@ -1,4 +1,6 @@
-//! What is built so far, and the wires of bindings: those of a letrec are wanted before its right sides are built.
+//! What is built so far, and the wires of bindings.
+//!
+//! Those of a letrec are wanted before its right sides are built.
 ghost use Rattle.std.specs.Prelude.{◌≡◌, ◌<◌, ◌↔◌, [], length, slice_index_or, IfOk, IsTrue};
 ghost use Rattle.value_build.specs.Drafting.{IsFilled, IsOpened};
 

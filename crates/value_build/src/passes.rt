@@ -1,4 +1,6 @@
-//! Passes over the block of a value: what one finds is known to the next, until one finds what is known.
+//! Passes over the block of a value.
+//!
+//! What one finds is known to the next, until one finds what is known.
 ghost use Rattle.std.specs.Prelude.{◌≡◌, IfOk, OnOk};
 ghost use Rattle.chw_terms.specs.declared.scene.Sort.TheVariants.{Value};
 ghost use Rattle.net_built.specs.Loops.{HasNoLoops};
@@ -35,7 +37,8 @@ fn next_pass(
     e: &Term,
 ) -> Result<Pass, NoMemory>
     requires { BlockReady base.old.datas Value (types_on (in_scope scope.old.items)) e.now }
-    ensures pass { IfOk result (IsPass base.old known.now (in_scope scope.old.items) inputs.now e.now) }
+    ensures pass { IfOk result
+        (IsPass base.old known.now (in_scope scope.old.items) inputs.now e.now) }
     ensures scope { OnOk result (scope.new.items ≡ scope.old.items) }
     ensures base { base.new ≡ base.old }
 {
@@ -59,7 +62,8 @@ fn next_pass(
 
 /// The module of a block behind inputs of these widths.
 ///
-/// A binding that gives the wires of one behind it takes one more pass. There are at most as many passes as bindings, and two more.
+/// A binding that gives the wires of one behind it takes one more pass.
+/// There are at most as many passes as bindings, and two more.
 pub(crate) fn module(
     alloc: Global,
     base: &mut Base<'_>,
@@ -69,7 +73,8 @@ pub(crate) fn module(
 ) -> Result<Module, NoMemory>
     requires ready { BlockReady base.old.datas Value (types_on (in_scope scope.old.items)) e.now }
     requires free { HasNoLoops e.now }
-    ensures module { IfOk result (IsModuleBelow base.old Value (in_scope scope.old.items) inputs.now e.now) }
+    ensures module { IfOk result
+        (IsModuleBelow base.old Value (in_scope scope.old.items) inputs.now e.now) }
     ensures base { base.new ≡ base.old }
 {
     passes_are_few();

@@ -1,21 +1,20 @@
 -- Blocks, letrecs, right sides and cases, each by its parts.
-use Rattle.std.proofs.Common.{◌≡◌, ◌∙◌, ◌++◌, ◌-◌, ◌<◌, ap, sym, subst, refl, arith, ℕ, List, [], length, take, Some, IfOk}
+use Rattle.std.proofs.Common.{◌≡◌, ◌∙◌, ◌++◌, ◌<◌, ap, sym, subst, refl, arith, ℕ, [], length, take, Some, IfOk}
 use Rattle.std.proofs.lemmas.Result.{IfOk-weaker, on_ok_weaker}
 use Rattle.std.specs.List.{slice_get}
-use Rattle.chw_base.specs.declared.index.WireId.{WireId}
 use Rattle.chw_terms.specs.declared.scene.Sort.TheVariants.{Value}
 use Rattle.chw_terms.specs.PartsFall.{alt_smaller, binding_smaller}
 use Rattle.chw_terms.specs.declared.term.Head.TheVariants.{Case}
 use Rattle.chw_terms.specs.TermSize.{tree_size}
-use Rattle.chw_terms.specs.TermTree.{TermTree, var, letrec, case_of}
-use Rattle.chw_terms.specs.TermView.{tree_of, applied, group_of, alts_of}
+use Rattle.chw_terms.specs.TermTree.{var, letrec, case_of}
+use Rattle.chw_terms.specs.TermView.{tree_of, group_of, alts_of}
 use Rattle.chw_types.specs.TypeTree.{TypeTree}
 use Rattle.chw_typing.specs.Scopes.{declared}
 use Rattle.chw_layout.specs.Measured.{HasWidth}
 use Rattle.net_built.specs.Circuits.{Ground}
 use Rattle.net_built.specs.Data.{tested_of, variables_from, words_of}
 use Rattle.net_built.specs.Terms.{head_of, wires_at}
-use Rattle.net_built.specs.Wires.{Piece, nothing}
+use Rattle.net_built.specs.Wires.{nothing}
 use Rattle.net_ready.specs.Drafts.{Known, AltsDrafted, BlockDrafted, drafted_variable, SideDrafted}
 use Rattle.net_ready.specs.Ready.{types_on, args_of, AltsReady, BlockReady, GroupReady, SideReady, ValueReady}
 use Rattle.value_build.specs.Added.{Adds, next}

@@ -1,9 +1,8 @@
-use Rattle.std.proofs.Common.{◌≡◌, ◌∙◌, sym, subst, refl, ℕ, length}
+use Rattle.std.proofs.Common.{◌∙◌, sym, subst, refl, length}
 use Rattle.chw_terms.specs.declared.scene.Sort.TheVariants.{Value}
 use Rattle.net_built.specs.Circuits.{Ground}
 use Rattle.net_ready.specs.Drafts.{Passes, no_pass}
 use Rattle.net_ready.specs.Ready.{types_on, BlockReady}
-use Rattle.value_build.specs.Bodies.{IsModuleBelow}
 use Rattle.value_build.specs.InScope.{in_scope}
 use Rattle.value_build.specs.Passing.{IsPass}
 use Rattle.value_build.proofs.Passing.{one_pass_more, fewer_left}

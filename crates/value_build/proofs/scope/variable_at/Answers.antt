@@ -1,4 +1,4 @@
-use Rattle.std.proofs.Common.{◌∙◌, ap, sym, Some}
+use Rattle.std.proofs.Common.{◌∙◌, sym, Some}
 use Rattle.net_built.specs.Terms.{variable}
 use Rattle.value_build.proofs.Scopes.{held_at}
 use Rattle.value_build.proofs.scope.variable_at.Goals as goal
