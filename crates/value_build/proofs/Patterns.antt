@@ -9,7 +9,7 @@ use Rattle.chw_types.specs.TypeMoves.{sub}
 use Rattle.chw_types.specs.TypeTree.{TypeTree, TypeTrees, data_of}
 use Rattle.chw_types.specs.TypeView.{tree_of as node_tree, trees_of}
 use Rattle.chw_types.specs.declared.ty.TyNode.{TyNode}
-use Rattle.chw_types.specs.declared.ty.TyNode.TheVariants.{DataOf, Unsigned, Signed, BitVector}
+use Rattle.chw_types.specs.declared.ty.TyNode.TheVariants.{DataOf}
 use Rattle.chw_terms.specs.Constructors.{Constructor, con_at, first_con}
 use Rattle.chw_terms.specs.declared.term.Alt.{Alt}
 use Rattle.chw_terms.specs.declared.term.Pattern.TheVariants.{OfCon, OfLit}
@@ -24,7 +24,6 @@ use Rattle.net_built.specs.Data.{constructed, word_of, words_of}
 use Rattle.net_built.specs.Terms.{Variable, wires_of_all}
 use Rattle.net_built.specs.Wires.{Piece, ◌▸◌}
 use Rattle.value_build.specs.Added.{Adds, next}
-use Rattle.value_build.specs.ReadyParts.{IsScalar}
 use Rattle.value_build.specs.Tests.{first_of}
 use Rattle.value_build.proofs.Behind.{adds_one}
 use Rattle.value_build.proofs.Operands.{left_of}
@@ -83,18 +82,6 @@ other_node _ n r = r
 pub no_other_node : (node : TyNode) (t : TypeTree) (d : ℕ) (ts : TypeTrees) → node_tree node ≡ t → t ≡ data_of d ts
     → ((x : _) (y : _) → node ≡ DataOf x y → ⊥) → ⊥
 no_other_node node t d ts is ty n = other_node node n (subst IsData (sym (is ∙ ty)) tt)
-
-other_scalar : (node : TyNode) → ((x : _) → node ≡ Unsigned x → ⊥) → ((x : _) → node ≡ Signed x → ⊥) → ((x : _) → node ≡ BitVector x → ⊥)
-    → IsScalar (node_tree node) → ⊥
-other_scalar (Unsigned x) a b c r = a x refl
-other_scalar (Signed x) a b c r = b x refl
-other_scalar (BitVector x) a b c r = c x refl
-other_scalar _ a b c r = r
-
--- nor is a scalar
-pub no_other_scalar : (node : TyNode) (t : TypeTree) → node_tree node ≡ t
-    → ((x : _) → node ≡ Unsigned x → ⊥) → ((x : _) → node ≡ Signed x → ⊥) → ((x : _) → node ≡ BitVector x → ⊥) → IsScalar t → ⊥
-no_other_scalar node t is a b c r = other_scalar node a b c (subst IsScalar (sym is) r)
 
 pub data_number : (a b : ℕ) (ts us : TypeTrees) → data_of a ts ≡ data_of b us → a ≡ b
 data_number a b ts us e = cc

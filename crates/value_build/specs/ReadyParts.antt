@@ -2,7 +2,7 @@
 use Rattle.std.specs.Prelude.{◌≡◌, ℕ, List, Some, slice_get}
 use Rattle.chw_types.specs.declared.declarations.Data.{Data}
 use Rattle.chw_types.specs.TypeMoves.{Substitution}
-use Rattle.chw_types.specs.TypeTree.{TypeTree, scalar}
+use Rattle.chw_types.specs.TypeTree.{TypeTree}
 use Rattle.chw_terms.specs.declared.scene.Sort.TheVariants.{Value}
 use Rattle.chw_terms.specs.declared.term.Pattern.{Pattern}
 use Rattle.chw_terms.specs.TermTree.{TermTree, var, Alts}
@@ -27,11 +27,6 @@ FieldsMeasured datas fields σ = (w : ℕ) × MeasuredFields datas fields σ (fi
 -- the term is a variable
 abbrev pub IsName : TermTree → Type 0
 IsName e = (x : ℕ) × (e ≡ var x)
-
--- the type is a scalar
-abbrev pub IsScalar : TypeTree → Type 0
-IsScalar (scalar s w) = Unit {0}
-IsScalar _ = ⊥
 
 -- the pattern is one for values of the type
 abbrev pub IsPattern : List Data → TypeTree → Pattern → Type 0

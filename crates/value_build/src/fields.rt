@@ -2,20 +2,19 @@
 ghost use Rattle.std.specs.Prelude.{◌≡◌, ◌++◌, map, length, IfOk, OnOk};
 ghost use Rattle.chw_types.specs.Arguments.{arguments};
 ghost use Rattle.chw_types.specs.TypeMoves.{sub};
-ghost use Rattle.chw_types.specs.TypeTree.{scalar};
 ghost use Rattle.chw_types.specs.TypeView.{trees_of};
 ghost use Rattle.chw_typing.specs.HeadTypes.{PatternOf};
 ghost use Rattle.net_built.specs.Data.{HaveWidths, variables_from};
 ghost use Rattle.chw_terms.specs.declared.term.Pattern.TheVariants.{OfCon};
 ghost use Rattle.value_build.specs.Alternatives.{AreFields, IsBound};
 ghost use Rattle.value_build.specs.InScope.{as_variable, as_variables};
-ghost use Rattle.value_build.specs.ReadyParts.{AreMeasured, IsPattern, IsScalar, PatternReady};
+ghost use Rattle.value_build.specs.ReadyParts.{AreMeasured, IsPattern, PatternReady};
 
 use crate::base::Base;
 use crate::scope::{Variable, push_part};
 use chw_base::{ConId, NoMemory};
 use chw_terms::Pattern;
-use chw_types::{Scalar, Ty, TyNode, put_arguments};
+use chw_types::{Ty, TyNode, put_arguments};
 use net_pieces::{Pieces, data, parts};
 use std::alloc::Global;
 
@@ -48,19 +47,6 @@ fn constructor_fields(
         unreachable!();
     };
     fields_put(alloc, it.decl.fields.as_slice(), args)
-}
-
-/// The sort and the width of a type, which is a scalar.
-pub fn scalar_parts(ty: &Ty) -> (Scalar, &Ty)
-    requires { IsScalar ty.now }
-    ensures { ty.now ≡ scalar result.0 result.1.now }
-{
-    match &ty.node {
-        TyNode::Unsigned(w) => (Scalar::U, w),
-        TyNode::Signed(w) => (Scalar::S, w),
-        TyNode::BitVector(w) => (Scalar::B, w),
-        _ => unreachable!(),
-    }
 }
 
 /// The types of the variables that a pattern for values of this type binds.
