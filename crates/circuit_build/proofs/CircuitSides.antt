@@ -1,6 +1,7 @@
 -- The cells of right sides of circuits.
 use Rattle.std.proofs.Common.{◌≡◌, ◌∙◌, sym, ap, subst, ℕ, ◌-◌, List, [], Result, Ok, Err, IfOk}
 use Rattle.chw_base.specs.declared.index.WireId.{WireId}
+use Rattle.chw_types.specs.declared.declarations.Data.{Data}
 use Rattle.chw_types.specs.TypeTree.{TypeTree}
 use Rattle.chw_terms.specs.declared.scene.Sort.TheVariants.{Circuit}
 use Rattle.chw_terms.specs.declared.term.Arg.{Arg}
@@ -10,10 +11,13 @@ use Rattle.net_built.specs.Circuits.{CircuitCells, of_variable, of_product, Grou
 use Rattle.net_built.specs.Data.{HasParts}
 use Rattle.net_built.specs.Terms.{Variable, wires_at, wires_of_all, head_of, types_of, operands_of}
 use Rattle.net_built.specs.Wires.{Piece, ◌▸◌, copies, wire_count, wires_from, after}
+use Rattle.net_ready.specs.Ready.{CircuitReady}
 use Rattle.net_pieces.proofs.Behind.{next_behind}
 use Rattle.value_build.specs.Added.{Adds, next}
 use Rattle.value_build.specs.Arguments.{terms_in, types_in}
 use Rattle.value_build.proofs.Behind.{adds_one}
+use Rattle.circuit_build.specs.Views.{side_args, side_head}
+use Rattle.circuit_build.specs.declared.views.CircuitSide.{CircuitSide}
 
 pub product_made : (ground : Ground) (scope : List Variable) (c : ℕ) (reads : List WireId) (args : List Arg) (widths : List ℕ) (s t : Piece)
     → reads ≡ wires_of_all scope (terms_in args) → t ≡ s ▸ copies (next s) reads widths
@@ -29,6 +33,17 @@ variable_made ground scope x reads e widths s t is on added =
     subst (λ f. Adds (CircuitCells ground scope (next s) widths f [] []) s t) is
     (adds_one (CircuitCells ground scope (next s) widths (var x) [] []) s t (copies (next s) (wires_at scope x) widths)
     (added ∙ ap (λ ws. s ▸ copies (next s) ws widths) on) of_variable)
+
+-- what holds of a right side as it is read holds of the same side
+pub ready_as : (datas : List Data) (vars : List TypeTree) (widths : List ℕ) (it read : CircuitSide) → it ≡ read
+    → CircuitReady datas vars widths (side_head it) (side_args it) → CircuitReady datas vars widths (side_head read) (side_args read)
+ready_as datas vars widths it read is ready = subst (λ k. CircuitReady datas vars widths (side_head k) (side_args k)) is ready
+
+pub cells_as : (ground : Ground) (scope : List Variable) (widths : List ℕ) (it read : CircuitSide) (s t : Piece) → it ≡ read
+    → Adds (CircuitCells ground scope (next s) widths (side_head read) (types_in (side_args read)) (terms_in (side_args read))) s t
+    → Adds (CircuitCells ground scope (next s) widths (side_head it) (types_in (side_args it)) (terms_in (side_args it))) s t
+cells_as ground scope widths it read s t is cells =
+    subst (λ k. Adds (CircuitCells ground scope (next s) widths (side_head k) (types_in (side_args k)) (terms_in (side_args k))) s t) (sym is) cells
 
 -- a right side
 pub side_made : (ground : Ground) (scope : List Variable) (ty : TypeTree) (e : TermTree) (widths : List ℕ) (wires : List WireId) (s t : Piece)

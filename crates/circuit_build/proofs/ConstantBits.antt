@@ -6,21 +6,20 @@ use Rattle.std.proofs.lemmas.List.{drop_all}
 use Rattle.chw_bits.specs.Bits.{bits_of}
 use Rattle.chw_base.specs.declared.index.ConId.{ConId}
 use Rattle.chw_types.specs.declared.declarations.Data.{Data}
-use Rattle.chw_types.specs.declared.kind.Scalar.{Scalar}
 use Rattle.chw_types.specs.Arguments.{arguments}
 use Rattle.chw_types.specs.TypeMoves.{Substitution, sub}
-use Rattle.chw_types.specs.TypeTree.{TypeTree, TypeTrees, scalar, vector, data_of}
+use Rattle.chw_types.specs.TypeTree.{TypeTree, TypeTrees, vector, data_of}
 use Rattle.chw_terms.specs.declared.term.Arg.{Arg}
 use Rattle.chw_terms.specs.declared.term.Arg.TheVariants.{OfTerm, OfType}
 use Rattle.chw_terms.specs.declared.term.Head.TheVariants.{Con}
 use Rattle.chw_terms.specs.Constructors.{Constructor, con_at, first_con}
-use Rattle.chw_terms.specs.TermTree.{TermTree, con, lit, vec_lit}
+use Rattle.chw_terms.specs.TermTree.{TermTree, con, vec_lit}
 use Rattle.chw_terms.specs.TermView.{applied, terms_of}
-use Rattle.chw_layout.specs.Datum.{Datums, word, built, elements, no_data, datum_and}
-use Rattle.chw_layout.specs.Encodes.{count_of, filled, first_constructor, Encodes, scalar_bits, vector_bits, data_bits, no_element_bits, element_bits, EncodesFields, no_field_bits, field_bits}
+use Rattle.chw_layout.specs.Datum.{Datums, built, elements, no_data, datum_and}
+use Rattle.chw_layout.specs.Encodes.{count_of, filled, first_constructor, Encodes, vector_bits, data_bits, no_element_bits, element_bits, EncodesFields, no_field_bits, field_bits}
 use Rattle.chw_layout.specs.Measured.{closed_value, tag_width, HasWidth}
 use Rattle.layout_laws.specs.Numbering.{HasPlace, OneNumbering}
-use Rattle.net_built.specs.Memories.{Denotes, denotes_word, denotes_built, denotes_elements, DenoteEach, denote_none, denote_and, HasBits, HasWords}
+use Rattle.net_built.specs.Memories.{Denotes, denotes_built, denotes_elements, DenoteEach, denote_none, denote_and, HasBits, HasWords}
 use Rattle.value_build.specs.Arguments.{terms_in}
 use Rattle.value_build.proofs.Operands.{left_of, list_back}
 use Rattle.value_build.proofs.Spines.{of_whole}
@@ -120,29 +119,20 @@ fields_whole datas fields σ args i k first now l m so =
     (subst (λ bs. AddsFields datas [] σ (terms_in bs) now now) (sym (drop_all i args l)) (no_fields datas σ now)))
 
 -- as many values as constants
-as_many : (es : List TermTree) (ds : Datums) → DenoteEach es ds → count_of ds ≡ length es
+pub as_many : (es : List TermTree) (ds : Datums) → DenoteEach es ds → count_of ds ≡ length es
 as_many [] no_data denote_none = refl
 as_many [] (datum_and d ds) denote = elim denote [ ]
 as_many (e ∷ es) no_data denote = elim denote [ ]
 as_many (e ∷ es) (datum_and d ds) (denote_and here rest) = ap suc (as_many es ds rest)
 
--- a literal, as it is applied to nothing
-pub literal_added : (datas : List Data) (t w : TypeTree) (r s : Scalar) (bits before later : List Bool) (args : List Arg)
-    → t ≡ scalar r w → args ≡ [] → length bits ≡ closed_value w → later ≡ before ++ bits
-    → AddsBits datas t (applied (lit s bits) args) before later
-literal_added datas t w r s bits before later args is none many added =
-    subst (λ xs. AddsBits datas t (applied (lit s bits) xs) before later) (sym none)
-    (subst (λ u. AddsBits datas u (lit s bits) before later) (sym is)
-    (record { value = word bits; bits = bits; denotes = denotes_word; encodes = scalar_bits many; are = added }))
-
 -- a vector
-pub vector_added : (datas : List Data) (t n u v : TypeTree) (es : List TermTree) (before later : List Bool) (args : List Arg)
-    → t ≡ vector n u → args ≡ [] → length es ≡ closed_value n → AddsElements datas u es before later
-    → AddsBits datas t (applied (vec_lit v (terms_of es)) args) before later
-vector_added datas t n u v es before later args is none many added =
+pub vector_added : (datas : List Data) (t n u v : TypeTree) (e : TermTree) (es : List TermTree) (before later : List Bool)
+    → t ≡ vector n u → e ≡ vec_lit v (terms_of es) → length es ≡ closed_value n → AddsElements datas u es before later
+    → AddsBits datas t e before later
+vector_added datas t n u v e es before later is whole many added =
     let count : count_of added.values ≡ closed_value n = as_many es added.values added.denote ∙ many in
     let denote = subst (λ fs. DenoteEach fs added.values) (sym (list_back es)) added.denote in
-    subst (λ xs. AddsBits datas t (applied (vec_lit v (terms_of es)) xs) before later) (sym none)
+    subst (λ f. AddsBits datas t f before later) (sym whole)
     (subst (λ w. AddsBits datas w (vec_lit v (terms_of es)) before later) (sym is)
     (record { value = elements added.values; bits = added.bits; denotes = denotes_elements denote; encodes = vector_bits count added.encode; are = added.are }))
 

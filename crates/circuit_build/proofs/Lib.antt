@@ -1,5 +1,10 @@
+pub mod BoundOnce
 pub mod CircuitSides
 pub mod ConstantBits
+pub mod ConstantParts
 pub mod FieldWires
 pub mod PortParts
+pub mod ProjectionParts
+pub mod Readiness
 pub mod SignalCells
+pub mod Spines

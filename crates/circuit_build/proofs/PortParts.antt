@@ -5,8 +5,12 @@ use Rattle.chw_types.specs.declared.declarations.Data.{Data}
 use Rattle.type_ports.specs.declared.ports.Leaf.{Leaf}
 use Rattle.chw_types.specs.TypeTree.{TypeTree}
 use Rattle.chw_layout.specs.Measured.{HasWidth}
-use Rattle.net_built.specs.Data.{HaveWidths}
+use Rattle.type_ports.specs.Ports.{Leaves}
+use Rattle.chw_terms.specs.declared.scene.Sort.TheVariants.{Circuit, Value}
+use Rattle.net_built.specs.Data.{HaveWidths, HasParts, port_parts, value_part}
 use Rattle.net_built.specs.Wires.{present, wire_count}
+use Rattle.net_built.proofs.Parts.{leaves_once}
+use Rattle.value_build.specs.ReadyParts.{IsMeasured}
 use Rattle.value_build.proofs.Operands.{left_of}
 
 abbrev pub payloads : List Leaf → List TypeTree
@@ -50,3 +54,21 @@ pub wires_whole : (ws : List ℕ) (i n : ℕ) → length ws ≤ i → n + wire_c
 wires_whole ws i n l so =
     let none : wire_count (drop i ws) ≡ 0 = ap wire_count (drop_all i ws l) in
     omega (arith, none, so)
+
+-- what has parts as a port has leaves
+pub leaves_of_port : {datas : List Data} {t : TypeTree} {ws : List ℕ} → HasParts datas Circuit t ws → (ls : List Leaf) × Leaves datas t ls
+leaves_of_port (port_parts {leaves = ls} leaves have) = (ls, leaves)
+
+-- the payloads of its leaves have widths
+pub payloads_have : {datas : List Data} {t : TypeTree} {ws : List ℕ} {ls : List Leaf} → Leaves datas t ls → HasParts datas Circuit t ws → HaveWidths datas (payloads ls) ws
+payloads_have {datas} {ws = ws} leaves (port_parts others have) = subst (λ ms. HaveWidths datas (payloads ms) ws) (leaves_once others leaves) have
+
+pub payload_at : {datas : List Data} (ls : List Leaf) (i : ℕ) (l : Leaf) (ws : List ℕ) → HaveWidths datas (payloads ls) ws → i < length ls → l ≡ get_or ls i l → IsMeasured datas l.payload
+payload_at [] i l ws have within is = absurd (omega (arith, within))
+payload_at (m ∷ ls) i l [] have within is = absurd have
+payload_at {datas} (m ∷ ls) zero l (w ∷ ws) have within is = (w, subst (λ (k : Leaf). HasWidth datas k.payload w) (sym is) have.0)
+payload_at (m ∷ ls) (suc i) l (w ∷ ws) have within is = payload_at ls i l ws have.1 (omega (arith, within)) is
+
+-- a value with parts has a width
+pub value_measured : {datas : List Data} {t : TypeTree} {ws : List ℕ} → HasParts datas Value t ws → IsMeasured datas t
+value_measured (value_part {w = w} wide) = (w, wide)

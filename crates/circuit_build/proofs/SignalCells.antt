@@ -8,10 +8,7 @@ use Rattle.chw_prims.specs.declared.prim.Primitive.TheVariants.{Fmap, Ap, Pure, 
 use Rattle.chw_types.specs.TypeTree.{TypeTree, domain}
 use Rattle.chw_terms.specs.declared.term.Arg.{Arg}
 use Rattle.chw_terms.specs.declared.term.Arg.TheVariants.{OfTerm, OfType}
-use Rattle.chw_terms.specs.declared.term.Head.{Head}
-use Rattle.chw_terms.specs.declared.term.Head.TheVariants.{PrimOf}
 use Rattle.chw_terms.specs.TermTree.{TermTree, made, prim}
-use Rattle.chw_terms.specs.TermView.{tree_of, applied}
 use Rattle.chw_layout.specs.Measured.{closed_value}
 use Rattle.netlist.specs.declared.net.Cell.TheVariants.{Const, Reg}
 use Rattle.net_built.specs.Circuits.{CircuitCells, of_synchronizer, of_pure, of_register, of_block_ram, of_mapped, of_lifted, of_call, Ground, IsLifted, lifted_on_one, lifted_on_more, used}
@@ -86,17 +83,6 @@ mapped_made ground scope d a b f x m reads args widths s t is of on added =
     (subst (λ g. Adds (CircuitCells ground scope (next s) widths (prim Fmap) (d ∷ a ∷ b ∷ []) (g ∷ x ∷ [])) s t) (sym of)
     (adds_one (CircuitCells ground scope (next s) widths (prim Fmap) (d ∷ a ∷ b ∷ []) (made m ∷ x ∷ [])) s t (used ground m (next s) (wires_of scope x) widths)
     (added ∙ ap (λ ws. s ▸ used ground m (next s) ws widths) on) of_mapped))
-
--- a primitive at three types, on a function and a signal, as a whole term
-pub on_whole : (p q : Prim) (h : Head) (args given : List Arg) (d a b : TypeTree) (f x u : TermTree)
-    → q ≡ p → h ≡ PrimOf q → given ≡ OfType d ∷ OfType a ∷ OfType b ∷ OfTerm f ∷ OfTerm x ∷ [] → given ≡ args
-    → applied (tree_of h) args ≡ u → on_signal p d a b f x ≡ u
-on_whole p q h args given d a b f x u of head are same whole =
-    let known : List Arg = OfType d ∷ OfType a ∷ OfType b ∷ OfTerm f ∷ OfTerm x ∷ [] in
-    ap (λ r. applied (prim r) known) (sym of)
-    ∙ ap (λ xs. applied (prim q) xs) (sym are ∙ same)
-    ∙ ap (λ g. applied (tree_of g) args) (sym head)
-    ∙ whole
 
 -- lifted on one signal
 pub one_lifted : (scope : List Variable) (d a b : TypeTree) (f x : TermTree) (m : ℕ) (reads before later : List WireId)

@@ -41,3 +41,25 @@ pub record AreWords (datas : List Data) (t : TypeTree) (es : List TermTree)
   pub values : Datums
   pub denote : DenoteEach es values
   pub encode : EncodeEach datas t values words
+
+-- each of these constants of one type has bits
+pub record HaveBits (datas : List Data) (t : TypeTree) (es : List TermTree) : Type 0 where
+  pub values : Datums
+  pub bits : List Bool
+  pub denote : DenoteEach es values
+  pub encode : EncodesElements datas t values bits
+
+-- so has each of these constants of fields, with this put in
+pub record FieldsHaveBits (datas : List Data) (fields : List TypeTree) (σ : Substitution)
+    (es : List TermTree) : Type 0 where
+  pub values : Datums
+  pub bits : List Bool
+  pub denote : DenoteEach es values
+  pub encode : EncodesFields datas fields σ values bits
+
+-- so has each of these words
+pub record HaveWords (datas : List Data) (t : TypeTree) (es : List TermTree) : Type 0 where
+  pub values : Datums
+  pub words : List (List Bool)
+  pub denote : DenoteEach es values
+  pub encode : EncodeEach datas t values words

@@ -1,3 +1,6 @@
+pub mod Arguments
 pub mod Constants
 pub mod Lifting
 pub mod Projections
+pub mod Shapes
+pub mod Views

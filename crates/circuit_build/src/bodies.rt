@@ -1,10 +1,11 @@
 //! The bodies of circuits, as modules.
-ghost use Rattle.std.specs.Prelude.{◌≡◌, ◌++◌, ◌∷◌, [], IfOk, OnOk};
+ghost use Rattle.std.specs.Prelude.{◌≡◌, ◌++◌, ◌∷◌, [], ℕ, List, IfOk, OnOk};
 ghost use Rattle.chw_terms.specs.declared.scene.Sort.TheVariants.{Circuit};
 ghost use Rattle.net_built.specs.Data.{HasParts};
 ghost use Rattle.net_built.specs.Modules.{IsModuleOf};
 ghost use Rattle.net_built.specs.Terms.{variable};
 ghost use Rattle.net_built.specs.Wires.{new_wires, present};
+ghost use Rattle.net_ready.specs.Ready.{types_on, BlockReady, BodyReady, ModuleReady};
 ghost use Rattle.value_build.specs.Bodies.{IsInput, IsUnder, IsModuleBelow};
 ghost use Rattle.value_build.specs.InScope.{as_variables, in_scope};
 
@@ -54,6 +55,7 @@ fn push_input(
     inputs: &mut Vec<u32>,
     t: &Ty,
 ) -> Result<(), NoMemory>
+    requires port { (ws : List ℕ) × HasParts base.old.datas Circuit t.now ws }
     ensures input { OnOk result (IsInput base.old Circuit t.now inputs.old.items inputs.new.items scope.old.items scope.new.items) }
     ensures base { base.new ≡ base.old }
 {
@@ -72,14 +74,13 @@ fn inputs<'t>(
     e: &'t Term,
 ) -> Result<&'t Term, NoMemory>
     requires none { (scope.old.items ≡ []) × (inputs.old.items ≡ []) }
+    requires ready { BodyReady base.old.datas Circuit [] e.now }
     ensures under { IfOk result (λ inner. IsUnder base.old Circuit e.now inner.now inputs.new.items scope.new.items) }
+    ensures ready { IfOk result (λ inner. BlockReady base.old.datas Circuit (types_on (in_scope scope.new.items)) inner.now) }
     ensures base { base.new ≡ base.old }
 {
     let mut inner = e;
     while let Head::Lam(t, body) = &inner.head {
-        if !inner.args.is_empty() {
-            return Ok(inner);
-        }
         push_input(alloc, base, scope, inputs, t)?;
         inner = body;
     }
@@ -94,6 +95,7 @@ fn module(
     inputs: &[u32],
     e: &Term,
 ) -> Result<Module, NoMemory>
+    requires ready { BlockReady base.old.datas Circuit (types_on (in_scope scope.old.items)) e.now }
     ensures module { IfOk result (IsModuleBelow base.old Circuit (in_scope scope.old.items) inputs.now e.now) }
     ensures base { base.new ≡ base.old }
 {
@@ -110,9 +112,10 @@ fn module(
 
 /// The module of a made definition that gives a circuit.
 ///
-/// A body that isn't in normal form finds no memory. Where a number would pass 32 bits, the answer is want of memory, too.
+/// Where a number would pass 32 bits, the answer is want of memory.
 pub fn build_circuit(alloc: Global, base: &mut Base<'_>, it: &Made) -> Result<Module, NoMemory>
-    requires { it.now.sort ≡ Circuit }
+    requires sort { it.now.sort ≡ Circuit }
+    requires ready { ModuleReady base.old.datas it.now }
     ensures module { IfOk result (IsModuleOf base.old it.now) }
     ensures base { base.new ≡ base.old }
 {

@@ -1,15 +1,18 @@
 //! The blocks of circuits. A right side may name any binding of its letrec. The wires of each binding are those behind the pieces before
 //! it, whatever these read. So a first pass in which no binding has wires finds them, and a second one has the cells.
-ghost use Rattle.std.specs.Prelude.{◌≡◌, ℕ, ◌-◌, [], IfOk, OnOk};
+ghost use Rattle.std.specs.Prelude.{◌≡◌, ℕ, ◌-◌, List, length, IfOk, OnOk};
 ghost use Rattle.chw_terms.specs.declared.scene.Sort.TheVariants.{Circuit};
 ghost use Rattle.chw_terms.specs.TermTree.{con, letrec, var};
-ghost use Rattle.chw_terms.specs.TermView.{group_of, tree_of};
+ghost use Rattle.chw_terms.specs.TermView.{group_of};
 ghost use Rattle.net_built.specs.Bodies.{BlockBuilt, GroupBuilt, SideBuilt};
 ghost use Rattle.net_built.specs.Circuits.{CircuitCells, Ground};
 ghost use Rattle.chw_types.specs.TypeTree.{TypeTree};
+ghost use Rattle.chw_typing.specs.Scopes.{declared, with_more};
 ghost use Rattle.net_built.specs.Data.{HasParts};
-ghost use Rattle.net_built.specs.Terms.{head_of, types_of, operands_of};
-ghost use Rattle.net_built.specs.Wires.{wire_count, wires_from};
+ghost use Rattle.net_built.specs.Terms.{head_of, types_of, operands_of, Variable as Placed};
+ghost use Rattle.net_built.specs.Wires.{Piece, wire_count, wires_from};
+ghost use Rattle.net_ready.specs.Ready.{args_of, types_on, BlockReady, CircuitReady, GroupReady, SideReady};
+ghost use Rattle.circuit_build.specs.Views.{side_args, side_head};
 ghost use Rattle.value_build.specs.Added.{Adds, next};
 ghost use Rattle.value_build.specs.Arguments.{terms_in, types_in};
 ghost use Rattle.value_build.specs.Groups.{bound_of};
@@ -17,15 +20,18 @@ ghost use Rattle.value_build.specs.InScope.{in_scope};
 
 use crate::ports::{count_wires, port_parts};
 use crate::projections::projection;
-use crate::signals::{call, primitive};
+use crate::signals::{
+    block_ram, call, constant_signal, lifted_call, mapped, register, synchronizer,
+};
+use crate::views::{Block, CircuitSide, block_of, circuit_side};
 use chw_base::{NoMemory, Seq, VarIx, WireId};
-use chw_terms::{Arg, Binding, Head, Term};
+use chw_terms::{Arg, Binding, Term};
 use net_pieces::{Pieces, copies, parts};
 use std::alloc::Global;
 use value_build::Base;
 use value_build::arguments::operand_wires;
-use value_build::drafts::{Wires, all_same};
-use value_build::scope::{Variable, copy_wires, enter, variable_of, wires_at};
+use value_build::drafts::Wires;
+use value_build::scope::{Variable, copy_wires, enter, name_of, wires_at};
 
 // Appends the cells of a product: copies of the wires of its fields.
 fn product(
@@ -42,56 +48,39 @@ fn product(
     copies::copies(into, &wires, widths)
 }
 
-// Appends the cells of a head without arguments.
-fn bare_cells(
+// Appends the cells of a right side as it is read, with parts of these widths.
+fn side_cells(
     alloc: Global,
     base: &mut Base<'_>,
     scope: &[Variable],
     into: &mut Pieces,
     widths: &[u32],
-    head: &Head,
+    side: CircuitSide<'_>,
 ) -> Result<(), NoMemory>
+    requires ready { CircuitReady base.old.datas (types_on (in_scope scope.now)) widths.now
+        (side_head side) (side_args side) }
     ensures cells { OnOk result (Adds (CircuitCells base.old (in_scope scope.now) (next into.old)
-        widths.now (tree_of head.now) [] []) into.old into.new) }
+        widths.now (side_head side.entry) (types_in (side_args side.entry))
+        (terms_in (side_args side.entry))) into.old into.new) }
     ensures same { base.new ≡ base.old }
 {
-    match head {
-        Head::Var(x) => copies::copies(into, wires_at(scope, *x), widths),
-        Head::Case(on, alts) => projection(alloc, base, scope, into, widths, on, alts),
-        _ => Err(NoMemory),
-    }
-}
-
-// Appends the cells of a head on arguments.
-fn applied_cells(
-    alloc: Global,
-    base: &mut Base<'_>,
-    scope: &[Variable],
-    into: &mut Pieces,
-    widths: &[u32],
-    head: &Head,
-    args: &[Arg],
-) -> Result<(), NoMemory>
-    ensures cells { OnOk result (Adds (CircuitCells base.old (in_scope scope.now) (next into.old)
-        widths.now (tree_of head.now) (types_in args.now) (terms_in args.now)) into.old into.new) }
-    ensures same { base.new ≡ base.old }
-{
-    match head {
-        Head::PrimOf(which) => primitive(alloc, base, scope, into, widths, *which, args),
-        Head::Made(m) => call(alloc, base, scope, into, widths, *m, args),
-        Head::Con(_) => product(alloc, scope, into, widths, args),
-        _ => {
-            if !args.is_empty() {
-                return Err(NoMemory);
-            }
-            bare_cells(alloc, base, scope, into, widths, head)
+    match side {
+        CircuitSide::Copy(x) => copies::copies(into, wires_at(scope, x), widths),
+        CircuitSide::Constant(p) => constant_signal(alloc, base, into, widths, p),
+        CircuitSide::Register(p) => register(alloc, base, scope, into, widths, p),
+        CircuitSide::Memory(p) => block_ram(alloc, base, scope, into, widths, p),
+        CircuitSide::Crossing(p) => synchronizer(scope, into, widths, p),
+        CircuitSide::Mapped(p) => mapped(alloc, base, scope, into, widths, p),
+        CircuitSide::Lifted(p) => lifted_call(alloc, base, scope, into, widths, p),
+        CircuitSide::Call(m, args) => call(alloc, base, scope, into, widths, m, args),
+        CircuitSide::Product(_, args) => product(alloc, scope, into, widths, args),
+        CircuitSide::Projection(on, alts) => {
+            projection(alloc, base, scope, into, widths, on, alts)
         }
     }
 }
 
 // Appends the cells of a right side with parts of these widths.
-//
-// A term that is no right side finds no memory. No circuit of a normal state has one.
 fn circuit_cells(
     alloc: Global,
     base: &mut Base<'_>,
@@ -100,11 +89,14 @@ fn circuit_cells(
     widths: &[u32],
     e: &Term,
 ) -> Result<(), NoMemory>
+    requires ready { CircuitReady base.old.datas (types_on (in_scope scope.now)) widths.now
+        (head_of e.now) (args_of e.now) }
     ensures cells { OnOk result (Adds (CircuitCells base.old (in_scope scope.now) (next into.old)
         widths.now (head_of e.now) (types_of e.now) (operands_of e.now)) into.old into.new) }
     ensures same { base.new ≡ base.old }
 {
-    applied_cells(alloc, base, scope, into, widths, &e.head, &e.args)
+    let side = circuit_side(&e.head, &e.args);
+    side_cells(alloc, base, scope, into, widths, side)
 }
 
 // The last wires, one for each part of these widths that has bits.
@@ -124,6 +116,7 @@ fn side_of(
     widths: &[u32],
     e: &Term,
 ) -> Result<Seq<WireId>, NoMemory>
+    requires ready { CircuitReady base.old.datas (types_on (in_scope scope.now)) widths.now (head_of e.now) (args_of e.now) }
     ensures built { IfOk result (λ wires. (t : TypeTree) → HasParts base.old.datas Circuit t widths.now
         → Adds (λ p. SideBuilt base.old Circuit (in_scope scope.now) (next into.old) t e.now p wires) into.old into.new) }
     ensures same { base.new ≡ base.old }
@@ -140,6 +133,7 @@ fn side(
     into: &mut Pieces,
     binding: &Binding,
 ) -> Result<Seq<WireId>, NoMemory>
+    requires ready { SideReady base.old.datas Circuit (types_on (in_scope scope.now)) binding.now.ty binding.now.body }
     ensures built { IfOk result (λ wires. Adds (λ p. SideBuilt base.old Circuit (in_scope scope.now)
         (next into.old) binding.now.ty binding.now.body p wires) into.old into.new) }
     ensures same { base.new ≡ base.old }
@@ -156,6 +150,7 @@ fn sides(
     into: &mut Pieces,
     bindings: &[Binding],
 ) -> Result<Wires, NoMemory>
+    requires ready { GroupReady base.old.datas Circuit (types_on (in_scope scope.now)) (group_of bindings.now) }
     ensures built { IfOk result (λ wires. Adds (λ p. GroupBuilt base.old Circuit (in_scope scope.now)
         (next into.old) (group_of bindings.now) p (bound_of bindings.now wires.items)) into.old into.new) }
     ensures same { base.new ≡ base.old }
@@ -175,6 +170,10 @@ fn wires_of_bindings(
     inputs: &[u32],
     bindings: &[Binding],
 ) -> Result<Wires, NoMemory>
+    requires ready { GroupReady base.old.datas Circuit (with_more (declared (group_of bindings.now))
+        (types_on (in_scope scope.old.items))) (group_of bindings.now) }
+    ensures built { IfOk result (λ wires. (outer : List Placed) × (p : Piece) × GroupBuilt base.old Circuit outer
+        (length inputs.now) (group_of bindings.now) p (bound_of bindings.now wires.items)) }
     ensures scope { OnOk result (scope.new.items ≡ scope.old.items) }
     ensures same { base.new ≡ base.old }
 {
@@ -197,16 +196,15 @@ fn group(
     bindings: &[Binding],
     wires: &[Seq<WireId>],
 ) -> Result<(), NoMemory>
+    requires ready { GroupReady base.old.datas Circuit (types_on (in_scope scope.now)) (group_of bindings.now) }
+    requires known { (outer : List Placed) × (p : Piece) × GroupBuilt base.old Circuit outer
+        (next into.old) (group_of bindings.now) p (bound_of bindings.now wires.now) }
     ensures built { OnOk result (Adds (λ p. GroupBuilt base.old Circuit (in_scope scope.now)
         (next into.old) (group_of bindings.now) p (bound_of bindings.now wires.now)) into.old into.new) }
     ensures same { base.new ≡ base.old }
 {
     let found = sides(alloc, base, scope, into, bindings)?;
-    let same = all_same(wires, &found);
     drop(found);
-    if !same {
-        return Err(NoMemory);
-    }
     Ok(())
 }
 
@@ -220,6 +218,10 @@ fn variable_in(
     wires: &[Seq<WireId>],
     x: VarIx,
 ) -> Result<Seq<WireId>, NoMemory>
+    requires ready { GroupReady base.old.datas Circuit (with_more (declared (group_of bindings.now))
+        (types_on (in_scope scope.old.items))) (group_of bindings.now) }
+    requires known { (outer : List Placed) × (p : Piece) × GroupBuilt base.old Circuit outer
+        (next into.old) (group_of bindings.now) p (bound_of bindings.now wires.now) }
     ensures built { IfOk result (λ outputs. Adds (λ p. BlockBuilt base.old Circuit (in_scope scope.old.items)
         (next into.old) (letrec (group_of bindings.now) (var x.number)) p outputs) into.old into.new) }
     ensures same { base.new ≡ base.old }
@@ -239,13 +241,14 @@ fn letrec(
     bindings: &[Binding],
     body: &Term,
 ) -> Result<Seq<WireId>, NoMemory>
+    requires ready { BlockReady base.old.datas Circuit (types_on (in_scope scope.old.items))
+        (letrec (group_of bindings.now) body.now) }
+    requires fresh { next into.old ≡ length inputs.now }
     ensures built { IfOk result (λ outputs. Adds (λ p. BlockBuilt base.old Circuit (in_scope scope.old.items)
         (next into.old) (letrec (group_of bindings.now) body.now) p outputs) into.old into.new) }
     ensures same { base.new ≡ base.old }
 {
-    let Some(x) = variable_of(body) else {
-        return Err(NoMemory);
-    };
+    let x = name_of(body);
     let wires = wires_of_bindings(alloc, base, scope, inputs, bindings)?;
     let outputs = variable_in(alloc, base, scope, into, bindings, &wires, x);
     drop(wires);
@@ -254,8 +257,6 @@ fn letrec(
 
 /// Appends the cells of a block behind inputs of these widths, and gives the wires of its result. The variables of its bindings stay in
 /// scope.
-///
-/// A term that is no block finds no memory, and so do bindings whose wires aren't those that the first pass found.
 pub(crate) fn block(
     alloc: Global,
     base: &mut Base<'_>,
@@ -264,16 +265,16 @@ pub(crate) fn block(
     inputs: &[u32],
     e: &Term,
 ) -> Result<Seq<WireId>, NoMemory>
+    requires ready { BlockReady base.old.datas Circuit (types_on (in_scope scope.old.items)) e.now }
+    requires fresh { next into.old ≡ length inputs.now }
     ensures built { IfOk result (λ outputs. Adds (λ p. BlockBuilt base.old Circuit (in_scope scope.old.items)
         (next into.old) e.now p outputs) into.old into.new) }
     ensures same { base.new ≡ base.old }
 {
-    if !e.args.is_empty() {
-        return Err(NoMemory);
-    }
-    match &e.head {
-        Head::Var(x) => copy_wires(alloc, wires_at(scope, *x)),
-        Head::LetRec(bindings, body) => { letrec(alloc, base, scope, into, inputs, bindings, body) }
-        _ => Err(NoMemory),
+    match block_of(&e.head) {
+        Block::Variable(x) => copy_wires(alloc, wires_at(scope, x)),
+        Block::Letrec(bindings, body) => {
+            letrec(alloc, base, scope, into, inputs, bindings, body)
+        }
     }
 }

@@ -1,39 +1,36 @@
 //! The bits of constants.
-ghost use Rattle.std.specs.Prelude.{◌≡◌, List, ◌-◌, ◌++◌, ◌≤◌, false, length, replicate, IfOk, OnOk};
+ghost use Rattle.std.specs.Prelude.{◌≡◌, ◌-◌, ◌++◌, ◌≤◌, false, length, replicate, IfOk, OnOk};
 ghost use Rattle.chw_bits.specs.Bits.{bits_of};
-ghost use Rattle.chw_types.specs.declared.declarations.Data.{Data};
-ghost use Rattle.chw_types.specs.declared.kind.Scalar.{Scalar};
 ghost use Rattle.chw_types.specs.Arguments.{arguments};
 ghost use Rattle.chw_types.specs.TypeMoves.{sub};
-ghost use Rattle.chw_types.specs.TypeTree.{TypeTree};
 ghost use Rattle.chw_types.specs.TypeView.{trees_of};
-ghost use Rattle.chw_terms.specs.TermTree.{con, lit, vec_lit};
-ghost use Rattle.chw_terms.specs.TermView.{applied, terms_of};
+ghost use Rattle.chw_terms.specs.TermTree.{con};
+ghost use Rattle.chw_terms.specs.TermView.{applied};
 ghost use Rattle.net_built.specs.Memories.{HasBits, HasWords};
+ghost use Rattle.net_ready.specs.Ready.{HasSomeBits, HasSomeWords};
 ghost use Rattle.value_build.specs.Arguments.{terms_in};
 ghost use Rattle.circuit_build.specs.Constants.{AddsBits, AddsElements, AddsFields, AreWords};
+ghost use Rattle.circuit_build.specs.Constants.{HaveBits, FieldsHaveBits, HaveWords};
 
+use crate::views::{Constant, constant_of, element_type, elements_of, types_applied};
 use chw_base::{ConId, NoMemory, Seq, narrow};
 use chw_bits::Bits;
 use chw_layout::tag_width;
-use chw_terms::{Arg, Head, Term};
-use chw_types::{Ty, TyNode, put_arguments};
+use chw_terms::{Arg, Term};
+use chw_types::{Ty, put_arguments};
 use layout_laws::laws::numbers_of_constructors;
 use net_pieces::parts;
 use std::alloc::Global;
 use value_build::Base;
-use value_build::arguments::closed_number;
-use value_build::fields::scalar_parts;
 
 /// The bits of a constant of this type.
-///
-/// A term that is no constant of the type finds no memory. No circuit of a normal state has one.
 pub(crate) fn constant_bits(
     alloc: Global,
     base: &mut Base<'_>,
     t: &Ty,
     e: &Term,
 ) -> Result<Bits, NoMemory>
+    requires bits { HasSomeBits base.old.datas t.now e.now }
     ensures bits { IfOk result (HasBits base.old.datas t.now e.now) }
     ensures same { base.new ≡ base.old }
 {
@@ -44,24 +41,17 @@ pub(crate) fn constant_bits(
 }
 
 /// The bits of each element of a constant vector.
-///
-/// A term that is no vector of constants of the type finds no memory.
 pub(crate) fn constant_words(
     alloc: Global,
     base: &mut Base<'_>,
     t: &Ty,
     e: &Term,
 ) -> Result<Seq<Bits>, NoMemory>
+    requires words { HasSomeWords base.old.datas t.now e.now }
     ensures words { IfOk result (HasWords base.old.datas t.now e.now) }
     ensures same { base.new ≡ base.old }
 {
-    if !e.args.is_empty() {
-        return Err(NoMemory);
-    }
-    match &e.head {
-        Head::VecLit(_, elements) => words(alloc, base, t, elements),
-        _ => Err(NoMemory),
-    }
+    words(alloc, base, t, elements_of(&e.head))
 }
 
 // The bits of each of these constants of one type.
@@ -71,6 +61,7 @@ fn words(
     t: &Ty,
     elements: &[Term],
 ) -> Result<Seq<Bits>, NoMemory>
+    requires words { HaveWords base.old.datas t.now elements.now }
     ensures words { IfOk result (AreWords base.old.datas t.now elements.now) }
     ensures same { base.new ≡ base.old }
 {
@@ -90,63 +81,23 @@ fn add_bits(
     e: &Term,
     into: &mut Vec<bool>,
 ) -> Result<(), NoMemory>
+    requires bits { HasSomeBits base.old.datas t.now e.now }
     ensures bits { OnOk result (AddsBits base.old.datas t.now e.now into.old.items into.new.items) }
     ensures same { base.new ≡ base.old }
 {
-    match &e.head {
-        Head::Lit(_, bits) => add_literal(t, bits, &e.args, into),
-        Head::VecLit(_, elements) => add_vector(alloc, base, t, elements, &e.args, into),
-        Head::Con(c) => add_data(alloc, base, t, *c, &e.args, into),
-        _ => Err(NoMemory),
+    match constant_of(e) {
+        Constant::Literal(bits) => add_literal(bits, into),
+        Constant::Vector(elements) => add_elements(alloc, base, element_type(t), elements, into),
+        Constant::Data(c, args) => add_data(alloc, base, t, c, args, into),
     }
 }
 
-// Adds the bits of a literal of this type.
-fn add_literal(t: &Ty, bits: &Bits, args: &[Arg], into: &mut Vec<bool>) -> Result<(), NoMemory>
-    ensures { OnOk result ((datas : List Data) (s : Scalar) → AddsBits datas t.now
-        (applied (lit s bits.now) args.now) into.old.items into.new.items) }
+// Adds the bits of a literal.
+fn add_literal(bits: &Bits, into: &mut Vec<bool>) -> Result<(), NoMemory>
+    ensures { OnOk result (into.new.items ≡ into.old.items ++ bits.now) }
 {
-    let Some(parts) = scalar_parts(t) else {
-        return Err(NoMemory);
-    };
-    if !args.is_empty() {
-        return Err(NoMemory);
-    }
-    let count = bits.len();
-    let width = closed_number(parts.1);
-    if count != width {
-        return Err(NoMemory);
-    }
     into.extend_from_slice(bits.as_slice())?;
     Ok(())
-}
-
-// Adds the bits of a vector of this type.
-#[cycle(constants)]
-fn add_vector(
-    alloc: Global,
-    base: &mut Base<'_>,
-    t: &Ty,
-    elements: &[Term],
-    args: &[Arg],
-    into: &mut Vec<bool>,
-) -> Result<(), NoMemory>
-    ensures bits { OnOk result ((u : TypeTree) → AddsBits base.old.datas t.now
-        (applied (vec_lit u (terms_of elements.now)) args.now) into.old.items into.new.items) }
-    ensures same { base.new ≡ base.old }
-{
-    let TyNode::Vec(length, of) = &t.node else {
-        return Err(NoMemory);
-    };
-    if !args.is_empty() {
-        return Err(NoMemory);
-    }
-    let count = elements.len();
-    let wanted = closed_number(length) as usize;
-    if count != wanted {
-        return Err(NoMemory);
-    }
-    add_elements(alloc, base, of, elements, into)
 }
 
 // Adds the bits of these constants of one type.
@@ -158,7 +109,9 @@ fn add_elements(
     elements: &[Term],
     into: &mut Vec<bool>,
 ) -> Result<(), NoMemory>
-    ensures bits { OnOk result (AddsElements base.old.datas t.now elements.now into.old.items into.new.items) }
+    requires bits { HaveBits base.old.datas t.now elements.now }
+    ensures bits { OnOk result (AddsElements base.old.datas t.now elements.now
+        into.old.items into.new.items) }
     ensures same { base.new ≡ base.old }
 {
     for element in elements {
@@ -177,28 +130,31 @@ fn add_data(
     args: &[Arg],
     into: &mut Vec<bool>,
 ) -> Result<(), NoMemory>
+    requires bits { HasSomeBits base.old.datas t.now (applied (con c.number) args.now) }
     ensures bits { OnOk result (AddsBits base.old.datas t.now (applied (con c.number) args.now)
         into.old.items into.new.items) }
     ensures same { base.new ≡ base.old }
 {
     numbers_of_constructors();
-    let TyNode::DataOf(at, types) = &t.node else {
-        return Err(NoMemory);
-    };
     let Some(it) = base.constructor(c) else {
-        return Err(NoMemory);
+        unreachable!()
     };
-    if it.of.number != at.number {
-        return Err(NoMemory);
-    }
     let width = base.width(alloc, t)?;
     let first = into.len();
     add_number(alloc, tag_width(it.it.cons.len()), it.place, into)?;
-    add_fields(alloc, base, it.decl.fields.as_slice(), types, args, into)?;
+    add_fields(
+        alloc,
+        base,
+        it.decl.fields.as_slice(),
+        types_applied(t),
+        args,
+        into,
+    )?;
     fill(into, first, width)
 }
 
-// Adds the bits of the terms among arguments, one for each of these fields with the arguments of the type put in.
+// Adds the bits of the terms among arguments, one for each of these fields with the arguments of
+// the type put in.
 #[cycle(constants)]
 fn add_fields(
     alloc: Global,
@@ -208,6 +164,8 @@ fn add_fields(
     args: &[Arg],
     into: &mut Vec<bool>,
 ) -> Result<(), NoMemory>
+    requires bits { FieldsHaveBits base.old.datas fields.now (arguments (trees_of types.now))
+        (terms_in args.now) }
     ensures bits { OnOk result (AddsFields base.old.datas fields.now (arguments (trees_of types.now))
         (terms_in args.now) into.old.items into.new.items) }
     ensures same { base.new ≡ base.old }
@@ -217,14 +175,8 @@ fn add_fields(
         let Arg::OfTerm(e) = arg else {
             continue;
         };
-        if next >= fields.len() {
-            return Err(NoMemory);
-        }
         add_field(alloc, base, &fields[next], types, e, into)?;
         next += 1;
-    }
-    if next < fields.len() {
-        return Err(NoMemory);
     }
     Ok(())
 }
@@ -239,6 +191,8 @@ fn add_field(
     e: &Term,
     into: &mut Vec<bool>,
 ) -> Result<(), NoMemory>
+    requires bits { HasSomeBits base.old.datas (sub field.now (arguments (trees_of types.now)))
+        e.now }
     ensures bits { OnOk result (AddsBits base.old.datas (sub field.now (arguments (trees_of types.now)))
         e.now into.old.items into.new.items) }
     ensures same { base.new ≡ base.old }

@@ -1,7 +1,8 @@
 //! The parts of ports: one for each leaf.
-ghost use Rattle.std.specs.Prelude.{◌≡◌, ◌++◌, map, IfOk, OnOk};
+ghost use Rattle.std.specs.Prelude.{◌≡◌, ◌++◌, ℕ, List, map, IfOk, OnOk};
 ghost use Rattle.chw_terms.specs.declared.scene.Sort.TheVariants.{Circuit, Value};
 ghost use Rattle.type_ports.specs.Ports.{Leaves};
+ghost use Rattle.type_ports.specs.declared.ports.Leaf.{Leaf as PortLeaf};
 ghost use Rattle.net_built.specs.Data.{HaveWidths, HasParts};
 ghost use Rattle.net_built.specs.Wires.{wire_count};
 
@@ -14,19 +15,19 @@ use type_ports::{Leaf, leaves};
 use value_build::Base;
 
 /// The leaves of a port.
-///
-/// A type that is no port finds no memory. No binding of a circuit of a normal state has one.
 pub fn port_leaves(alloc: Global, base: &Base<'_>, t: &Ty) -> Result<Vec<Leaf>, NoMemory>
+    requires port { (ls : List PortLeaf) × Leaves base.now.datas t.now ls }
     ensures { IfOk result (λ ls. Leaves base.now.datas t.now ls.items) }
 {
     match leaves(alloc, t, base.datas())? {
         Some(leaves) => Ok(leaves),
-        None => Err(NoMemory),
+        None => unreachable!(),
     }
 }
 
 // The widths of the payloads of leaves.
 fn payload_widths(alloc: Global, base: &mut Base<'_>, leaves: &[Leaf]) -> Result<Vec<u32>, NoMemory>
+    requires measured { (ws : List ℕ) × HaveWidths base.old.datas (map (λ l. l.payload) leaves.now) ws }
     ensures widths { IfOk result (λ ws. HaveWidths base.old.datas (map (λ l. l.payload) leaves.now) ws.items) }
     ensures same { base.new ≡ base.old }
 {
@@ -38,9 +39,8 @@ fn payload_widths(alloc: Global, base: &mut Base<'_>, leaves: &[Leaf]) -> Result
 }
 
 /// The widths of the parts of a port.
-///
-/// A type that is no port finds no memory.
 pub(crate) fn port_parts(alloc: Global, base: &mut Base<'_>, t: &Ty) -> Result<Vec<u32>, NoMemory>
+    requires port { (ws : List ℕ) × HasParts base.old.datas Circuit t.now ws }
     ensures parts { IfOk result (λ ws. HasParts base.old.datas Circuit t.now ws.items) }
     ensures same { base.new ≡ base.old }
 {
@@ -51,14 +51,13 @@ pub(crate) fn port_parts(alloc: Global, base: &mut Base<'_>, t: &Ty) -> Result<V
 }
 
 /// The widths of the parts of a variable of this type: of a value one, of a port one for each leaf.
-///
-/// A type that isn't representable, or no port, finds no memory.
 pub fn parts_of(
     alloc: Global,
     base: &mut Base<'_>,
     sort: Sort,
     t: &Ty,
 ) -> Result<Vec<u32>, NoMemory>
+    requires parts { (ws : List ℕ) × HasParts base.old.datas sort t.now ws }
     ensures parts { IfOk result (λ ws. HasParts base.old.datas sort t.now ws.items) }
     ensures same { base.new ≡ base.old }
 {
@@ -70,6 +69,7 @@ pub fn parts_of(
 
 // The width of the one part of a value.
 fn value_parts(alloc: Global, base: &mut Base<'_>, t: &Ty) -> Result<Vec<u32>, NoMemory>
+    requires parts { (ws : List ℕ) × HasParts base.old.datas Value t.now ws }
     ensures parts { IfOk result (λ ws. HasParts base.old.datas Value t.now ws.items) }
     ensures same { base.new ≡ base.old }
 {

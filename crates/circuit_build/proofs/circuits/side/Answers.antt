@@ -1,13 +1,31 @@
-use Rattle.std.proofs.Common.{sym, subst}
+use Rattle.std.proofs.Common.{◌≡◌, ◌∙◌, sym, subst}
 use Rattle.std.proofs.lemmas.Result.{IfOk-weaker}
 use Rattle.chw_types.specs.TypeTree.{TypeTree}
 use Rattle.chw_terms.specs.declared.scene.Sort.TheVariants.{Circuit}
 use Rattle.net_built.specs.Bodies.{SideBuilt}
 use Rattle.net_built.specs.Circuits.{Ground}
 use Rattle.net_built.specs.Data.{HasParts}
+use Rattle.net_built.specs.Terms.{head_of}
+use Rattle.net_built.proofs.Parts.{parts_once}
+use Rattle.net_ready.specs.Ready.{args_of, types_on, CircuitReady}
 use Rattle.value_build.specs.Added.{Adds, next}
 use Rattle.value_build.specs.InScope.{in_scope}
+use Rattle.circuit_build.proofs.Readiness.{side_parts}
 use Rattle.circuit_build.proofs.circuits.side.Goals as goal
+
+pub port_parts-requires : goal.port_parts-requires
+port_parts-requires c = let p = side_parts c.requires.ready in record { port = (p.0, p.1) }
+
+pub side_of-requires : goal.side_of-requires
+side_of-requires c =
+    let b = c.args.binding.now in
+    let vars = types_on (in_scope c.args.scope.now) in
+    let p = side_parts c.requires.ready in
+    let same : p.0 ≡ c.deref.result.now = parts_once p.1 c.in_ok-widths.ensures.parts ∙ sym c.deref.ensures.value in
+    record {
+      ready = subst (λ (g : Ground). CircuitReady g.datas vars c.deref.result.now (head_of b.body) (args_of b.body)) (sym c.port_parts.ensures.same)
+          (subst (λ ws. CircuitReady c.args.base.now.datas vars ws (head_of b.body) (args_of b.body)) same p.2);
+    }
 
 pub returns-clause-built : goal.returns-clause-built
 returns-clause-built c =

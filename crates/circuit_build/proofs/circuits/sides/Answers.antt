@@ -2,10 +2,21 @@ use Rattle.std.proofs.Common.{◌∙◌, sym, subst, refl, arith}
 use Rattle.chw_terms.specs.declared.scene.Sort.TheVariants.{Circuit}
 use Rattle.net_built.specs.Bodies.{SideBuilt}
 use Rattle.net_built.specs.Circuits.{Ground}
+use Rattle.net_ready.specs.Ready.{types_on, SideReady}
 use Rattle.value_build.specs.Added.{Adds, next}
 use Rattle.value_build.specs.InScope.{in_scope}
 use Rattle.value_build.proofs.Rows.{GroupSoFar, group_begun, group_grown, group_whole}
+use Rattle.value_build.proofs.Ready.{side_at}
 use Rattle.circuit_build.proofs.circuits.sides.Goals as goal
+
+pub side-requires : goal.side-requires
+side-requires c =
+    let b = c.binding-item.result in
+    let vars = types_on (in_scope c.args.scope.now) in
+    record {
+      ready = subst (λ (g : Ground). SideReady g.datas Circuit vars b.ty b.body) (sym c.loop-binding.invariant.1)
+          (side_at c.args.bindings.now c.loop-binding.binding-index b c.requires.ready c.loop-binding-test.true c.binding-item.is);
+    }
 
 pub loop-binding-init : goal.loop-binding-init
 loop-binding-init c =

@@ -1,15 +1,26 @@
-use Rattle.std.proofs.Common.{◌≡◌, ◌∙◌, ap, subst, refl}
+use Rattle.std.proofs.Common.{◌≡◌, ◌∙◌, ap, sym, subst, refl}
 use Rattle.std.proofs.lemmas.Result.{IfOk-weaker}
 use Rattle.chw_terms.specs.declared.scene.Sort.TheVariants.{Circuit}
 use Rattle.chw_terms.specs.TermTree.{letrec, var}
 use Rattle.chw_terms.specs.TermView.{group_of}
 use Rattle.net_built.specs.Bodies.{BlockBuilt, GroupBuilt}
 use Rattle.net_built.specs.Terms.{wires_at}
+use Rattle.net_ready.specs.Ready.{types_on, GroupReady}
 use Rattle.value_build.specs.Added.{Adds, next}
 use Rattle.value_build.specs.Groups.{bound_of}
 use Rattle.value_build.specs.InScope.{in_scope, as_variables}
 use Rattle.value_build.proofs.Parts.{letrec_made}
+use Rattle.circuit_build.proofs.Readiness.{types_bound}
 use Rattle.circuit_build.proofs.circuits.variable_in.Goals as goal
+
+pub group-requires-clause-ready : goal.group-requires-clause-ready
+group-requires-clause-ready c =
+    let bs = c.args.bindings.now in
+    let outer = as_variables c.args.scope.now.items in
+    let inner = as_variables c.enter.new.scope.items in
+    subst (λ vars. GroupReady c.args.base.now.datas Circuit vars (group_of bs))
+    (sym (ap (λ vs. types_on (in_scope vs)) c.deref.ensures.value ∙ types_bound bs c.args.wires.now outer inner c.in_ok-enter.ensures))
+    c.requires.ready
 
 pub returns-clause-built : goal.returns-clause-built
 returns-clause-built c =

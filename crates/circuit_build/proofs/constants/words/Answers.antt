@@ -1,9 +1,19 @@
 use Rattle.std.proofs.Common.{◌∙◌, subst, sym, arith}
 use Rattle.net_built.specs.Circuits.{Ground}
 use Rattle.net_built.specs.Memories.{HasBits}
+use Rattle.net_ready.specs.Ready.{HasSomeBits}
 use Rattle.circuit_build.specs.Constants.{AreWords}
 use Rattle.circuit_build.proofs.ConstantBits.{words_grown, words_whole}
+use Rattle.circuit_build.proofs.ConstantParts.{word_at}
 use Rattle.circuit_build.proofs.constants.words.Goals as goal
+
+pub constant_bits-requires : goal.constant_bits-requires
+constant_bits-requires c = let e = c.element-item.result in
+    let have = c.requires.words in
+    record {
+      bits = subst (λ (g : Ground). HasSomeBits g.datas c.args.t.now e) (sym c.loop-element.invariant.1)
+          (word_at c.args.elements.now c.loop-element.element-index e have.words have.denote have.encode c.loop-element-test.true c.element-item.is);
+    }
 
 pub loop-element-preserved : goal.loop-element-preserved
 loop-element-preserved c =

@@ -1,8 +1,15 @@
-use Rattle.std.proofs.Common.{◌∙◌, subst, arith}
+use Rattle.std.proofs.Common.{◌∙◌, sym, subst, arith}
 use Rattle.chw_layout.specs.Measured.{HasWidth}
 use Rattle.net_built.specs.Circuits.{Ground}
-use Rattle.circuit_build.proofs.PortParts.{payloads_grown, payloads_whole}
+use Rattle.value_build.specs.ReadyParts.{IsMeasured}
+use Rattle.circuit_build.proofs.PortParts.{payload_at, payloads_grown, payloads_whole}
 use Rattle.circuit_build.proofs.ports.payload_widths.Goals as goal
+
+pub width-requires : goal.width-requires
+width-requires c =
+    let leaf = c.leaf-item.result in
+    subst (λ (g : Ground). IsMeasured g.datas leaf.payload) (sym c.loop-leaf.invariant.1)
+    (payload_at c.args.leaves.now c.loop-leaf.leaf-index leaf c.requires.measured.0 c.requires.measured.1 c.loop-leaf-test.true c.leaf-item.is)
 
 pub loop-leaf-preserved : goal.loop-leaf-preserved
 loop-leaf-preserved c =

@@ -1,7 +1,11 @@
 use Rattle.std.proofs.Common.{◌∙◌, ◌++◌, ◌∷◌, [], ap, sym, subst}
 use Rattle.chw_terms.specs.declared.scene.Sort.TheVariants.{Value}
 use Rattle.net_built.specs.Data.{HasParts, value_part}
+use Rattle.circuit_build.proofs.PortParts.{value_measured}
 use Rattle.circuit_build.proofs.ports.value_parts.Goals as goal
+
+pub width-requires : goal.width-requires
+width-requires c = value_measured c.requires.parts.1
 
 pub returns-clause-parts : goal.returns-clause-parts
 returns-clause-parts c =

@@ -1,7 +1,7 @@
 use Rattle.std.proofs.Common.{◌∙◌}
-use Rattle.std.proofs.lemmas.Bool.{OnTrue_at}
 use Rattle.std.proofs.lemmas.Result.{on_ok_weaker}
 use Rattle.value_build.specs.InScope.{in_scope}
+use Rattle.value_build.proofs.Operands.{no_types}
 use Rattle.circuit_build.proofs.SignalCells.{call_made}
 use Rattle.circuit_build.proofs.signals.call.Goals as goal
 
@@ -9,5 +9,5 @@ pub returns : goal.returns
 returns c =
     on_ok_weaker c.use_of.result
     (λ is. call_made c.args.base.now (in_scope c.args.scope.now) c.args.m.number c.deref.result.now c.args.args.now c.args.widths.now c.args.into.now c.use_of.new.into
-    (OnTrue_at c.if-not-are_terms.false c.are_terms.ensures) (c.deref.ensures.value ∙ c.in_ok-reads.ensures) is)
+    (no_types c.args.args.now c.requires) (c.deref.ensures.value ∙ c.in_ok-reads.ensures) is)
     c.use_of.ensures

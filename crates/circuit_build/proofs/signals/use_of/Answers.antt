@@ -12,5 +12,5 @@ returns c =
     let ws = c.args.widths.now in
     let reads = c.args.reads.now in
     on_ok_weaker c.used.result
-    (λ is. is ∙ (λ i. s ▸ record { widths = present ws; cells = use_cells (next s) ws (λ drives. Use (c.in_ok-callee.ensures i) reads drives) }))
+    (λ is. is ∙ (λ i. s ▸ record { widths = present ws; cells = use_cells (next s) ws (λ drives. Use (c.module_of-callee.ensures i) reads drives) }))
     c.used.ensures
