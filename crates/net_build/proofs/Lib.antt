@@ -1,6 +1,9 @@
+pub mod Ends
+pub mod LeavesOnce
 pub mod Marks
 pub mod Nets
 pub mod OutputMarks
 pub mod Ports
 pub mod Tasks
+pub mod Turns
 pub mod Uses

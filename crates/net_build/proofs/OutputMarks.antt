@@ -11,6 +11,13 @@ use Rattle.net_built.specs.Wires.{wire_count}
 use Rattle.value_build.proofs.Operands.{left_of}
 use Rattle.net_build.specs.Outputs.{IsOutputMark, AreOutputMarks}
 
+-- there is a mark for each
+pub marks_many : (datas : List Data) (made : List Made) (has : List Bool) → AreOutputMarks datas made has → length has ≡ length made
+marks_many datas [] [] marks = refl
+marks_many datas [] (b ∷ has) marks = absurd marks
+marks_many datas (it ∷ made) [] marks = absurd marks
+marks_many datas (it ∷ made) (b ∷ has) marks = ap suc (marks_many datas made has marks.1)
+
 pub output_marked : (datas : List Data) (it : Made) (t : TypeTree) (widths : List ℕ) (n : ℕ) (b : Bool)
     → t ≡ result_of it.ty → HasParts datas it.sort t widths → n ≡ wire_count widths → b ≡ not (n == 0) → IsOutputMark datas it b
 output_marked datas it t widths n b is has count mark = subst (IsOutputMark datas it) (sym mark) (by n count)

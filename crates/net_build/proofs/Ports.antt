@@ -1,7 +1,8 @@
 -- The ports of a program, one after the other.
-use Rattle.std.proofs.Common.{◌≡◌, ◌∙◌, sym, ap, subst, ℕ, zero, suc, ◌+◌, ◌<◌, ◌≤◌, arith, List, [], ◌∷◌, ◌++◌, drop, length, get_or, append_assoc, append-nil, Some}
+use Rattle.std.proofs.Common.{◌≡◌, ◌∙◌, sym, ap, subst, ℕ, zero, suc, ◌+◌, ◌<◌, ◌≤◌, arith, List, [], ◌∷◌, ◌++◌, drop, length, get_or, append_assoc, append-nil, Some, refl}
 use Rattle.std.specs.List.{slice_get}
 use Rattle.std.proofs.lemmas.List.{drop_all}
+use Rattle.std.proofs.lemmas.Option.{none-some, same_Some}
 use Rattle.chw_clock.specs.declared.event.Port.{Port}
 use Rattle.chw_clock.specs.declared.event.Ports.{Ports}
 use Rattle.chw_types.specs.declared.declarations.Data.{Data}
@@ -13,7 +14,8 @@ use Rattle.chw_terms.specs.declared.program.Program.{Program}
 use Rattle.chw_layout.specs.Measured.{HasWidth}
 use Rattle.chw_meaning.specs.Means.{LeadsFrom, leads_to, leads_from, PortsOf, no_ports, port_and, no_port_and, HasPorts}
 use Rattle.value_build.proofs.Operands.{left_of}
-use Rattle.net_build.specs.Ports.{AddsLeaves, IsLedTo, port_at, AddsPort, ArePorts}
+use Rattle.net_build.specs.Ports.{AddsLeaves, IsLedTo, port_at, AddsPort, ArePorts, HavePorts, HasSomePorts, IsTopOf}
+use Rattle.net_build.proofs.LeavesOnce.{leads_once}
 
 pub led_at_first : (datas : List Data) (t : TypeTree) (ins : List Leaf) → ins ≡ [] → IsLedTo datas t t ins
 led_at_first datas t ins none more outs leads = subst (λ ls. LeadsFrom datas t (ls ++ more) outs) (sym none) leads
@@ -62,7 +64,7 @@ ports_whole datas leaves names i ports l many so =
 
 -- the ports of the program
 pub ports_of_program : (p : Program) (datas : List Data) (it : Def) (ins outs : List Leaf) (ports : Ports)
-    → datas ≡ p.datas → slice_get p.defs p.top.«def».number ≡ Some it → LeadsFrom datas it.ty ins outs → ArePorts datas p ins outs ports
+    → datas ≡ p.datas → IsTopOf p it → LeadsFrom datas it.ty ins outs → ArePorts datas p ins outs ports
     → HasPorts p ports
 ports_of_program p datas it ins outs ports same held leads are = record {
   it = it;
@@ -94,3 +96,34 @@ are_ports_of datas other leaves given names called ports kept same on as_named h
     (subst (λ ns. PortsOf datas leaves ns ports) as_named
     (subst (λ ls. PortsOf datas ls called ports) on
     (subst (λ ds. PortsOf ds given called ports) same are)))
+
+-- there is a name for each leaf
+pub names_many : {datas : List Data} {leaves : List Leaf} {names : List (List ℕ)} {ports : List Port} → PortsOf datas leaves names ports → length leaves ≡ length names
+names_many no_ports = refl
+names_many (port_and r rest) = ap suc (names_many rest)
+names_many (no_port_and r rest) = ap suc (names_many rest)
+
+-- and each leaf has a width
+pub leaf_measured : {datas : List Data} {leaves : List Leaf} {names : List (List ℕ)} {ports : List Port} (i : ℕ) (leaf : Leaf)
+    → PortsOf datas leaves names ports → slice_get leaves i ≡ Some leaf → (w : ℕ) × HasWidth datas leaf.payload w
+leaf_measured i leaf no_ports is = absurd (none-some leaf is)
+leaf_measured {datas} zero leaf (port_and {leaf = it} {w = w} r rest) is =
+    (suc w, subst (λ (l : Leaf). HasWidth datas l.payload (suc w)) (same_Some it leaf is) r)
+leaf_measured {datas} zero leaf (no_port_and {leaf = it} r rest) is =
+    (zero, subst (λ (l : Leaf). HasWidth datas l.payload zero) (same_Some it leaf is) r)
+leaf_measured (suc i) leaf (port_and r rest) is = leaf_measured i leaf rest is
+leaf_measured (suc i) leaf (no_port_and r rest) is = leaf_measured i leaf rest is
+
+-- the leaves of a top have ports, if its program has
+pub leaves_have_ports : (p : Program) (datas : List Data) (it : Def) (ins outs : List Leaf)
+    → datas ≡ p.datas → IsTopOf p it → LeadsFrom datas it.ty ins outs → HasSomePorts p
+    → HavePorts datas ins p.top.inputs × HavePorts datas outs p.top.outputs
+leaves_have_ports p datas it ins outs same held leads some =
+    let has = some.1 in
+    let here : has.it ≡ it = same_Some has.it it (sym has.top.held ∙ held) in
+    let given : LeadsFrom datas it.ty has.ins has.outs =
+    subst (λ ds. LeadsFrom ds it.ty has.ins has.outs) (sym same) (subst (λ (d : Def). LeadsFrom p.datas d.ty has.ins has.outs) here has.top.leads) in
+    let once = leads_once given leads in (
+      (some.0.inputs, subst (λ ls. PortsOf datas ls p.top.inputs some.0.inputs) once.0 (subst (λ ds. PortsOf ds has.ins p.top.inputs some.0.inputs) (sym same) has.inputs)),
+      (some.0.outputs, subst (λ ls. PortsOf datas ls p.top.outputs some.0.outputs) once.1 (subst (λ ds. PortsOf ds has.outs p.top.outputs some.0.outputs) (sym same) has.outputs)),
+    )

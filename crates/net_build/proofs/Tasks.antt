@@ -7,7 +7,8 @@ use Rattle.chw_types.specs.declared.declarations.Data.{Data}
 use Rattle.chw_terms.specs.declared.scene.Made.{Made}
 use Rattle.net_built.specs.Modules.{holds, made_in, HasOutputs, already, without_outputs, behind_its_uses, AllVisited, none_visited, visited_and}
 use Rattle.net_build.specs.Outputs.{IsOutputMark, AreOutputMarks}
-use Rattle.net_build.specs.Tasks.{in_turn, visits, Leads, Continues, Opens}
+use Rattle.net_build.specs.Marks.{AreBelow}
+use Rattle.net_build.specs.Tasks.{in_turn, visits, Leads, Continues, TasksAreBelow, Opens}
 use Rattle.net_build.specs.declared.order.Task.{Task}
 use Rattle.net_build.specs.declared.order.Task.TheVariants.{Visit, Place}
 
@@ -76,13 +77,25 @@ pub visit_opened : (datas : List Data) (state : List Made) (has : List Bool) (m 
     → Continues datas state (Visit m ∷ before) order after order
 visit_opened datas state has m before after order new some opens marks end leads =
     let of_it = marked_at datas state has m true marks some in
-    let same : of_it.0 ≡ opens.it = same_Some of_it.0 opens.it (sym of_it.1 ∙ opens.is) in
-    let outputs : HasOutputs datas opens.it (suc of_it.2.0) = subst (λ (it : Made). HasOutputs datas it (suc of_it.2.0)) same of_it.2.1 in
-    let all = subst (λ ts. Leads datas state ts order end) opens.are leads in
-    let done = lead_visits datas state (made_in opens.it.body) (Place m ∷ before) order end all in
-    (done.0 ++ m ∷ [], behind_its_uses new opens.is outputs done.1, done.2)
+    let it : Made = opens.of.it in
+    let same : of_it.0 ≡ it = same_Some of_it.0 it (sym of_it.1 ∙ opens.of.is) in
+    let outputs : HasOutputs datas it (suc of_it.2.0) = subst (λ (it : Made). HasOutputs datas it (suc of_it.2.0)) same of_it.2.1 in
+    let all = subst (λ ts. Leads datas state ts order end) (opens.are ∙ ap (λ us. visits us ++ Place m ∷ before) opens.of.are) leads in
+    let done = lead_visits datas state (made_in it.body) (Place m ∷ before) order end all in
+    (done.0 ++ m ∷ [], behind_its_uses new opens.of.is outputs done.1, done.2)
 
 -- one that is put behind those that it uses
 pub task_placed : (datas : List Data) (state : List Made) (m : ℕ) (tasks : List Task) (before after : List ℕ)
     → after ≡ before ++ m ∷ [] → Continues datas state (Place m ∷ tasks) before tasks after
 task_placed datas state m tasks before after is end leads = subst (λ order. Leads datas state tasks order end) is leads
+
+-- visits of made definitions that are there, and then other tasks
+pub visits_below : (count : ℕ) (us : List ℕ) (tasks : List Task) → AreBelow count us → TasksAreBelow count tasks → TasksAreBelow count (visits us ++ tasks)
+visits_below count [] tasks uses rest = rest
+visits_below count (u ∷ us) tasks uses rest = (uses.0, visits_below count us tasks uses.1 rest)
+
+-- the tasks behind one that is opened
+pub opened_below : (state : List Made) (m : ℕ) (before after : List Task) → Opens state m before after → m < length state
+    → TasksAreBelow (length state) before → TasksAreBelow (length state) after
+opened_below state m before after opens l rest =
+    subst (λ ts. TasksAreBelow (length state) ts) (sym opens.are) (visits_below (length state) opens.uses (Place m ∷ before) opens.of.below (l, rest))

@@ -1,8 +1,14 @@
--- The made definitions in a term, in two spellings.
-use Rattle.std.proofs.Common.{◌≡◌, refl, ◌++◌}
+-- The made definitions in a term, in two spellings, and that those of a body are there.
+use Rattle.std.proofs.Common.{◌≡◌, ◌∙◌, refl, sym, subst, ℕ, List, length, ◌++◌, Some}
+use Rattle.std.specs.List.{slice_get}
+use Rattle.chw_terms.specs.declared.scene.Made.{Made}
 use Rattle.chw_terms.specs.TermTree.{TermTree, var, global, made, lam, app, ty_lam, ty_app, letrec, con, prim, lit, vec_lit, case_of, Terms, no_terms, term_and, Group, no_bindings, bind, Alts, no_alts, alt}
 use Rattle.net_built.specs.Modules.{made_in as in_term, made_in_all as in_all, made_in_group as in_group, made_in_alts as in_alts}
 use Rattle.normal_form.specs.MadeIn.{made_in, made_in_all, made_in_group, made_in_alts}
+use Rattle.normal_form.specs.UseOrders.{UsesAreThere}
+use Rattle.net_ready.proofs.MadeUsed.{all_along, all_named}
+use Rattle.net_build.specs.Marks.{AreBelow}
+use Rattle.net_build.specs.Tasks.{AreUsesOf}
 
 mutual
   unfolding made_in
@@ -33,3 +39,15 @@ mutual
   one_in_alts : (alts : Alts) → made_in_alts alts ≡ in_alts alts
   one_in_alts no_alts = refl
   one_in_alts (alt q e more) = λ i. one_spelling e i ++ one_in_alts more i
+
+-- those of the body of one
+pub uses_of_body : (state : List Made) (m : ℕ) (it : Made) (uses : List ℕ) → UsesAreThere state → slice_get state m ≡ Some it
+    → uses ≡ made_in it.body → AreUsesOf state m uses
+uses_of_body state m it uses there is are =
+    let all : uses ≡ in_term it.body = are ∙ one_spelling it.body in
+    record {
+      it = it;
+      is = is;
+      are = all;
+      below = subst (λ ms. AreBelow (length state) ms) (sym all) (all_along (λ n named. there m n (it, is, named)) (in_term it.body) (all_named it.body));
+    }

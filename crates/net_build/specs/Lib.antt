@@ -3,3 +3,4 @@ pub mod Nets
 pub mod Outputs
 pub mod Ports
 pub mod Tasks
+pub mod Turns

@@ -1,14 +1,19 @@
 -- The ports of a program, one after the other.
-use Rattle.std.specs.Prelude.{◌≡◌, ℕ, zero, suc, List, [], ◌∷◌, ◌++◌}
+use Rattle.std.specs.Prelude.{◌≡◌, ℕ, zero, suc, List, [], ◌∷◌, ◌++◌, Some, slice_get}
 use Rattle.chw_clock.specs.declared.event.Port.{Port}
 use Rattle.chw_clock.specs.declared.event.Ports.{Ports}
 use Rattle.chw_types.specs.declared.declarations.Data.{Data}
 use Rattle.type_ports.specs.declared.ports.Leaf.{Leaf}
 use Rattle.type_ports.specs.Ports.{Leaves}
 use Rattle.chw_types.specs.TypeTree.{TypeTree}
+use Rattle.chw_terms.specs.declared.program.Def.{Def}
 use Rattle.chw_terms.specs.declared.program.Program.{Program}
 use Rattle.chw_layout.specs.Measured.{HasWidth}
-use Rattle.chw_meaning.specs.Means.{LeadsFrom, PortsOf, port_of}
+use Rattle.chw_meaning.specs.Means.{LeadsFrom, PortsOf, HasPorts, port_of}
+
+-- the type leads from ports to a port
+abbrev pub HasEnds : List Data → TypeTree → Type 0
+HasEnds datas t = (ins : List Leaf) × (outs : List Leaf) × LeadsFrom datas t ins outs
 
 -- the leaves of a port were put behind others
 pub record AddsLeaves (datas : List Data) (t : TypeTree) (before later : List Leaf) : Type 0 where
@@ -40,3 +45,15 @@ pub record ArePorts (datas : List Data) (p : Program) (ins outs : List Leaf) (po
   pub resets : ports.resets ≡ p.resets
   pub inputs : PortsOf datas ins p.top.inputs ports.inputs
   pub outputs : PortsOf datas outs p.top.outputs ports.outputs
+
+-- there are ports of these leaves with these names
+abbrev pub HavePorts : List Data → List Leaf → List (List ℕ) → Type 0
+HavePorts datas leaves names = (ports : List Port) × PortsOf datas leaves names ports
+
+-- the program has ports
+abbrev pub HasSomePorts : Program → Type 0
+HasSomePorts p = (ports : Ports) × HasPorts p ports
+
+-- this is the definition of the program's top
+abbrev pub IsTopOf : Program → Def → Type 0
+IsTopOf p it = slice_get p.defs p.top.«def».number ≡ Some it

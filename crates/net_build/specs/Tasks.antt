@@ -1,8 +1,11 @@
 -- What is still to be done for the order of the modules.
-use Rattle.std.specs.Prelude.{◌≡◌, ℕ, List, [], ◌∷◌, ◌++◌, map, reverse, Some, slice_get}
+use Rattle.std.specs.Prelude.{◌≡◌, ℕ, ◌<◌, List, [], ◌∷◌, ◌++◌, map, reverse, length, Some}
+use Rattle.std.specs.Prelude.{slice_get}
+use Rattle.std.specs.List.{AllByRecursion}
 use Rattle.chw_types.specs.declared.declarations.Data.{Data}
 use Rattle.chw_terms.specs.declared.scene.Made.{Made}
 use Rattle.net_built.specs.Modules.{made_in, Visited}
+use Rattle.net_build.specs.Marks.{AreBelow}
 use Rattle.net_build.specs.declared.order.Task.{Task}
 use Rattle.net_build.specs.declared.order.Task.TheVariants.{Visit, Place}
 
@@ -27,8 +30,24 @@ abbrev pub Continues : List Data → List Made → (before : List Task) → (fir
 Continues datas state before first after later =
     (end : List ℕ) → Leads datas state after later end → Leads datas state before first end
 
--- the tasks before were put behind visits of what the made definition uses, and its place
-pub record Opens (state : List Made) (m : ℕ) (before after : List Task) : Type 0 where
+-- the made definition of a task
+abbrev pub number_of : Task → ℕ
+number_of (Visit m) = m
+number_of (Place m) = m
+
+-- of so many made definitions each task has one
+abbrev pub TasksAreBelow : ℕ → List Task → Type 0
+TasksAreBelow count tasks = AllByRecursion (λ t. number_of t < count) tasks
+
+-- these are the made definitions that one uses, which are there
+pub record AreUsesOf (state : List Made) (m : ℕ) (uses : List ℕ) : Type 0 where
   pub it : Made
   pub is : slice_get state m ≡ Some it
-  pub are : after ≡ visits (made_in it.body) ++ Place m ∷ before
+  pub are : uses ≡ made_in it.body
+  pub below : AreBelow (length state) uses
+
+-- the tasks before were put behind visits of what the made definition uses, and its place
+pub record Opens (state : List Made) (m : ℕ) (before after : List Task) : Type 0 where
+  pub uses : List ℕ
+  pub of : AreUsesOf state m uses
+  pub are : after ≡ visits uses ++ Place m ∷ before

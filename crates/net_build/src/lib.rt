@@ -1,4 +1,5 @@
-//! The net of a normal state, as `net_built` has it: its ports, the order of its modules, and each module.
+//! The net of a normal state, as `net_built` has it: its ports, the order of its modules, and each
+//! module.
 #![tactic(auto)]
 
 pub mod building;

@@ -1,6 +1,8 @@
 //! Which made definitions give something that has a wire.
-ghost use Rattle.std.specs.Prelude.{◌≡◌, ◌==◌, not, IfOk, OnOk};
+ghost use Rattle.std.specs.Prelude.{◌≡◌, IfOk};
 ghost use Rattle.net_built.specs.Terms.{result_of};
+ghost use Rattle.net_ready.specs.Ready.{ModuleReady};
+ghost use Rattle.net_build.specs.Nets.{EachIsReady};
 ghost use Rattle.net_build.specs.Outputs.{IsOutputMark, AreOutputMarks};
 
 use chw_base::NoMemory;
@@ -23,6 +25,7 @@ fn result_of(t: &Ty) -> &Ty
 
 // Whether what a made definition gives has a wire.
 fn has_outputs(alloc: Global, base: &mut Base<'_>, it: &Made) -> Result<bool, NoMemory>
+    requires { ModuleReady base.old.datas it.now }
     ensures mark { IfOk result (IsOutputMark base.old.datas it.now) }
     ensures same { base.new ≡ base.old }
 {
@@ -37,6 +40,7 @@ pub(crate) fn outputs(
     base: &mut Base<'_>,
     made: &[Made],
 ) -> Result<Vec<bool>, NoMemory>
+    requires { EachIsReady base.old.datas made.now }
     ensures marks { IfOk result (λ has. AreOutputMarks base.old.datas made.now has.items) }
     ensures same { base.new ≡ base.old }
 {

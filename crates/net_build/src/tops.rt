@@ -1,11 +1,16 @@
-//! The ports of a program: its domains, those of them that have a reset, and the leaves of its top that have bits.
-ghost use Rattle.std.specs.Prelude.{◌≡◌, [], IfOk, OnOk};
+//! The ports of a program: its domains, those of them that have a reset, and the leaves of its top
+//! that have bits.
+ghost use Rattle.std.specs.Prelude.{◌≡◌, [], ℕ, IfOk, OnOk};
+ghost use Rattle.type_ports.specs.Ports.{IsPort};
+ghost use Rattle.chw_layout.specs.Measured.{HasWidth};
 ghost use Rattle.chw_meaning.specs.Means.{HasPorts, LeadsFrom, PortsOf};
-ghost use Rattle.net_build.specs.Ports.{AddsLeaves, AddsPort, ArePorts, IsLedTo};
+ghost use Rattle.net_built.specs.Terms.{result_of};
+ghost use Rattle.net_build.specs.Ports.{AddsLeaves, AddsPort, ArePorts, IsLedTo, IsTopOf};
+ghost use Rattle.net_build.specs.Ports.{HasEnds, HasSomePorts, HavePorts};
 
 use chw_base::{Name, NoMemory, Seq};
 use chw_clock::{Port, Ports};
-use chw_terms::Program;
+use chw_terms::{Def, Program};
 use chw_types::{Ty, TyNode};
 use circuit_build::ports::port_leaves;
 use std::alloc::Global;
@@ -26,6 +31,7 @@ fn add_leaves(
     t: &Ty,
     leaves: &mut Vec<Leaf>,
 ) -> Result<(), NoMemory>
+    requires { IsPort base.now.datas t.now }
     ensures { OnOk result (AddsLeaves base.now.datas t.now leaves.old.items leaves.new.items) }
 {
     let mut more = port_leaves(alloc, base, t)?;
@@ -40,8 +46,10 @@ fn parameters<'t>(
     t: &'t Ty,
     ins: &mut Vec<Leaf>,
 ) -> Result<&'t Ty, NoMemory>
-    requires { ins.old.items ≡ [] }
-    ensures { IfOk result (λ rest. IsLedTo base.now.datas t.now rest.now ins.new.items) }
+    requires none { ins.old.items ≡ [] }
+    requires ends { HasEnds base.now.datas t.now }
+    ensures led { IfOk result (λ rest. IsLedTo base.now.datas t.now rest.now ins.new.items) }
+    ensures last { IfOk result (λ rest. rest.now ≡ result_of t.now) }
 {
     let mut rest = t;
     while let TyNode::Fun(from, to) = &rest.node {
@@ -53,6 +61,7 @@ fn parameters<'t>(
 
 // The leaves of what a function leads from, and of what it leads to.
 fn ends_of(alloc: Global, base: &Base<'_>, t: &Ty) -> Result<Ends, NoMemory>
+    requires { HasEnds base.now.datas t.now }
     ensures { IfOk result (λ it. LeadsFrom base.now.datas t.now it.ins.items it.outs.items) }
 {
     let mut ins = Vec::new(alloc);
@@ -69,7 +78,9 @@ fn push_port(
     name: &Name,
     ports: &mut Vec<Port>,
 ) -> Result<(), NoMemory>
-    ensures port { OnOk result (AddsPort base.old.datas leaf.now name.now ports.old.items ports.new.items) }
+    requires { (width : ℕ) × HasWidth base.old.datas leaf.now.payload width }
+    ensures port { OnOk result
+        (AddsPort base.old.datas leaf.now name.now ports.old.items ports.new.items) }
     ensures same { base.new ≡ base.old }
 {
     let width = base.width(alloc, &leaf.payload)?;
@@ -85,19 +96,17 @@ fn push_port(
     Ok(())
 }
 
-// The ports of leaves with these names, of which there are as many.
+// The ports of leaves with these names.
 fn ports_of(
     alloc: Global,
     base: &mut Base<'_>,
     leaves: &[Leaf],
     names: &[Name],
 ) -> Result<Vec<Port>, NoMemory>
+    requires { HavePorts base.old.datas leaves.now names.now }
     ensures ports { IfOk result (λ ps. PortsOf base.old.datas leaves.now names.now ps.items) }
     ensures same { base.new ≡ base.old }
 {
-    if leaves.len() != names.len() {
-        return Err(NoMemory);
-    }
     let mut ports = Vec::new(alloc);
     for (i, leaf) in leaves.iter().enumerate() {
         push_port(alloc, base, leaf, &names[i], &mut ports)?;
@@ -123,7 +132,10 @@ fn ports_at(
     program: &Program,
     ends: &Ends,
 ) -> Result<Ports, NoMemory>
-    ensures ports { IfOk result (ArePorts base.old.datas program.now ends.now.ins.items ends.now.outs.items) }
+    requires inputs { HavePorts base.old.datas ends.now.ins.items program.now.top.inputs }
+    requires outputs { HavePorts base.old.datas ends.now.outs.items program.now.top.outputs }
+    ensures ports { IfOk result
+        (ArePorts base.old.datas program.now ends.now.ins.items ends.now.outs.items) }
     ensures same { base.new ≡ base.old }
 {
     let inputs = ports_of(alloc, base, &ends.ins, program.top.inputs.as_slice())?;
@@ -138,22 +150,26 @@ fn ports_at(
     })
 }
 
+// The definition of a program's top.
+fn top_of(program: &Program) -> &Def
+    requires { HasSomePorts program.now }
+    ensures { IsTopOf program.now result.now }
+{
+    &program.defs.as_slice()[program.top.def.number as usize]
+}
+
 /// The ports of a program.
-///
-/// A top that doesn't lead from ports to a port, and names that aren't as many as its leaves, find no memory. No typed program has one.
 pub(crate) fn ports(
     alloc: Global,
     base: &mut Base<'_>,
     program: &Program,
 ) -> Result<Ports, NoMemory>
-    requires { base.old.datas ≡ program.now.datas }
+    requires datas { base.old.datas ≡ program.now.datas }
+    requires ports { HasSomePorts program.now }
     ensures ports { IfOk result (HasPorts program.now) }
     ensures same { base.new ≡ base.old }
 {
-    let Some(it) = program.defs.as_slice().get(program.top.def.number as usize) else {
-        return Err(NoMemory);
-    };
-    let ends = ends_of(alloc, base, &it.ty)?;
+    let ends = ends_of(alloc, base, &top_of(program).ty)?;
     let ports = ports_at(alloc, base, program, &ends);
     drop(ends);
     ports

@@ -1,8 +1,21 @@
-use Rattle.std.proofs.Common.{◌∙◌, ap, subst, length, arith}
+use Rattle.std.proofs.Common.{◌∙◌, ap, sym, subst, length, arith}
 use Rattle.net_built.specs.Circuits.{Ground}
-use Rattle.net_build.specs.Nets.{IsModuleAt}
+use Rattle.net_build.specs.Marks.{AreBelow}
+use Rattle.net_build.specs.Nets.{EachIsReady, IsModuleAt}
 use Rattle.net_build.proofs.Nets.{modules_grown, modules_whole}
 use Rattle.net_build.proofs.building.modules.Goals as goal
+
+pub module_at-requires-clause-place : goal.module_at-requires-clause-place
+module_at-requires-clause-place c =
+    let same = ap (λ (g : Ground). length g.order) c.loop-place.invariant.1 in
+    let count = ap length c.order-count.ensures in
+    omega (arith, c.loop-place-test.true, count, same)
+
+pub module_at-requires-clause-below : goal.module_at-requires-clause-below
+module_at-requires-clause-below c = subst (λ (g : Ground). AreBelow (length c.args.made.now) g.order) (sym c.loop-place.invariant.1) c.requires.below
+
+pub module_at-requires-clause-ready : goal.module_at-requires-clause-ready
+module_at-requires-clause-ready c = subst (λ (g : Ground). EachIsReady g.datas c.args.made.now) (sym c.loop-place.invariant.1) c.requires.ready
 
 pub loop-place-preserved : goal.loop-place-preserved
 loop-place-preserved c =

@@ -1,9 +1,14 @@
-use Rattle.std.proofs.Common.{sym, subst, List, Bool}
+use Rattle.std.proofs.Common.{◌∙◌, ap, sym, subst, length, List, Bool}
 use Rattle.std.proofs.lemmas.Result.{IfOk-weaker}
 use Rattle.chw_types.specs.declared.declarations.Data.{Data}
 use Rattle.net_built.specs.Modules.{IsOrderOfModules}
 use Rattle.net_build.specs.Outputs.{AreOutputMarks}
+use Rattle.net_build.proofs.OutputMarks.{marks_many}
 use Rattle.net_build.proofs.building.order_of.Goals as goal
+
+pub order_of_modules-requires-clause-marks : goal.order_of_modules-requires-clause-marks
+order_of_modules-requires-clause-marks c =
+    ap length c.deref.ensures.value ∙ marks_many c.args.base.now.datas c.args.made.now c.in_ok-has.has.items c.in_ok-has.ensures.marks
 
 pub returns-clause-order : goal.returns-clause-order
 returns-clause-order c =
@@ -15,4 +20,4 @@ returns-clause-order c =
     (λ order. (ds : List Data) → AreOutputMarks ds made has → IsOrderOfModules ds made order.items)
     (λ order. IsOrderOfModules datas made order.items)
     (λ order so. so datas marks)
-    c.order_of_modules.ensures
+    c.order_of_modules.ensures.order
