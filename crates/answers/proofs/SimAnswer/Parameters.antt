@@ -18,7 +18,7 @@ use Rattle.chw_meaning.specs.Means.{HasPorts, LeadsFrom, leads_to, leads_from, P
 use Rattle.chw_meaning.proofs.Once.{same_some}
 use Rattle.answers.specs.SimAnswer.Simulation.{TypesOf, no_type, type_of, no_type_of}
 use Rattle.answers.specs.SimAnswer.Types.{AddsPort, AddsTypes, AreInputs, AreMeasured, AreParameters, IsMeasuredPort, LeadsFromMeasured}
-use Rattle.answers.proofs.SimAnswer.Tops.{leaves_once}
+use Rattle.net_build.proofs.LeavesOnce.{leaves_once}
 
 -- ---- leaf by leaf
 

@@ -15,14 +15,12 @@ use crate::compiled::states::last_state;
 use chw_base::{NoMemory, Or};
 use chw_norm::laws::last_states_are_typed;
 use chw_terms::{Made, Program, Scene};
-use chw_typing::named_laws::data_types_in_order;
 use judge::{StateFault, judge_state};
 use net_build::build;
 use net_flat::TooLarge;
 use net_flat::flatten::flatten;
 use net_means::laws::built_nets_mean;
 use net_means::net_fits::laws::runs_begin_with_top;
-use net_means::net_widths::laws::runs_build_well_formed;
 use netlist::laws::an_order_excludes_loops;
 use netlist::ordering::order;
 use netlist::{Flat, Loop, Net, Order};
@@ -47,21 +45,6 @@ struct Counted {
     net: Net,
     steps: u32,
     definitions: u32,
-}
-
-// The net that is built of a normal state in which a run ends.
-fn net_of_normal(alloc: Global, normal: &Normal) -> Result<Net, NoMemory>
-    requires tidy { IsTidy normal.now.program }
-    requires typed { IsTyped normal.now.program }
-    requires state { (budget : ℕ) × EndsIn normal.now.program budget normal.now.made }
-    requires finished { IsFinished normal.now.program normal.now.made }
-    ensures net { IfOk result (Built normal.now.program normal.now.made) }
-    ensures well_formed { IfOk result (λ net. WellFormed net) }
-{
-    last_states_are_typed();
-    data_types_in_order();
-    runs_build_well_formed();
-    build(alloc, normal)
 }
 
 // The state in which a run ends as a normal one of which no made definition uses itself.
@@ -99,7 +82,7 @@ fn net_of_state(alloc: Global, program: &Program, made: &[Made]) -> Result<Net, 
     ensures fault { IfFault result (RefusesState program.now made.now) }
 {
     let normal = normal_of(alloc, program, made)?;
-    Ok(net_of_normal(alloc, &normal)?)
+    Ok(build(alloc, &normal)?)
 }
 
 // The net of a program.
