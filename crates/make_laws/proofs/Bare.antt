@@ -63,7 +63,7 @@ globals_bare ds = λ i. record {
 -- types
 
 mutual
-  type_bare : (g : Globals) (variables : List (List ℕ)) (t : Ty) → type_in g variables (bare_type t) ≡ type_in g variables t
+  pub type_bare : (g : Globals) (variables : List (List ℕ)) (t : Ty) → type_in g variables (bare_type t) ≡ type_in g variables t
   type_bare g variables (type_forall w k t) = λ i. for_all (kind_in k) (type_bare g (w.bytes ∷ variables) t i)
   type_bare g variables (type_arrow a b) = λ i. fun (type_bare g variables a i) (type_bare g variables b i)
   type_bare g variables (type_sum ts) = λ i. chain_of nat_sum (types_bare g variables ts i)

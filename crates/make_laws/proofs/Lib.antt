@@ -1,3 +1,3 @@
-mod Bare
+pub mod Bare
 mod Low
 mod Ports

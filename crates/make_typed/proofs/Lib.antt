@@ -1,0 +1,15 @@
+mod Apart
+mod Bindings
+mod Fields
+mod Filter
+mod Globals
+mod Good
+mod Known
+mod Named
+mod Numbers
+mod Parts
+mod Places
+mod Programs
+mod Scope
+mod Shape
+mod Within
