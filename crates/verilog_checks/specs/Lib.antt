@@ -1,2 +1,4 @@
 pub mod Fitting
+pub mod Formed
 pub mod Least
+pub mod Narrow

@@ -2,9 +2,10 @@
 ghost use Rattle.std.specs.Prelude.{◌≡◌, ◌==◌, ◌<◌, ◌≤◌, ◌-◌, ◌^◌, IfOk, length, min};
 ghost use Rattle.std.specs.List.{after_first};
 ghost use Rattle.std.specs.Prelude.{drop};
-ghost use Rattle.std.specs.Str.Parse.{digits_value};
+ghost use Rattle.std.specs.Str.Parse.{AllDigits, digits_value};
 ghost use Rattle.chw_bits.specs.Hex.{digits_at};
 ghost use Rattle.verilog_checks.specs.Fitting.{Fits};
+ghost use Rattle.verilog_checks.specs.Formed.{IsFormed};
 ghost use Rattle.verilog_rules.specs.Texts.{amount, is_literal_of, is_word_of};
 ghost use Rattle.std.specs.Prelude.{◌&&◌, nat_lt, ℕ};
 ghost use Rattle.chw_base.specs.declared.limits.TheConstants.{ADDRESS_BITS};
@@ -20,7 +21,8 @@ use verilog_tree::Word;
 
 // The hexadecimal digits of a literal, behind `'h`.
 fn digits<'t>(literal: &Word<'t>) -> &'t [u8]
-    ensures { result.now ≡ drop 1 (after_first (λ b. b == 39) literal.now.bytes.now) }
+    ensures digits { result.now ≡ drop 1 (after_first (λ b. b == 39) literal.now.bytes.now) }
+    ensures hex { IsFormed literal.now → AllDigits 16 result.now }
 {
     match behind(literal.bytes, b'\'') {
         [_, digits @ ..] => digits,
@@ -43,6 +45,7 @@ fn number(digits: &[u8]) -> u64
 fn padded(alloc: Global, count: usize, digits: &[u8]) -> Result<Vec<u8>, NoMemory>
     requires { length digits.now ≤ count }
     ensures count { IfOk result (λ text. length text.items ≡ count) }
+    ensures hex { AllDigits 16 digits.now → IfOk result (λ text. AllDigits 16 text.items) }
     ensures number { IfOk result (λ text. digits_value 16 text.items ≡ digits_value 16 digits.now) }
 {
     let mut text = vec![in alloc; b'0'; count - digits.len()]?;
@@ -50,20 +53,23 @@ fn padded(alloc: Global, count: usize, digits: &[u8]) -> Result<Vec<u8>, NoMemor
     Ok(text)
 }
 
-// The bits of as many digits as their width takes, where they fit it. What is no digit is in no text, and answered by want of memory.
+// The bits of as many digits as their width takes, where they fit it. Only memory may be wanting.
 fn read_all(alloc: Global, width: u32, text: &[u8]) -> Result<Option<Bits>, NoMemory>
-    requires { length text.now ≡ digits_at width }
+    requires count { length text.now ≡ digits_at width }
+    requires hex { AllDigits 16 text.now }
     ensures { IfOk result (λ bits. Fits width (digits_value 16 text.now) bits) }
 {
     match Bits::of_hex(alloc, width, text) {
         Ok(bits) => Ok(Some(bits)),
         Err(Or::Fault(HexFault::Width)) => Ok(None),
-        Err(_) => Err(NoMemory),
+        Err(Or::Fault(HexFault::NotHex)) => unreachable!(),
+        Err(Or::Memory) => Err(NoMemory),
     }
 }
 
 // The bits of digits, where they fit this width.
 fn read(alloc: Global, width: u32, digits: &[u8]) -> Result<Option<Bits>, NoMemory>
+    requires { AllDigits 16 digits.now }
     ensures { IfOk result (λ bits. Fits width (digits_value 16 digits.now) bits) }
 {
     let count = digit_count(width) as usize;
@@ -77,6 +83,7 @@ fn read(alloc: Global, width: u32, digits: &[u8]) -> Result<Option<Bits>, NoMemo
 
 /// The bits of this width that the number of a literal means, where it fits.
 pub fn bits_in(alloc: Global, width: u32, literal: &Word<'_>) -> Result<Option<Bits>, NoMemory>
+    requires { IsFormed literal.now }
     ensures { IfOk result (λ bits. Fits width (amount literal.now) bits) }
 {
     read(alloc, width, digits(literal))
@@ -84,6 +91,7 @@ pub fn bits_in(alloc: Global, width: u32, literal: &Word<'_>) -> Result<Option<B
 
 /// Whether a literal has this size, and its number fits.
 pub fn is_word(alloc: Global, literal: &Word<'_>, width: u32) -> Result<bool, NoMemory>
+    requires { IsFormed literal.now }
     ensures { IfOk result (λ r. r ≡ is_word_of width literal.now) }
 {
     if !has_size(literal, width) {
@@ -110,6 +118,8 @@ pub fn is_word_of_number(
     width: u32,
     other: &Word<'_>,
 ) -> Result<bool, NoMemory>
+    requires literal { IsFormed literal.now }
+    requires other { IsFormed other.now }
     ensures { IfOk result (λ r. r ≡ is_literal_of width (amount other.now) literal.now) }
 {
     if !has_size(literal, width) {

@@ -1,12 +1,12 @@
 //! The numbers of words.
-ghost use Rattle.std.specs.Prelude.{◌≡◌, ◌==◌, nat_lt, min, ◌-◌, ◌^◌, ◌≤◌, length};
+ghost use Rattle.std.specs.Prelude.{◌≡◌, ◌==◌, ◌<◌, nat_lt, min, ◌-◌, ◌^◌, ◌≤◌, length};
 ghost use Rattle.std.specs.Char.{digit_value};
-ghost use Rattle.std.specs.Prelude.{IfOk, ◌&&◌, ◌+◌, nat_le};
+ghost use Rattle.std.specs.Prelude.{◌&&◌, ◌+◌, nat_le};
+ghost use Rattle.chw_base.specs.declared.limits.TheConstants.{WIRE_BITS};
 ghost use Rattle.verilog_rules.specs.Texts.{size, width};
 ghost use Rattle.verilog_text.specs.Declared.{value};
 
 use crate::cut::before;
-use chw_base::NoMemory;
 use verilog_tree::{Range, Word};
 
 /// The number of a digit, and 36 of another byte.
@@ -48,18 +48,23 @@ pub fn is(digits: &[u8], n: u32) -> bool
     number(digits) == u64::from(n)
 }
 
-/// The number of these digits. Want of memory where it passes 32 bits.
-pub fn exact(digits: &[u8]) -> Result<u32, NoMemory>
-    ensures { IfOk result (λ n. n ≡ value digits.now) }
+/// The number of these digits, which has at most 32 bits.
+pub fn exact(digits: &[u8]) -> u32
+    requires { value digits.now < 2 ^ 32 }
+    ensures { result ≡ value digits.now }
 {
-    u32::try_from(number(digits)).map_err(|_| NoMemory)
+    match u32::try_from(number(digits)) {
+        Ok(number) => number,
+        Err(_) => unreachable!(),
+    }
 }
 
-/// How many bits a range has. Want of memory where that passes 32 bits.
-pub fn bits_of(range: &Range<'_>) -> Result<u32, NoMemory>
-    ensures { IfOk result (λ n. n ≡ width range.now) }
+/// How many bits a range has that is no wider than a wire may be.
+pub fn bits_of(range: &Range<'_>) -> u32
+    requires { width range.now ≤ WIRE_BITS }
+    ensures { result ≡ width range.now }
 {
-    exact(range.from.bytes)?.checked_add(1).ok_or(NoMemory)
+    exact(range.from.bytes) + 1
 }
 
 /// Whether a range has so many bits.
@@ -76,9 +81,10 @@ pub fn has_size(literal: &Word<'_>, n: u32) -> bool
     is(before(literal.bytes, b'\''), n)
 }
 
-/// The size of a literal. Want of memory where it passes 32 bits.
-pub fn size_of(literal: &Word<'_>) -> Result<u32, NoMemory>
-    ensures { IfOk result (λ n. n ≡ size literal.now) }
+/// The size of a literal that is no wider than a wire may be.
+pub fn size_of(literal: &Word<'_>) -> u32
+    requires { size literal.now ≤ WIRE_BITS }
+    ensures { result ≡ size literal.now }
 {
     exact(before(literal.bytes, b'\''))
 }
