@@ -1,4 +1,10 @@
+mod Driving
+mod Given
+mod Limited
 mod Marking
+mod Meaning
 mod ModuleDrivers
+mod OfWires
+mod Ordered
 mod Showing
 mod Taken

@@ -1,6 +1,8 @@
 //! The net of a text that keeps the rules.
 ghost use Rattle.std.specs.Prelude.{◌≡◌, ◌++◌, ◌<◌, ℕ, IfOk, OnOk, map, length, slice_index_or};
 ghost use Rattle.std.specs.List.{flat_map};
+ghost use Rattle.verilog_judge.specs.Meant.{AreMeant, AreMeantKinds, AreMeantWords, IsCut, IsMeant};
+ghost use Rattle.verilog_judge.specs.Meant.{IsMeantDriver, IsMeantIf, IsMeantModule, IsMeantValue};
 ghost use Rattle.verilog_judge.specs.Shown.{as_list, no_wire, shown_by};
 ghost use Rattle.verilog_rules.specs.NetOf.{bits, cells_by, first_bits, inputs_of, net_module, net_of, shown_wire, shown_wires, value_cell, wire, words_of};
 ghost use Rattle.netlist.specs.declared.net.Cell.TheVariants as cell;
@@ -19,14 +21,15 @@ use verilog_checks::numbers::{exact, size_of};
 use verilog_rules::{Driver, Operand, RamOf, Resolved, ResolvedModule, Value};
 use verilog_tree::{FirstWord, Line, Range, Word};
 
-// The bits that a literal means. One that doesn't fit its size is in no text that keeps the rules, and answered by want of memory.
+// The bits that a literal means.
 fn bits(alloc: Global, literal: &Word<'_>) -> Result<Bits, NoMemory>
+    requires { IsMeant literal.now }
     ensures { IfOk result (λ b. b ≡ bits literal.now) }
 {
-    let size = size_of(literal)?;
+    let size = size_of(literal);
     match bits_in(alloc, size, literal)? {
         Some(bits) => Ok(bits),
-        None => Err(NoMemory),
+        None => unreachable!(),
     }
 }
 
@@ -41,23 +44,25 @@ fn wires(alloc: Global, operands: &[Operand]) -> Result<Seq<WireId>, NoMemory>
     Ok(Seq::from(wires))
 }
 
-fn cut_cell(w: WireId, a: WireId, range: &Range<'_>) -> Result<Cell, NoMemory>
-    ensures { IfOk result (λ c. c ≡ cell.Cut w a (number range.now.from) (number range.now.to)) }
+fn cut_cell(w: WireId, a: WireId, range: &Range<'_>) -> Cell
+    requires { IsCut range.now }
+    ensures { result ≡ cell.Cut w a (number range.now.from) (number range.now.to) }
 {
-    let from = exact(range.from.bytes)?;
-    let to = exact(range.to.bytes)?;
-    Ok(Cell::Cut(w, a, from, to))
+    let from = exact(range.from.bytes);
+    let to = exact(range.to.bytes);
+    Cell::Cut(w, a, from, to)
 }
 
 // The cell of an assignment to this wire.
 fn value_cell(alloc: Global, w: WireId, value: &Value<'_>) -> Result<Cell, NoMemory>
+    requires { IsMeantValue value.now }
     ensures { IfOk result (λ c. c ≡ value_cell w value.now) }
 {
     match value {
         Value::Constant(literal) => Ok(Cell::Const(w, bits(alloc, literal)?)),
         Value::Copy(a) => Ok(Cell::Copy(w, a.wire)),
         Value::Join(parts, _) => Ok(Cell::Join(w, wires(alloc, parts.as_slice())?)),
-        Value::Cut(a, range) => cut_cell(w, a.wire, range),
+        Value::Cut(a, range) => Ok(cut_cell(w, a.wire, range)),
         Value::Unary(op, _, a) => Ok(Cell::Un(w, *op, a.wire)),
         Value::Binary(op, _, a, b) => Ok(Cell::Bin(w, *op, a.wire, b.wire)),
         Value::Choice(c, a, b) => Ok(Cell::Mux(w, c.wire, a.wire, b.wire)),
@@ -66,6 +71,7 @@ fn value_cell(alloc: Global, w: WireId, value: &Value<'_>) -> Result<Cell, NoMem
 
 // The first value of a register.
 fn first_bits(alloc: Global, literal: Option<Word<'_>>) -> Result<Bits, NoMemory>
+    requires { IsMeantIf literal }
     ensures { IfOk result (λ b. b ≡ first_bits literal.entry) }
 {
     match literal {
@@ -76,6 +82,7 @@ fn first_bits(alloc: Global, literal: Option<Word<'_>>) -> Result<Bits, NoMemory
 
 // The words of a RAM.
 fn words(alloc: Global, words: &[FirstWord<'_>]) -> Result<Seq<Bits>, NoMemory>
+    requires { AreMeantWords words.now }
     ensures { IfOk result (λ all. all ≡ map (λ (word : FirstWord). bits word.literal) words.now) }
 {
     let mut all = Vec::new(alloc);
@@ -86,6 +93,7 @@ fn words(alloc: Global, words: &[FirstWord<'_>]) -> Result<Seq<Bits>, NoMemory>
 }
 
 fn ram_cell(alloc: Global, ram: &RamOf<'_>) -> Result<Cell, NoMemory>
+    requires { AreMeantWords ram.now.words }
     ensures { IfOk result (λ c. c ≡ cell.Ram ram.now.register.wire ram.now.domain (words_of ram.now) (inputs_of ram.now)) }
 {
     let inputs = RamIn {
@@ -118,6 +126,7 @@ fn register_cell(
     domain: DomId,
     a: Operand,
 ) -> Result<Cell, NoMemory>
+    requires { AreMeantKinds m.now.wires }
     ensures { IfOk result (λ c. c ≡ cell.Reg w.wire domain (first_bits (literal_of (kind_at m.now.wires w))) a.wire) }
 {
     let bits = first_bits(alloc, literal_of(kind_at(m.wires.as_slice(), w)))?;
@@ -130,6 +139,8 @@ fn cell_by(
     m: &ResolvedModule<'_>,
     driver: &Driver<'_>,
 ) -> Result<Option<Cell>, NoMemory>
+    requires wires { AreMeantKinds m.now.wires }
+    requires driver { IsMeantDriver driver.now }
     ensures { IfOk result (λ c. as_list c ≡ cells_by m.now driver.now) }
 {
     match driver {
@@ -153,6 +164,8 @@ fn push_cell(
     driver: &Driver<'_>,
     cells: &mut Vec<Cell>,
 ) -> Result<(), NoMemory>
+    requires wires { AreMeantKinds m.now.wires }
+    requires driver { IsMeantDriver driver.now }
     ensures { OnOk result (cells.new.items ≡ cells.old.items ++ cells_by m.now driver.now) }
 {
     if let Some(cell) = cell_by(alloc, m, driver)? {
@@ -163,6 +176,7 @@ fn push_cell(
 
 // The cells of a module.
 fn cells(alloc: Global, m: &ResolvedModule<'_>) -> Result<Seq<Cell>, NoMemory>
+    requires { IsMeantModule m.now }
     ensures { IfOk result (λ cells. cells ≡ flat_map (cells_by m.now) m.now.drivers) }
 {
     let mut cells = Vec::new(alloc);
@@ -205,6 +219,7 @@ fn outputs(alloc: Global, m: &ResolvedModule<'_>) -> Result<Seq<WireId>, NoMemor
 }
 
 fn net_module(alloc: Global, m: &ResolvedModule<'_>) -> Result<Module, NoMemory>
+    requires { IsMeantModule m.now }
     ensures { IfOk result (λ r. r ≡ net_module m.now) }
 {
     let inputs = narrow(m.inputs)?;
@@ -220,6 +235,7 @@ fn net_module(alloc: Global, m: &ResolvedModule<'_>) -> Result<Module, NoMemory>
 }
 
 fn net_modules(alloc: Global, modules: &[ResolvedModule<'_>]) -> Result<Seq<Module>, NoMemory>
+    requires { AreMeant modules.now }
     ensures { IfOk result (λ ms. ms ≡ map net_module modules.now) }
 {
     let mut all = Vec::new(alloc);
@@ -229,10 +245,9 @@ fn net_modules(alloc: Global, modules: &[ResolvedModule<'_>]) -> Result<Seq<Modu
     Ok(Seq::from(all))
 }
 
-/// The net of a text.
-///
-/// Want of memory comes also where a width or a number passes 32 bits, or a literal doesn't fit its size: then a rule is broken.
+/// The net of a text, which keeps the rules on widths.
 pub fn net(alloc: Global, text: Resolved<'_>) -> Result<Net, NoMemory>
+    requires { AreMeant text.modules }
     ensures { IfOk result (λ net. net ≡ net_of text.entry) }
 {
     let modules = net_modules(alloc, text.modules.as_slice())?;

@@ -2,6 +2,7 @@
 #![tactic(auto)]
 
 mod building;
+pub mod laws;
 mod module_drivers;
 mod module_widths;
 mod parts;

@@ -1,8 +1,8 @@
 //! Whether each wire that is no input has one driver, and each output.
 ghost use Rattle.std.specs.Prelude.{◌≡◌, ◌<◌, ◌&&◌, ◌==◌, [], ◌∷◌, ◌+◌, ◌++◌, false, not, true, nat_le, IfOk, OnOk, drop, length, map, set, slice_index_or};
-ghost use Rattle.std.specs.Bool.{Decides};
-ghost use Rattle.std.specs.List.{AllByRecursion, flat_map};
+ghost use Rattle.std.specs.List.{flat_map};
 ghost use Rattle.verilog_checks.specs.Least.{least_after};
+ghost use Rattle.verilog_judge.specs.Driving.{AreWires, DriveTheirOwn, DrivesItsOwn};
 ghost use Rattle.verilog_judge.specs.Marks.{as_operand, marked, marking_checks, placed_checks, unmarked_checks};
 ghost use Rattle.verilog_rules.specs.Checks.{check, least_broken};
 ghost use Rattle.verilog_rules.specs.DriverRules.{driven_checks, driver_checks, drivers_from, drives, module_driver_checks, own_names, shows, some_output, undriven_checks, wire_number};
@@ -39,7 +39,7 @@ fn all_driven(alloc: Global, drivers: &[Driver<'_>]) -> Result<Vec<Operand>, NoM
     Ok(driven)
 }
 
-// Adds the output that a driver drives.
+// Adds the output that a driver drives. An output past those that 32 bits number finds no memory.
 fn push_shown(shown: &mut Vec<Operand>, driver: &Driver<'_>) -> Result<(), NoMemory>
     ensures { OnOk result (shown.new.items ≡ shown.old.items ++ map as_operand (shows driver.now)) }
 {
@@ -95,13 +95,6 @@ fn own_wires<'a, 't>(wires: &'a [Wire<'t>], inputs: usize) -> &'a [Wire<'t>]
     } else {
         &[]
     }
-}
-
-// Whether each of these wires is one of so many.
-fn are_within(driven: &[Operand], count: usize) -> bool
-    ensures { Decides result (AllByRecursion (λ a. wire_number a < count) driven.now) }
-{
-    driven.iter().all(|a| (a.wire.number as usize) < count)
 }
 
 // Marks a wire, which is no input and not marked before.
@@ -166,28 +159,20 @@ fn check_by_marks(
     check_marks(least, own_marks(marks, inputs), names);
 }
 
-// How many things there are. Want of memory where that passes a usize.
-fn total(inputs: usize, others: usize) -> Result<usize, NoMemory>
-    ensures { IfOk result (λ n. n ≡ inputs + others) }
-{
-    inputs.checked_add(others).ok_or(NoMemory)
-}
-
-// The rules on things of which the first ones are inputs, and the others have these names.
+// The rules on so many things, of which the first ones are inputs, and the others have these names.
 fn check_driven(
     alloc: Global,
     least: &mut Least,
     inputs: usize,
+    count: usize,
     names: &[Word<'_>],
     driven: &[Operand],
 ) -> Result<(), NoMemory>
+    requires count { count ≡ inputs + length names.now }
+    requires driven { AreWires count driven.now }
     ensures { OnOk result (least.new ≡ least_after (least_after least.old (driven_checks inputs [] driven.now))
         (undriven_checks (map wire_number driven.now) inputs names.now)) }
 {
-    let count = total(inputs, names.len())?;
-    if !are_within(driven, count) {
-        return Err(NoMemory);
-    }
     let mut marks = vec![in alloc; false; count]?;
     check_by_marks(least, inputs, names, driven, &mut marks);
     Ok(())
@@ -195,14 +180,15 @@ fn check_driven(
 
 // A module: its outputs, and its wires.
 fn check_module(alloc: Global, least: &mut Least, m: &ResolvedModule<'_>) -> Result<(), NoMemory>
+    requires { DrivesItsOwn m.now }
     ensures { OnOk result (least.new ≡ least_after least.old (module_driver_checks m.now)) }
 {
     let shown = all_shown(alloc, m.drivers.as_slice())?;
     let outputs = names_of_lines(alloc, m.outputs.as_slice())?;
-    check_driven(alloc, least, 0, &outputs, &shown)?;
+    check_driven(alloc, least, 0, m.outputs.len(), &outputs, &shown)?;
     let driven = all_driven(alloc, m.drivers.as_slice())?;
     let names = names_of_wires(alloc, own_wires(m.wires.as_slice(), m.inputs))?;
-    check_driven(alloc, least, m.inputs, &names, &driven)?;
+    check_driven(alloc, least, m.inputs, m.wires.len(), &names, &driven)?;
     Ok(())
 }
 
@@ -213,6 +199,7 @@ fn check_placed(
     is_last: bool,
     m: &ResolvedModule<'_>,
 ) -> Result<(), NoMemory>
+    requires { DrivesItsOwn m.now }
     ensures { OnOk result (least.new ≡ least_after least.old (placed_checks is_last m.now)) }
 {
     if !is_last {
@@ -227,6 +214,7 @@ fn check_modules(
     least: &mut Least,
     modules: &[ResolvedModule<'_>],
 ) -> Result<(), NoMemory>
+    requires { DriveTheirOwn modules.now }
     ensures { OnOk result (least.new ≡ least_after least.old (drivers_from modules.now)) }
 {
     for (k, m) in modules.iter().enumerate() {
@@ -239,8 +227,9 @@ fn check_modules(
 ///
 /// It takes memory for the wires that a module drives, their names, and a mark for each. Its time is linear in the text.
 ///
-/// Want of memory comes also where a driver's wire or output isn't one of the module, which no resolved name is.
+/// The text keeps the rules on names.
 pub fn drivers(alloc: Global, text: &Resolved<'_>) -> Result<Option<usize>, NoMemory>
+    requires { DriveTheirOwn text.now.modules }
     ensures { IfOk result (λ place. place ≡ least_broken (driver_checks text.now)) }
 {
     let mut least = Least::new();

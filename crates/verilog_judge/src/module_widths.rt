@@ -1,9 +1,11 @@
 //! Whether the widths, literals and numbers of a text agree.
 ghost use Rattle.std.specs.Prelude.{◌≡◌, [], ◌∷◌, slice_index, OnOk, IfOk, length, slice_get, take};
-ghost use Rattle.std.specs.List.{flat_map};
+ghost use Rattle.std.specs.List.{AllByRecursion, flat_map};
 ghost use Rattle.verilog_checks.specs.Least.{least_after};
 ghost use Rattle.verilog_rules.specs.Checks.{least_broken};
 ghost use Rattle.verilog_rules.specs.WidthRules.{driver_width_checks, joined_checks, module_width_checks, port_checks, width_checks, widths_from, widths_of, width_check, wire_widths};
+ghost use Rattle.verilog_checks.specs.Narrow.{AreNarrow};
+ghost use Rattle.verilog_judge.specs.Read.{AreRead, IsReadDriver, IsReadModule};
 ghost use Rattle.verilog_judge.specs.Words.{used_checks};
 
 use crate::parts::{check_lines, check_value, check_width, check_wires};
@@ -36,6 +38,7 @@ fn check_used(
     reads: &[Operand],
     drives: &[Operand],
 ) -> Result<(), NoMemory>
+    requires { IsReadModule used.now }
     ensures { OnOk result (least.new ≡ least_after least.old (used_checks widths.now used.now reads.now drives.now)) }
 {
     let inputs = bits_of_wires(alloc, first_wires(used.wires.as_slice(), used.inputs))?;
@@ -55,6 +58,7 @@ fn check_use(
     reads: &[Operand],
     drives: &[Operand],
 ) -> Result<(), NoMemory>
+    requires { AreRead earlier.now }
     ensures { OnOk result (least.new ≡ least_after least.old (joined_checks widths.now (slice_get earlier.now used.number) reads.now drives.now)) }
 {
     match earlier.get(used.number as usize) {
@@ -64,18 +68,12 @@ fn check_use(
 }
 
 // What is assigned to the output of this number.
-fn check_output(
-    least: &mut Least,
-    m: &ResolvedModule<'_>,
-    widths: &[u32],
-    k: usize,
-    a: Operand,
-) -> Result<(), NoMemory>
-    ensures { OnOk result (least.new ≡ least_after least.old (width_check widths.now (slice_index (widths_of m.now.outputs) k) a ∷ [])) }
+fn check_output(least: &mut Least, m: &ResolvedModule<'_>, widths: &[u32], k: usize, a: Operand)
+    requires { AreNarrow m.now.outputs }
+    ensures { least.new ≡ least_after least.old (width_check widths.now (slice_index (widths_of m.now.outputs) k) a ∷ []) }
 {
-    let n = output_width(m.outputs.as_slice(), k)?;
+    let n = output_width(m.outputs.as_slice(), k);
     check_width(least, widths, n, a);
-    Ok(())
 }
 
 // A driver of a module whose wires have these widths.
@@ -87,12 +85,15 @@ fn check_driver(
     widths: &[u32],
     driver: &Driver<'_>,
 ) -> Result<(), NoMemory>
-    requires { widths.now ≡ wire_widths m.now }
+    requires widths { widths.now ≡ wire_widths m.now }
+    requires earlier { AreRead earlier.now }
+    requires module { IsReadModule m.now }
+    requires driver { IsReadDriver driver.now }
     ensures { OnOk result (least.new ≡ least_after least.old (driver_width_checks earlier.now m.now driver.now)) }
 {
     match driver {
         Driver::Assign(w, value) => check_value(alloc, least, widths, wide(widths, *w), value),
-        Driver::Output(k, _, a) => check_output(least, m, widths, *k, *a),
+        Driver::Output(k, _, a) => Ok(check_output(least, m, widths, *k, *a)),
         Driver::Register(w, _, reset, a) => {
             let kind = kind_at(m.wires.as_slice(), *w);
             check_register(alloc, least, widths, wide(widths, *w), kind, *reset, *a)
@@ -131,7 +132,10 @@ fn check_drivers(
     widths: &[u32],
     drivers: &[Driver<'_>],
 ) -> Result<(), NoMemory>
-    requires { widths.now ≡ wire_widths m.now }
+    requires widths { widths.now ≡ wire_widths m.now }
+    requires earlier { AreRead earlier.now }
+    requires module { IsReadModule m.now }
+    requires drivers { AllByRecursion IsReadDriver drivers.now }
     ensures { OnOk result (least.new ≡ least_after least.old (flat_map (driver_width_checks earlier.now m.now) drivers.now)) }
 {
     for driver in drivers {
@@ -148,6 +152,8 @@ fn check_module(
     earlier: &[ResolvedModule<'_>],
     m: &ResolvedModule<'_>,
 ) -> Result<(), NoMemory>
+    requires earlier { AreRead earlier.now }
+    requires module { IsReadModule m.now }
     ensures { OnOk result (least.new ≡ least_after least.old (module_width_checks earlier.now m.now)) }
 {
     let widths = bits_of_wires(alloc, m.wires.as_slice())?;
@@ -162,6 +168,7 @@ fn check_modules(
     least: &mut Least,
     modules: &[ResolvedModule<'_>],
 ) -> Result<(), NoMemory>
+    requires { AreRead modules.now }
     ensures { OnOk result (least.new ≡ least_after least.old (widths_from [] modules.now)) }
 {
     for (k, m) in modules.iter().enumerate() {
@@ -174,9 +181,9 @@ fn check_modules(
 ///
 /// It takes memory for the widths of a module's wires and for the bits of a literal. Its time is linear in the text.
 ///
-/// Want of memory comes also where a width or a count passes 32 bits, which is over a limit, or a literal has a byte that is no digit,
-/// which no token has.
+/// The text keeps the limits, and its words are tokens.
 pub fn widths(alloc: Global, text: &Resolved<'_>) -> Result<Option<usize>, NoMemory>
+    requires { AreRead text.now.modules }
     ensures { IfOk result (λ place. place ≡ least_broken (width_checks text.now)) }
 {
     let mut least = Least::new();

@@ -1,9 +1,12 @@
 //! Whether the widths of wires and of what is assigned to them agree.
-ghost use Rattle.std.specs.Prelude.{◌≡◌, ◌==◌, [], ◌∷◌, OnOk, map, nat_le};
+ghost use Rattle.std.specs.Prelude.{◌≡◌, ◌≤◌, ◌==◌, [], ◌∷◌, OnOk, map, nat_le};
 ghost use Rattle.std.specs.List.{flat_map};
+ghost use Rattle.verilog_checks.specs.Formed.{IsFormed};
 ghost use Rattle.verilog_checks.specs.Least.{least_after};
+ghost use Rattle.verilog_judge.specs.Read.{AreNarrowWires, AreReadKinds, IsReadKind, IsReadValue};
 ghost use Rattle.verilog_rules.specs.Checks.{check};
-ghost use Rattle.verilog_rules.specs.Texts.{is_word_of};
+ghost use Rattle.chw_base.specs.declared.limits.TheConstants.{WIRE_BITS};
+ghost use Rattle.verilog_rules.specs.Texts.{is_word_of, width};
 ghost use Rattle.verilog_rules.specs.WidthRules.{arithmetic_checks, binary_checks, comparison_checks, cut_checks, equal_checks, join_checks};
 ghost use Rattle.verilog_rules.specs.WidthRules.{kind_checks, memory_width_checks, range_check, unary_checks, value_checks, width_check, wire_checks};
 ghost use Rattle.verilog_tree.specs.declared.word.Line.{Line};
@@ -39,6 +42,7 @@ pub(crate) fn check_word(
     n: u32,
     literal: &Word<'_>,
 ) -> Result<(), NoMemory>
+    requires { IsFormed literal.now }
     ensures { OnOk result (least.new ≡ least_after least.old (check literal.now.at (is_word_of n literal.now) ∷ [])) }
 {
     let fits = is_word(alloc, literal, n)?;
@@ -57,6 +61,7 @@ fn check_memory(least: &mut Least, n: u32, literal: &Word<'_>, memory: &Memory<'
 }
 
 fn check_kind(alloc: Global, least: &mut Least, n: u32, kind: &Kind<'_>) -> Result<(), NoMemory>
+    requires { IsReadKind kind.now }
     ensures { OnOk result (least.new ≡ least_after least.old (kind_checks n kind.now)) }
 {
     match kind {
@@ -70,9 +75,11 @@ fn check_kind(alloc: Global, least: &mut Least, n: u32, kind: &Kind<'_>) -> Resu
 }
 
 fn check_wire(alloc: Global, least: &mut Least, wire: &Wire<'_>) -> Result<(), NoMemory>
+    requires narrow { width wire.now.line.range ≤ WIRE_BITS }
+    requires kind { IsReadKind wire.now.kind }
     ensures { OnOk result (least.new ≡ least_after least.old (wire_checks wire.now)) }
 {
-    let n = bits_of(&wire.line.range)?;
+    let n = bits_of(&wire.line.range);
     check_range(least, &wire.line.range);
     check_kind(alloc, least, n, &wire.kind)
 }
@@ -83,6 +90,8 @@ pub(crate) fn check_wires(
     least: &mut Least,
     wires: &[Wire<'_>],
 ) -> Result<(), NoMemory>
+    requires narrow { AreNarrowWires wires.now }
+    requires kinds { AreReadKinds wires.now }
     ensures { OnOk result (least.new ≡ least_after least.old (flat_map wire_checks wires.now)) }
 {
     for wire in wires {
@@ -132,24 +141,18 @@ fn check_join(least: &mut Least, widths: &[u32], n: u32, parts: &[Operand], clos
     check_least(least, n, sum, close);
 }
 
-// Whether a cut stays within its wire. Where it doesn't, and its end stands behind its begin, nothing of the end matters.
-fn check_cut(
-    least: &mut Least,
-    widths: &[u32],
-    n: u32,
-    a: Operand,
-    range: &Range<'_>,
-) -> Result<(), NoMemory>
-    ensures { OnOk result (least.new ≡ least_after least.old (cut_checks widths.now n a range.now)) }
+// Whether a cut stays within its wire. Where it doesn't, its end says nothing more, since it stands behind its begin.
+fn check_cut(least: &mut Least, widths: &[u32], n: u32, a: Operand, range: &Range<'_>)
+    requires { range.now.from.at ≤ range.now.to.at }
+    ensures { least.new ≡ least_after least.old (cut_checks widths.now n a range.now) }
 {
     let within = is_below(range.from.bytes, wide(widths, a));
     least.check(range.from.at, within);
-    if !within && range.from.at <= range.to.at {
-        return Ok(());
+    if !within {
+        return;
     }
-    let from = exact(range.from.bytes)?;
+    let from = exact(range.from.bytes);
     least.check(range.to.at, runs_down(from, range.to.bytes, n));
-    Ok(())
 }
 
 fn check_unary(least: &mut Least, widths: &[u32], n: u32, op: Op1, sign: usize, a: Operand)
@@ -217,11 +220,12 @@ pub(crate) fn check_value(
     n: u32,
     value: &Value<'_>,
 ) -> Result<(), NoMemory>
+    requires { IsReadValue value.now }
     ensures { OnOk result (least.new ≡ least_after least.old (value_checks widths.now n value.now)) }
 {
     match value {
         Value::Constant(literal) => check_word(alloc, least, n, literal),
-        Value::Cut(a, range) => check_cut(least, widths, n, *a, range),
+        Value::Cut(a, range) => Ok(check_cut(least, widths, n, *a, range)),
         Value::Copy(a) => Ok(check_width(least, widths, n, *a)),
         Value::Join(parts, close) => Ok(check_join(least, widths, n, parts.as_slice(), *close)),
         Value::Unary(op, sign, a) => Ok(check_unary(least, widths, n, *op, *sign, *a)),

@@ -1,6 +1,8 @@
 //! Whether the widths and literals of registers and RAMs agree.
 ghost use Rattle.std.specs.Prelude.{◌≡◌, [], ◌∷◌, OnOk, option_map, slice_get};
+ghost use Rattle.verilog_checks.specs.Formed.{IsFormed};
 ghost use Rattle.verilog_checks.specs.Least.{least_after};
+ghost use Rattle.verilog_judge.specs.Read.{AreReadWords, IsFormedIf, IsReadKindIf, IsSmall};
 ghost use Rattle.verilog_judge.specs.Words.{word_check};
 ghost use Rattle.verilog_rules.specs.WidthRules.{address_checks, kind_at, literal_of, memory_of, ram_width_checks, register_checks, reset_literal_checks, word_checks, words_checks};
 
@@ -53,6 +55,8 @@ fn check_reset(
     first: Option<Word<'_>>,
     reset: Option<Word<'_>>,
 ) -> Result<(), NoMemory>
+    requires first { IsFormedIf first }
+    requires reset { IsFormedIf reset }
     ensures { OnOk result (least.new ≡ least_after least.old (reset_literal_checks n first.entry reset.entry)) }
 {
     if let (Some(first), Some(reset)) = (first, reset) {
@@ -73,6 +77,8 @@ pub(crate) fn check_register(
     reset: Option<Word<'_>>,
     a: Operand,
 ) -> Result<(), NoMemory>
+    requires kind { IsReadKindIf kind }
+    requires reset { IsFormedIf reset }
     ensures { OnOk result (least.new ≡ least_after least.old (register_checks widths.now n kind.entry reset.entry a)) }
 {
     check_reset(alloc, least, n, literal_of(kind), reset)?;
@@ -89,6 +95,7 @@ fn check_first(
     place: usize,
     word: &FirstWord<'_>,
 ) -> Result<(), NoMemory>
+    requires { IsFormed word.now.literal }
     ensures { OnOk result (least.new ≡ least_after least.old (word_check n count place word.now)) }
 {
     let place = narrow(place)?;
@@ -105,6 +112,7 @@ fn check_words(
     count: u32,
     words: &[FirstWord<'_>],
 ) -> Result<(), NoMemory>
+    requires { AreReadWords words.now }
     ensures { OnOk result (least.new ≡ least_after least.old (word_checks n count 0 words.now)) }
 {
     for (place, word) in words.iter().enumerate() {
@@ -130,6 +138,7 @@ fn check_ram_words(
     count: u32,
     ram: &RamOf<'_>,
 ) -> Result<(), NoMemory>
+    requires { AreReadWords ram.now.words }
     ensures { OnOk result (least.new ≡ least_after least.old (words_checks widths.now n count ram.now)) }
 {
     check_words(alloc, least, n, count, ram.words.as_slice())?;
@@ -151,11 +160,13 @@ pub(crate) fn check_ram(
     memory: Option<Memory<'_>>,
     ram: &RamOf<'_>,
 ) -> Result<(), NoMemory>
+    requires memory { IsSmall memory }
+    requires words { AreReadWords ram.now.words }
     ensures { OnOk result (least.new ≡ least_after least.old (ram_width_checks widths.now n memory.entry ram.now)) }
 {
     match memory {
         Some(memory) => {
-            let count = count_of(&memory)?;
+            let count = count_of(&memory);
             check_ram_words(alloc, least, widths, n, count, ram)
         }
         None => Ok(()),

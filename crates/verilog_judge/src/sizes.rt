@@ -1,5 +1,8 @@
 //! The widths of wires and outputs.
-ghost use Rattle.std.specs.Prelude.{◌≡◌, ◌<◌, ◌^◌, IfOk, map, slice_index, take};
+ghost use Rattle.std.specs.Prelude.{◌≡◌, ◌<◌, ◌≤◌, ◌^◌, IfOk, map, slice_index, take};
+ghost use Rattle.chw_base.specs.declared.limits.TheConstants.{RAM_WORDS};
+ghost use Rattle.verilog_checks.specs.Narrow.{AreNarrow};
+ghost use Rattle.verilog_judge.specs.Read.{AreNarrowWires};
 ghost use Rattle.verilog_rules.specs.WidthRules.{count_of, wide, widths_of};
 ghost use Rattle.verilog_rules.specs.Texts.{width};
 ghost use Rattle.verilog_rules.specs.declared.resolved.Wire.{Wire};
@@ -21,22 +24,24 @@ pub(crate) fn wide(widths: &[u32], a: Operand) -> u32
 
 /// The widths of wires.
 pub(crate) fn bits_of_wires(alloc: Global, wires: &[Wire<'_>]) -> Result<Vec<u32>, NoMemory>
+    requires { AreNarrowWires wires.now }
     ensures { IfOk result (λ widths. widths.items ≡ map (λ (w : Wire). width w.line.range) wires.now) }
 {
     let mut widths = Vec::new(alloc);
     for wire in wires {
-        widths.push(bits_of(&wire.line.range)?)?;
+        widths.push(bits_of(&wire.line.range))?;
     }
     Ok(widths)
 }
 
 /// The widths of lines.
 pub(crate) fn bits_of_lines(alloc: Global, lines: &[Line<'_>]) -> Result<Vec<u32>, NoMemory>
+    requires { AreNarrow lines.now }
     ensures { IfOk result (λ widths. widths.items ≡ widths_of lines.now) }
 {
     let mut widths = Vec::new(alloc);
     for line in lines {
-        widths.push(bits_of(&line.range)?)?;
+        widths.push(bits_of(&line.range))?;
     }
     Ok(widths)
 }
@@ -53,20 +58,20 @@ pub(crate) fn first_wires<'a, 't>(wires: &'a [Wire<'t>], count: usize) -> &'a [W
 }
 
 /// The width of the output of this number.
-pub(crate) fn output_width(lines: &[Line<'_>], k: usize) -> Result<u32, NoMemory>
-    ensures { IfOk result (λ n. n ≡ slice_index (widths_of lines.now) k) }
+pub(crate) fn output_width(lines: &[Line<'_>], k: usize) -> u32
+    requires { AreNarrow lines.now }
+    ensures { result ≡ slice_index (widths_of lines.now) k }
 {
     match lines.get(k) {
         Some(line) => bits_of(&line.range),
-        None => Ok(0),
+        None => 0,
     }
 }
 
-/// How many words a memory has. Want of memory where that passes 32 bits.
-pub(crate) fn count_of(memory: &Memory<'_>) -> Result<u32, NoMemory>
-    ensures { IfOk result (λ n. n ≡ count_of memory.now) }
+/// How many words a memory has that has no more than it may have.
+pub(crate) fn count_of(memory: &Memory<'_>) -> u32
+    requires { count_of memory.now ≤ RAM_WORDS }
+    ensures { result ≡ count_of memory.now }
 {
-    exact(memory.places.to.bytes)?
-        .checked_add(1)
-        .ok_or(NoMemory)
+    exact(memory.places.to.bytes) + 1
 }
