@@ -1,0 +1,4 @@
+pub mod Examples
+pub mod Holding
+pub mod Vcd
+pub mod Views
