@@ -1,0 +1,4 @@
+mod Alike
+mod ExamplesShown
+mod Values
+mod Widths

@@ -1,0 +1,28 @@
+//! The laws of shared wires. Each is a function that does nothing, and says its law of all flat
+//! nets.
+ghost use Rattle.std.specs.Prelude.{◌≡◌, ℕ, Bool, List, length, Some, slice_get};
+ghost use Rattle.chw_clock.specs.Histories.{FitsPorts};
+ghost use Rattle.chw_clock.specs.declared.event.Event.{Event};
+ghost use Rattle.netlist.specs.NetValue.{NetValue};
+ghost use Rattle.netlist.specs.Orders.{HasNoLoop};
+ghost use Rattle.netlist.specs.Sound.{Sound};
+ghost use Rattle.netlist.specs.declared.net.Flat.{Flat};
+ghost use Rattle.share_laws.specs.Same.{IsKnown, Same};
+
+/// In a sound flat net equal wires have one width, and known bits have the width of their wire.
+pub fn same_wires_are_as_wide()
+    ensures same { (flat : Flat) (v w : ℕ) → Sound flat → Same flat v w
+        → slice_get flat.widths v ≡ slice_get flat.widths w }
+    ensures known { (flat : Flat) (w : ℕ) (bits : List Bool) → Sound flat → IsKnown flat w bits
+        → slice_get flat.widths w ≡ Some (length bits) }
+{}
+
+/// In a sound flat net without a loop equal wires have the same bits at each history of the net's
+/// ports, and a wire of which bits are known has these.
+pub fn same_wires_have_one_value()
+    ensures same { (flat : Flat) (h : List Event) (v w : ℕ) (a b : List Bool) → Sound flat
+        → HasNoLoop flat → FitsPorts flat.ports h → Same flat v w
+        → NetValue flat h v a → NetValue flat h w b → a ≡ b }
+    ensures known { (flat : Flat) (h : List Event) (w : ℕ) (bits : List Bool) → Sound flat
+        → HasNoLoop flat → FitsPorts flat.ports h → IsKnown flat w bits → NetValue flat h w bits }
+{}
