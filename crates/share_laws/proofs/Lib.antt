@@ -1,4 +1,6 @@
 mod Alike
 mod ExamplesShown
+mod OneShared
+mod Rising
 mod Values
 mod Widths

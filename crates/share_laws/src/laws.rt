@@ -3,11 +3,13 @@
 ghost use Rattle.std.specs.Prelude.{◌≡◌, ℕ, Bool, List, length, Some, slice_get};
 ghost use Rattle.chw_clock.specs.Histories.{FitsPorts};
 ghost use Rattle.chw_clock.specs.declared.event.Event.{Event};
+ghost use Rattle.net_rules.specs.PortsHold.{PortsHold};
 ghost use Rattle.netlist.specs.NetValue.{NetValue};
 ghost use Rattle.netlist.specs.Orders.{HasNoLoop};
 ghost use Rattle.netlist.specs.Sound.{Sound};
 ghost use Rattle.netlist.specs.declared.net.Flat.{Flat};
 ghost use Rattle.share_laws.specs.Same.{IsKnown, Same};
+ghost use Rattle.share_laws.specs.Shares.{Shares};
 
 /// In a sound flat net equal wires have one width, and known bits have the width of their wire.
 pub fn same_wires_are_as_wide()
@@ -25,4 +27,10 @@ pub fn same_wires_have_one_value()
         → NetValue flat h v a → NetValue flat h w b → a ≡ b }
     ensures known { (flat : Flat) (h : List Event) (w : ℕ) (bits : List Bool) → Sound flat
         → HasNoLoop flat → FitsPorts flat.ports h → IsKnown flat w bits → NetValue flat h w bits }
+{}
+
+/// A sound flat net without a loop, whose ports hold, has at most one shared net.
+pub fn one_shared_net()
+    ensures { (flat a b : Flat) → Sound flat → HasNoLoop flat → PortsHold flat.ports
+        → Shares flat a → Shares flat b → a ≡ b }
 {}
