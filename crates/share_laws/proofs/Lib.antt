@@ -1,6 +1,12 @@
 mod Alike
+mod AsNet
+mod Back
 mod ExamplesShown
+mod IsFlat
 mod OneShared
+mod Renamed
 mod Rising
+mod SameBits
+mod Soundness
 mod Values
 mod Widths

@@ -1,15 +1,18 @@
 //! The laws of shared wires. Each is a function that does nothing, and says its law of all flat
 //! nets.
-ghost use Rattle.std.specs.Prelude.{◌≡◌, ℕ, Bool, List, length, Some, slice_get};
+ghost use Rattle.std.specs.Prelude.{◌≡◌, ◌↔◌, ℕ, Bool, List, length, Some, slice_get};
+ghost use Rattle.chw_base.specs.declared.index.WireId.{WireId};
 ghost use Rattle.chw_clock.specs.Histories.{FitsPorts};
 ghost use Rattle.chw_clock.specs.declared.event.Event.{Event};
+ghost use Rattle.net_flat.specs.Flattened.{IsFlatOf};
 ghost use Rattle.net_rules.specs.PortsHold.{PortsHold};
+ghost use Rattle.net_rules.specs.WellFormed.{WellFormed};
 ghost use Rattle.netlist.specs.NetValue.{NetValue};
 ghost use Rattle.netlist.specs.Orders.{HasNoLoop};
 ghost use Rattle.netlist.specs.Sound.{Sound};
 ghost use Rattle.netlist.specs.declared.net.Flat.{Flat};
 ghost use Rattle.share_laws.specs.Same.{IsKnown, Same};
-ghost use Rattle.share_laws.specs.Shares.{Shares};
+ghost use Rattle.share_laws.specs.Shares.{Becomes, Shares, as_net};
 
 /// In a sound flat net equal wires have one width, and known bits have the width of their wire.
 pub fn same_wires_are_as_wide()
@@ -33,4 +36,27 @@ pub fn same_wires_have_one_value()
 pub fn one_shared_net()
     ensures { (flat a b : Flat) → Sound flat → HasNoLoop flat → PortsHold flat.ports
         → Shares flat a → Shares flat b → a ≡ b }
+{}
+
+/// The shared net of a sound flat net is sound. A sound flat net whose ports hold is, as one
+/// module, a well formed net, of which it is the flat net.
+pub fn sharing_keeps_soundness()
+    ensures sound { (flat shared : Flat) → Sound flat → Shares flat shared → Sound shared }
+    ensures well_formed { (flat : Flat) → Sound flat → PortsHold flat.ports
+        → WellFormed (as_net flat) }
+    ensures flat { (flat : Flat) → Sound flat → IsFlatOf (as_net flat) flat }
+{}
+
+/// At each history of the ports a wire has the bits that the wire has which it becomes, and so has
+/// each output. Neither net has a loop.
+pub fn sharing_keeps_bits()
+    ensures wires { (flat shared : Flat) (s : Shares flat shared) (h : List Event) (w n : ℕ)
+        (bits : List Bool) → Sound flat → HasNoLoop flat → HasNoLoop shared
+        → FitsPorts flat.ports h → Becomes flat s.kept w n
+        → (NetValue flat h w bits ↔ NetValue shared h n bits) }
+    ensures outputs { (flat shared : Flat) (h : List Event) (k : ℕ) (o p : WireId)
+        (bits : List Bool) → Sound flat → HasNoLoop flat → HasNoLoop shared
+        → FitsPorts flat.ports h → Shares flat shared → slice_get flat.outputs k ≡ Some o
+        → slice_get shared.outputs k ≡ Some p
+        → (NetValue flat h o.number bits ↔ NetValue shared h p.number bits) }
 {}
