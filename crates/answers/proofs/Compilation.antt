@@ -1,2 +1,4 @@
 pub mod Ends
+pub mod FlatNets
 pub mod Once
+pub mod There

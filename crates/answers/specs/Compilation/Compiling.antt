@@ -74,8 +74,8 @@ pub record IsSmall (p : Program) (state : List Made) : Type 0 where
   pub few : (net : Net) → Built p state net → HasManyWires net → ⊥
   pub no_loop : (net : Net) (flat : Flat) → Built p state net → IsFlatOf net flat → HasNoLoop flat
 
--- a run of so many steps at most ends in a state that is blocked nowhere, acyclic and small; that a
--- net is built of it isn't said
+-- a run of so many steps at most ends in a state that is blocked nowhere, acyclic and small; that
+-- there is a net of it follows
 pub record EndsSmall (p : Program) (budget : ℕ) : Type 0 where
   pub state : List Made
   pub run : EndsIn p budget state

@@ -3,6 +3,8 @@ use Rattle.std.specs.Prelude.{◌≡◌, ◌≤◌, ℕ, List, length}
 use Rattle.chw_base.specs.declared.limits.TheConstants.{MADE_DEFINITIONS}
 use Rattle.chw_terms.specs.declared.program.Program.{Program}
 use Rattle.chw_terms.specs.declared.scene.Made.{Made}
+use Rattle.chw_terms.specs.Tidy.{IsTidy}
+use Rattle.chw_typing.specs.Programs.{IsTyped}
 use Rattle.rewriting.specs.Runs.{Run}
 use Rattle.chw_norm.specs.Rules.{built}
 use Rattle.netlist.specs.declared.net.Flat.{Flat}
@@ -44,3 +46,10 @@ abbrev pub CompiledEndsSmall : Type 0
 CompiledEndsSmall =
     (p : Program) (budget : ℕ) (net : Net) (flat : Flat)
     → CompilesTo p budget net flat → EndsSmall p budget
+
+-- the other way round, a tidy and typed program whose run ends so is compiled to some net: there is
+-- a net of the state, and a flat net of that one
+abbrev pub SmallEndsCompile : Type 0
+SmallEndsCompile =
+    (p : Program) (budget : ℕ) → IsTidy p → IsTyped p → EndsSmall p budget
+    → (net : Net) × (flat : Flat) × CompilesTo p budget net flat

@@ -1,10 +1,13 @@
 //! The laws of what is compiled, each as the contract of a call that does nothing.
 ghost use Rattle.answers.specs.Compilation.Laws.{CompiledEndsSmall, EndsAreRuns};
 ghost use Rattle.answers.specs.Compilation.Laws.{NothingRefusesACompile, OneCompiled, OneCount};
+ghost use Rattle.answers.specs.Compilation.Laws.{SmallEndsCompile};
 
-use chw_norm::laws::{nothing_refuses_a_normal_run, one_last_state};
+use chw_norm::laws::{last_states_are_typed, nothing_refuses_a_normal_run, one_last_state};
+use ended_laws::laws::none_is_stuck;
 use net_built::laws::one_net_built;
 use net_flat::laws::one_flat_net;
+use net_there::laws::finished_states_have_nets;
 
 /// The state in which a run ends is one to which so many first steps lead.
 pub fn ends_are_runs()
@@ -38,4 +41,14 @@ pub fn nothing_refuses_a_compile()
     one_last_state();
     one_net_built();
     one_flat_net();
+}
+
+/// A tidy and typed program whose run ends in a state that is blocked nowhere, acyclic and small is
+/// compiled to some net.
+pub fn small_ends_compile()
+    ensures { SmallEndsCompile }
+{
+    last_states_are_typed();
+    none_is_stuck();
+    finished_states_have_nets();
 }
