@@ -99,7 +99,8 @@ shaped taps tree same =
       main = d.it;
       type = d.type;
       term = d.term;
-      declarations = all_four a.are b.are c.are d.are ends;
+      declarations =
+          all_four {a = Domain a.it false} {b = Domain b.it false} {c = Def c.it c.type c.term} {d = Def d.it d.type d.term} a.are b.are c.are d.are ends;
       first_is = a.is;
       second_is = b.is;
       adder_is = c.is;
