@@ -1,20 +1,17 @@
 -- A sound flat net whose ports hold is a well formed net of one module.
-use Rattle.std.proofs.Common.{◌≡◌, ℕ, zero, suc, ◌+◌, ◌<◌, ◌≤◌, List, [], ◌∷◌, ◌++◌, length, map, take, Option, Some, None, slice_get, refl, sym, ap, subst, ◌∙◌, arith}
+use Rattle.std.proofs.Common.{◌≡◌, ℕ, zero, suc, ◌+◌, ◌<◌, List, [], ◌∷◌, ◌++◌, length, map, take, Option, Some, None, slice_get, refl, sym, ap, subst, ◌∙◌, arith}
 use Rattle.std.specs.Prelude.{flat_map, option_and_then, option_map}
 use Rattle.std.specs.List.{AllByRecursion}
 use Rattle.std.proofs.lemmas.List.{length-map}
 use Rattle.std.proofs.lemmas.Option.{slice_get-map, slice_get_within}
 use Rattle.chw_base.specs.declared.index.WireId.{WireId}
-use Rattle.chw_base.specs.declared.limits.TheConstants.{MODULES}
 use Rattle.chw_clock.specs.declared.event.Port.{Port}
 use Rattle.net_rules.proofs.EachItem.{all_of_each}
 use Rattle.net_rules.specs.PortsHold.{PortsHold}
-use Rattle.net_rules.specs.WellFormed.{DriversHold, EachRuleHolds, HasFewWords, Holds, LimitsHold, NamesExist, NamesHold, PartExists, Together, TopNamesHold, TopWidthsHold, WellFormed, WidthsAgree, WidthsHold, wire_driven_at}
-use Rattle.net_rules.specs.declared.well_formed.NetCode.{NetCode}
+use Rattle.net_rules.specs.WellFormed.{DriversHold, EachRuleHolds, HasFewWords, LimitsHold, NamesExist, NamesHold, PartExists, Together, WellFormed, WidthsAgree, WidthsHold, wire_driven_at}
 use Rattle.net_rules.specs.declared.well_formed.NetCode.TheVariants.{Name, Width, Driver, Limit}
 use Rattle.netlist.specs.Feeds.{target, target_at}
-use Rattle.netlist.specs.NetValue.{HasCell}
-use Rattle.netlist.specs.Sound.{DrivesFrom, EachOnce, FitsCell, Fits1, Fits2, HasWidth, IsWire, Sound}
+use Rattle.netlist.specs.Sound.{DrivesFrom, FitsCell, Fits1, Fits2, HasWidth, IsWire, Sound}
 use Rattle.netlist.specs.Wires.{driven, read_by}
 use Rattle.netlist.specs.declared.net.Cell.{Cell}
 use Rattle.netlist.specs.declared.net.Cell.TheVariants.{Const, Copy, Join, Cut, Un, Bin, Mux, Reg, Ram, Use}
@@ -23,7 +20,7 @@ use Rattle.netlist.specs.declared.net.Module.{Module}
 use Rattle.netlist.specs.declared.net.Op1.{Op1}
 use Rattle.netlist.specs.declared.net.Op1.TheVariants.{Not}
 use Rattle.netlist.specs.declared.net.Op2.{Op2}
-use Rattle.netlist.specs.declared.net.Op2.TheVariants.{Add, Sub, Mul, And, Or, Xor, Eq, LtU, LtS, Shl, Shr, Sar}
+use Rattle.netlist.specs.declared.net.Op2.TheVariants.{Add, Sub, Mul, And, Or, Xor, Eq, LtU, LtS}
 use Rattle.netlist.proofs.Driven.{each_driven_once, target_in_order, target_is_wire}
 use Rattle.netlist.proofs.Lengths.{fits_cell}
 use Rattle.share_laws.specs.Shares.{as_net}
@@ -49,7 +46,7 @@ two_read widths LtS w a b f = (is_wire widths a f.1.0 f.1.1, is_wire widths b f.
 two_read widths _ w a b f = (is_wire widths a f.1.0 f.1.2, f.0)
 
 -- what a cell that fits reads exists
-reads_exist : (domains : ℕ) (widths : List ℕ) (cell : Cell) → FitsCell domains widths cell → AllByRecursion (IsWire widths) (read_by cell)
+pub reads_exist : (domains : ℕ) (widths : List ℕ) (cell : Cell) → FitsCell domains widths cell → AllByRecursion (IsWire widths) (read_by cell)
 reads_exist domains widths (Const w bits) f = tt
 reads_exist domains widths (Copy w a) f = (is_wire widths a f.0 f.2, tt)
 reads_exist domains widths (Join w parts) f = f.0

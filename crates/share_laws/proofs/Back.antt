@@ -1,12 +1,12 @@
 -- The bits that a wire of a shared net has, the wires that become it have too.
-use Rattle.std.proofs.Common.{◌≡◌, ℕ, zero, suc, ◌+◌, ◌<◌, ◌≤◌, Bool, List, [], ◌∷◌, length, Some, None, slice_get, refl, sym, ap, subst, ◌∙◌, arith}
+use Rattle.std.proofs.Common.{◌≡◌, ℕ, ◌<◌, Bool, List, [], ◌∷◌, length, Some, slice_get, refl, sym, ap, subst, ◌∙◌, arith}
 use Rattle.chw_base.specs.declared.index.DomId.{DomId}
 use Rattle.chw_base.specs.declared.index.WireId.{WireId}
 use Rattle.chw_bits.specs.Bits.{number_of}
-use Rattle.chw_clock.specs.Histories.{FitsPorts, before, taken}
+use Rattle.chw_clock.specs.Histories.{FitsPorts}
 use Rattle.chw_clock.specs.declared.event.Event.{Event}
 use Rattle.netlist.specs.Feeds.{target}
-use Rattle.netlist.specs.NetValue.{HasCell, HasRam, Memory, NetValue, ReadValues, WordAt, zeros}
+use Rattle.netlist.specs.NetValue.{HasCell, Memory, NetValue, ReadValues, WordAt, zeros}
 use Rattle.netlist.specs.NetValue.NetValue.{first, input, later, operated, outside, shown, unread}
 use Rattle.netlist.specs.NetValue.ReadValues.{read_and, read_none}
 use Rattle.netlist.specs.NetValue.WordAt.{kept, unwritten, written}
@@ -15,7 +15,7 @@ use Rattle.netlist.specs.Orders.{HasNoLoop}
 use Rattle.netlist.specs.Sound.{Sound}
 use Rattle.netlist.specs.Wires.{read_by}
 use Rattle.netlist.specs.declared.net.Cell.{Cell}
-use Rattle.netlist.specs.declared.net.Cell.TheVariants.{Const, Ram, Reg}
+use Rattle.netlist.specs.declared.net.Cell.TheVariants.{Ram, Reg}
 use Rattle.netlist.specs.declared.net.Flat.{Flat}
 use Rattle.netlist.specs.declared.net.RamIn.{RamIn}
 use Rattle.netlist.proofs.Before.{before_fits, taken_fits}
@@ -25,7 +25,7 @@ use Rattle.share_laws.specs.Shares.{AllBecome, Becomes, IsNumbered, IsSharedCell
 use Rattle.share_laws.specs.Shares.IsNumbered.{as_input, as_kept}
 use Rattle.share_laws.specs.Shares.IsSharedCell.{as_constant, as_own}
 use Rattle.share_laws.proofs.Alike.{Alike, alike}
-use Rattle.share_laws.proofs.Alike.Alike.{bins, consts, copies, cuts, joins, muxes, rams, regs, uns}
+use Rattle.share_laws.proofs.Alike.Alike.{rams, regs}
 use Rattle.share_laws.proofs.Renamed.{cell_of, new_width}
 use Rattle.share_laws.proofs.Values.{inputs_of, known_value, memory_of, same_value}
 

@@ -1,31 +1,29 @@
 -- The examples hold.
-use Rattle.std.proofs.Common.{◌≡◌, ℕ, zero, suc, ◌+◌, ◌-◌, ◌<◌, ◌≤◌, ◌⊎◌, inl, inr, Bool, List, [], ◌∷◌, length, Some, None, slice_get, refl, sym, ap, subst, ◌∙◌, arith}
+use Rattle.std.proofs.Common.{◌≡◌, ℕ, zero, suc, ◌-◌, ◌≤◌, ◌⊎◌, inl, inr, Bool, List, [], ◌∷◌, length, Some, None, slice_get, refl, sym, ap, subst, ◌∙◌, arith}
 use Rattle.std.specs.Prelude.{slice_index}
 use Rattle.std.proofs.lemmas.Option.{same_Some}
 use Rattle.chw_base.specs.declared.index.WireId.{WireId}
 use Rattle.chw_bits.specs.Bits.{number_of}
-use Rattle.chw_clock.specs.Histories.{FitsEvent, FitsPorts}
+use Rattle.chw_clock.specs.Histories.{FitsPorts}
 use Rattle.chw_clock.specs.declared.event.Event.{Event}
 use Rattle.netlist.specs.Examples.{byte, bit, dom, wire}
 use Rattle.netlist.specs.Feeds.{Feeds, awaited_at, target}
-use Rattle.netlist.specs.NetValue.{HasCell}
 use Rattle.netlist.specs.NetValue.NetValue.{first}
-use Rattle.netlist.specs.Orders.{HasNoLoop, IsLoop, wire_numbers}
+use Rattle.netlist.specs.Orders.{HasNoLoop, wire_numbers}
 use Rattle.netlist.specs.Sound.{IsWireWidth, Sound}
 use Rattle.netlist.specs.Wires.{read_by}
 use Rattle.netlist.specs.declared.net.Cell.{Cell}
-use Rattle.netlist.specs.declared.net.Cell.TheVariants.{Const, Copy, Cut, Un, Bin, Mux, Reg}
-use Rattle.netlist.specs.declared.net.Flat.{Flat}
+use Rattle.netlist.specs.declared.net.Cell.TheVariants.{Const, Copy, Cut, Un, Bin, Mux}
 use Rattle.netlist.specs.declared.net.Op1.TheVariants.{Not}
 use Rattle.netlist.specs.declared.net.Op2.TheVariants.{Add}
-use Rattle.share_laws.specs.Examples.{ChoiceIsFirst, CopyGoes, InitialsDiffer, PipelinesAreSame, SumIsKnown, bit_of_copy, bit_of_input, known_choice, register, sum_of_constants, two_initials, two_pipelines}
+use Rattle.share_laws.specs.Examples.{ChoiceIsFirst, CopyGoes, InitialsDiffer, PipelinesAreSame, SumIsKnown, bit_of_copy, register, sum_of_constants, two_initials, two_pipelines}
 use Rattle.share_laws.specs.Same.{AllKnown, Copies, IsFolded, IsKnown, Same}
 use Rattle.share_laws.specs.Same.AllKnown.{known_and, known_none}
 use Rattle.share_laws.specs.Same.AllSame.{same_and, same_none}
 use Rattle.share_laws.specs.Same.Copies.{chosen, copy, whole}
 use Rattle.share_laws.specs.Same.IsKnown.{carried, constant, folded}
 use Rattle.share_laws.specs.Same.Same.{copied, equal_bits, equal_cells, itself, turned}
-use Rattle.share_laws.specs.Shares.{Becomes, IsAmong, IsLive, IsProper, Serves, Shares, Stands}
+use Rattle.share_laws.specs.Shares.{IsAmong, IsLive, IsProper, Serves, Stands}
 use Rattle.share_laws.specs.Shares.IsLive.{for_cell, for_output}
 use Rattle.share_laws.specs.Shares.IsNumbered.{as_input, as_kept}
 use Rattle.share_laws.specs.Shares.IsProper.{of_cell, of_input}

@@ -1,7 +1,6 @@
 -- A flat net has one shared net.
-use Rattle.std.proofs.Common.{◌≡◌, ℕ, zero, suc, ◌+◌, ◌<◌, ◌≤◌, ◌⊎◌, inl, inr, Bool, List, [], ◌∷◌, ◌++◌, length, map, take, Some, None, slice_get, refl, sym, ap, subst, ◌∙◌, arith, le_antisymm}
+use Rattle.std.proofs.Common.{◌≡◌, ℕ, ◌+◌, Bool, List, [], ◌∷◌, ◌++◌, length, map, take, Some, slice_get, refl, sym, ap, subst, ◌∙◌, arith}
 use Rattle.std.specs.Prelude.{option_and_then, slice_index}
-use Rattle.chw_base.specs.declared.index.DomId.{DomId}
 use Rattle.chw_base.specs.declared.index.WireId.{WireId}
 use Rattle.chw_clock.specs.Histories.{FitsEvent, FitsPorts, HaveWidths}
 use Rattle.chw_clock.specs.declared.event.Event.{Event}
@@ -19,9 +18,9 @@ use Rattle.netlist.specs.declared.net.Flat.{Flat}
 use Rattle.netlist.proofs.Driven.{each_driven_once}
 use Rattle.netlist.proofs.OneValue.{one_value}
 use Rattle.netlist.proofs.Widths.{made_length}
-use Rattle.share_laws.specs.Same.{IsKnown, Same, bare}
+use Rattle.share_laws.specs.Same.{IsKnown, bare}
 use Rattle.share_laws.specs.Same.Same.{chained, turned}
-use Rattle.share_laws.specs.Shares.{AllBecome, AreSharedCells, Becomes, IsAmong, IsNumbered, IsSharedCell, RisesFrom, Serves, Shares}
+use Rattle.share_laws.specs.Shares.{AllBecome, AreSharedCells, Becomes, IsNumbered, IsSharedCell, RisesFrom, Serves, Shares}
 use Rattle.share_laws.specs.Shares.IsSharedCell.{as_constant, as_own}
 use Rattle.share_laws.proofs.Alike.{alike, equal_cells, same_wire}
 use Rattle.share_laws.proofs.Rising.{one_number, same_rising}
@@ -82,7 +81,7 @@ all_become_once flat kept (w ∷ wires) (n ∷ ns) (m ∷ ms) r a b =
 
 module _ (flat : Flat) (sound : Sound flat) (no_loop : HasNoLoop flat) (hold : PortsHold flat.ports) where
   -- the bits that are known of a wire are determined
-  one_known : (w : ℕ) (a b : List Bool) → IsKnown flat w a → IsKnown flat w b → a ≡ b
+  pub one_known : (w : ℕ) (a b : List Bool) → IsKnown flat w a → IsKnown flat w b → a ≡ b
   one_known w a b k l =
       let h = first_event flat.ports ∷ [] in
       let fits = a_history flat.ports hold in

@@ -1,5 +1,5 @@
 -- New numbers of wires: cells by their places, and widths.
-use Rattle.std.proofs.Common.{◌≡◌, ℕ, zero, suc, ◌+◌, ◌<◌, ◌≤◌, Bool, List, [], ◌∷◌, ◌++◌, length, map, take, Option, Some, None, slice_get, refl, sym, ap, subst, ◌∙◌, arith}
+use Rattle.std.proofs.Common.{◌≡◌, ℕ, zero, suc, ◌+◌, ◌<◌, ◌≤◌, List, [], ◌∷◌, ◌++◌, length, map, take, Some, slice_get, refl, sym, ap, subst, ◌∙◌, arith}
 use Rattle.std.specs.Prelude.{option_and_then, option_map, slice_index}
 use Rattle.std.proofs.lemmas.Option.{same_Some, slice_get-get_or, slice_get-map}
 use Rattle.chw_base.specs.declared.index.WireId.{WireId}
@@ -9,12 +9,11 @@ use Rattle.netlist.specs.Sound.{Sound}
 use Rattle.netlist.specs.declared.net.Cell.{Cell}
 use Rattle.netlist.specs.declared.net.Flat.{Flat}
 use Rattle.netlist.proofs.Driven.{target_is_wire}
-use Rattle.share_laws.specs.Shares.{AllBecome, AreSharedCells, Becomes, IsAmong, IsLive, IsNumbered, IsProper, IsSharedCell, Serves, Shares}
+use Rattle.share_laws.specs.Shares.{AllBecome, AreSharedCells, Becomes, IsAmong, IsLive, IsNumbered, IsProper, IsSharedCell, Shares}
 use Rattle.share_laws.specs.Shares.IsLive.{for_cell, for_output}
 use Rattle.share_laws.specs.Shares.IsNumbered.{as_input, as_kept}
 use Rattle.share_laws.specs.Shares.IsProper.{of_cell, of_input}
 use Rattle.share_laws.specs.Shares.IsSharedCell.{as_constant, as_own}
-use Rattle.share_laws.proofs.Rising.{rises_at}
 use Rattle.share_laws.proofs.Widths.{AreAsWide, same_width}
 
 -- the wire that the cell at a place is of

@@ -1,6 +1,6 @@
 -- The shared net of a sound flat net is sound.
-use Rattle.std.proofs.Common.{◌≡◌, ℕ, zero, suc, ◌+◌, ◌-◌, ◌<◌, ◌≤◌, Bool, List, [], ◌∷◌, ◌++◌, length, map, take, get_or, Option, Some, None, slice_get, refl, sym, ap, subst, ◌∙◌, arith, length-append}
-use Rattle.std.specs.Prelude.{option_and_then, slice_index}
+use Rattle.std.proofs.Common.{◌≡◌, ℕ, zero, suc, ◌+◌, ◌-◌, ◌<◌, ◌≤◌, List, [], ◌∷◌, ◌++◌, length, map, take, get_or, Some, slice_get, refl, sym, ap, subst, ◌∙◌, arith, length-append}
+use Rattle.std.specs.Prelude.{slice_index}
 use Rattle.std.specs.List.{AllByRecursion}
 use Rattle.std.proofs.lemmas.List.{length-map, length-take-le, take_at}
 use Rattle.std.proofs.lemmas.Option.{slice_get-get_or, slice_get_within}
@@ -10,10 +10,9 @@ use Rattle.chw_clock.specs.declared.event.Port.{Port}
 use Rattle.chw_clock.specs.declared.event.Ports.{Ports}
 use Rattle.net_rules.proofs.EachItem.{all_of_each}
 use Rattle.netlist.specs.Feeds.{target}
-use Rattle.netlist.specs.Sound.{DrivesFrom, FitsCell, Fits1, Fits2, HasWidth, IsWire, IsWireWidth, Sound}
+use Rattle.netlist.specs.Sound.{DrivesFrom, FitsCell, Fits1, Fits2, IsWire, IsWireWidth, Sound}
 use Rattle.netlist.specs.Wires.{read_by}
 use Rattle.netlist.specs.declared.net.Cell.{Cell}
-use Rattle.netlist.specs.declared.net.Cell.TheVariants.{Const}
 use Rattle.netlist.specs.declared.net.Flat.{Flat}
 use Rattle.netlist.specs.declared.net.Op1.{Op1}
 use Rattle.netlist.specs.declared.net.Op1.TheVariants.{Not, RedAnd, RedOr, RedXor}
@@ -21,13 +20,12 @@ use Rattle.netlist.specs.declared.net.Op2.{Op2}
 use Rattle.netlist.specs.declared.net.Op2.TheVariants.{Add, Sub, Mul, And, Or, Xor, Eq, LtU, LtS, Shl, Shr, Sar}
 use Rattle.netlist.proofs.Lengths.{fits_cell}
 use Rattle.netlist.proofs.Places.{all_at}
-use Rattle.share_laws.specs.Same.{bare}
-use Rattle.share_laws.specs.Shares.{AllBecome, AreSharedCells, IsAmong, IsNumbered, IsSharedCell, Shares}
+use Rattle.share_laws.specs.Shares.{AreSharedCells, IsAmong, IsNumbered, IsSharedCell, Shares}
 use Rattle.share_laws.specs.Shares.IsNumbered.{as_kept}
 use Rattle.share_laws.specs.Shares.IsSharedCell.{as_constant, as_own}
 use Rattle.share_laws.proofs.Alike.{Alike, alike}
 use Rattle.share_laws.proofs.Alike.Alike.{bins, consts, copies, cuts, joins, muxes, rams, regs, uns}
-use Rattle.share_laws.proofs.Renamed.{SharedAt, become_wide, count_shared, kept_within, new_width, shared_at, shared_target}
+use Rattle.share_laws.proofs.Renamed.{become_wide, count_shared, kept_within, new_width, shared_at, shared_target}
 use Rattle.share_laws.proofs.Rising.{rises_fit}
 use Rattle.share_laws.proofs.Widths.{AreAsWide, known_width, sums_alike, width_at}
 

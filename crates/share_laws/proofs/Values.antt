@@ -1,5 +1,5 @@
 -- At each history equal wires have the same bits, and a wire of which bits are known has these.
-use Rattle.std.proofs.Common.{◌≡◌, ℕ, zero, suc, ◌+◌, ◌-◌, ◌<◌, ◌≤◌, ◌==◌, Bool, true, false, List, [], ◌∷◌, ◌++◌, length, Option, Some, None, slice_get, ◌⊎◌, inl, inr, refl, sym, ap, subst, ◌∙◌, arith, if◌then◌else◌}
+use Rattle.std.proofs.Common.{◌≡◌, ℕ, zero, suc, ◌+◌, ◌-◌, ◌<◌, ◌≤◌, ◌==◌, Bool, true, false, List, [], ◌∷◌, length, Option, Some, None, slice_get, ◌⊎◌, inl, inr, refl, sym, ap, subst, ◌∙◌, arith, if◌then◌else◌}
 use Rattle.std.specs.Prelude.{drop, take}
 use Rattle.std.proofs.lemmas.Bool.Decides.{leb_tells}
 use Rattle.std.proofs.lemmas.List.{append-nil, take_all}
@@ -10,13 +10,13 @@ use Rattle.chw_bits.specs.Bits.{cut_of, number_of}
 use Rattle.chw_clock.specs.Histories.{FitsPorts, before, taken}
 use Rattle.chw_clock.specs.declared.event.Event.{Event}
 use Rattle.netlist.specs.Feeds.{target}
-use Rattle.netlist.specs.NetValue.{HasCell, HasRam, HasValue, Memory, NetValue, ReadValues, WordAt, writes, zeros}
+use Rattle.netlist.specs.NetValue.{HasCell, HasValue, Memory, NetValue, ReadValues, WordAt, writes, zeros}
 use Rattle.netlist.specs.NetValue.NetValue.{first, later, operated, outside, shown, unread}
 use Rattle.netlist.specs.NetValue.ReadValues.{read_and, read_none}
 use Rattle.netlist.specs.NetValue.WordAt.{kept, unwritten, written}
 use Rattle.netlist.specs.Operators.{KeepsNothing, operator}
 use Rattle.netlist.specs.Orders.{HasNoLoop}
-use Rattle.netlist.specs.Sound.{FitsCell, HasWidth, Sound}
+use Rattle.netlist.specs.Sound.{Sound}
 use Rattle.netlist.specs.Wires.{read_by}
 use Rattle.netlist.specs.declared.net.Cell.{Cell}
 use Rattle.netlist.specs.declared.net.Cell.TheVariants.{Const, Copy, Join, Cut, Mux, Ram, Reg}
@@ -27,14 +27,14 @@ use Rattle.netlist.proofs.Lengths.{fits_cell}
 use Rattle.netlist.proofs.OneValue.{one_value}
 use Rattle.netlist.proofs.Ordered.{an_order}
 use Rattle.netlist.proofs.Values.{every_value}
-use Rattle.share_laws.specs.Same.{AllKnown, AllSame, Copies, IsFolded, IsKnown, Same, bare}
+use Rattle.share_laws.specs.Same.{AllKnown, AllSame, Copies, IsKnown, Same}
 use Rattle.share_laws.specs.Same.AllKnown.{known_and, known_none}
 use Rattle.share_laws.specs.Same.AllSame.{same_and, same_none}
 use Rattle.share_laws.specs.Same.Copies.{chosen, copy, either, single, whole}
 use Rattle.share_laws.specs.Same.IsKnown.{carried, constant, folded}
 use Rattle.share_laws.specs.Same.Same.{chained, copied, equal_bits, equal_cells, itself, turned}
 use Rattle.share_laws.proofs.Alike.{Alike, alike}
-use Rattle.share_laws.proofs.Alike.Alike.{bins, consts, copies, cuts, joins, muxes, rams, regs, uns}
+use Rattle.share_laws.proofs.Alike.Alike.{cuts, joins, rams, regs}
 use Rattle.share_laws.proofs.Widths.{folded_keeps, same_width, width_at}
 
 -- two wires have the same bits at a history

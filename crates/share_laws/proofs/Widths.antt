@@ -1,17 +1,15 @@
 -- Equal wires are as wide as each other, and known bits have the width of their wire.
-use Rattle.std.proofs.Common.{◌≡◌, ℕ, suc, ◌+◌, ◌-◌, ◌<◌, ◌==◌, Bool, true, false, List, [], ◌∷◌, length, Option, Some, None, slice_get, get_or, refl, sym, ap, subst, ◌∙◌, arith, if◌then◌else◌}
+use Rattle.std.proofs.Common.{◌≡◌, ℕ, suc, ◌+◌, ◌-◌, ◌==◌, Bool, true, false, List, [], ◌∷◌, length, Option, Some, slice_get, get_or, refl, sym, ap, ◌∙◌, arith, if◌then◌else◌}
 use Rattle.std.specs.Prelude.{fold, option_and_then, slice_index, unwrap_or}
-use Rattle.std.specs.List.{AllByRecursion}
-use Rattle.std.proofs.lemmas.Option.{slice_get-get_or, slice_get_within, unwrap_or-slice_get}
+use Rattle.std.proofs.lemmas.Option.{slice_get-get_or, unwrap_or-slice_get}
 use Rattle.chw_base.specs.declared.index.WireId.{WireId}
 use Rattle.chw_bits.specs.Bits.{number_of}
 use Rattle.netlist.specs.Feeds.{target}
-use Rattle.netlist.specs.NetValue.{HasCell}
-use Rattle.netlist.specs.Operators.{KeepsNothing, operator}
-use Rattle.netlist.specs.Sound.{FitsCell, Fits1, Fits2, HasWidth, IsWire, Sound, width_of_all}
+use Rattle.netlist.specs.Operators.{KeepsNothing}
+use Rattle.netlist.specs.Sound.{FitsCell, Fits1, Fits2, Sound, width_of_all}
 use Rattle.netlist.specs.Wires.{read_by}
 use Rattle.netlist.specs.declared.net.Cell.{Cell}
-use Rattle.netlist.specs.declared.net.Cell.TheVariants.{Const, Copy, Join, Cut, Un, Bin, Mux, Reg, Ram, Use}
+use Rattle.netlist.specs.declared.net.Cell.TheVariants.{Const, Copy, Mux, Reg, Ram, Use}
 use Rattle.netlist.specs.declared.net.Flat.{Flat}
 use Rattle.netlist.specs.declared.net.Op1.{Op1}
 use Rattle.netlist.specs.declared.net.Op1.TheVariants.{Not, RedAnd, RedOr, RedXor}
@@ -19,7 +17,7 @@ use Rattle.netlist.specs.declared.net.Op2.{Op2}
 use Rattle.netlist.specs.declared.net.Op2.TheVariants.{Add, Sub, Mul, And, Or, Xor, Eq, LtU, LtS, Shl, Shr, Sar}
 use Rattle.netlist.proofs.Lengths.{fits_cell}
 use Rattle.netlist.proofs.Widths.{Lengths, operator_width}
-use Rattle.share_laws.specs.Same.{AllKnown, AllSame, Copies, IsFolded, IsKnown, Same, bare}
+use Rattle.share_laws.specs.Same.{AllKnown, AllSame, Copies, IsFolded, IsKnown, Same}
 use Rattle.share_laws.specs.Same.AllKnown.{known_and, known_none}
 use Rattle.share_laws.specs.Same.AllSame.{same_and, same_none}
 use Rattle.share_laws.specs.Same.Copies.{chosen, copy, either, single, whole}
