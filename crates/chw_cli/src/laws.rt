@@ -7,20 +7,34 @@ ghost use Rattle.chw_cli.specs.Reads.{Asks};
 ghost use Rattle.chw_cli.specs.declared.status.Status.{Status};
 ghost use Rattle.chw_words.specs.Commands.{IsCommand};
 ghost use Rattle.chw_words.specs.declared.command.Command.TheVariants.{Make};
-ghost use Rattle.chw_cli.specs.MakeLaws.{HaveOneOfTwoStatuses, IsOfMake, MakeIsRefusedForItsProgram, WordsAreRefusedForTheProgram};
+ghost use Rattle.chw_cli.specs.MakeLaws.{HaveOneOfTwoStatuses, IsOfMake, MadeTextsAreTyped, MakeIsRefusedForItsProgram, WordsAreRefusedForTheProgram};
 
 use answers::make_answer::laws::made_stimuli;
 use answers::sim_answer::laws::refusals;
 use chw_base::{Shelf, Sink};
+use chw_check::laws::typed_has_no_fault;
 use chw_lexer::laws::{no_fault, one_splitting};
 use chw_parser::laws::one_tree;
+use chw_resolve::laws::well_named_has_no_fault;
 use chw_words::laws::words_are_one_command;
 use make_laws::laws::{
     made_programs_take_words, made_texts_are_descriptions, made_texts_have_the_tree,
 };
+use make_typed::laws::{made_names_are_known, made_programs_are_there, made_programs_are_typed};
 
-/// The text and the stimulus that `make` makes are never at fault: it is refused for the names or
-/// the types of the text's program, or because this can't be compiled. Such a refusal has one of
+/// The text that `make` makes is a description that is typed.
+pub fn made_texts_are_typed()
+    ensures { MadeTextsAreTyped }
+{
+    made_texts_are_descriptions();
+    made_texts_have_the_tree();
+    made_names_are_known();
+    made_programs_are_there();
+    made_programs_are_typed();
+}
+
+/// The text and the stimulus that `make` makes are never at fault, nor are the names and the types
+/// of the text: it is refused only because its program can't be compiled. Such a refusal has one of
 /// two statuses.
 pub fn make_is_refused_for_its_program()
     ensures answer { MakeIsRefusedForItsProgram }
@@ -34,6 +48,10 @@ pub fn make_is_refused_for_its_program()
     made_texts_are_descriptions();
     made_texts_have_the_tree();
     made_programs_take_words();
+    made_names_are_known();
+    made_programs_are_typed();
+    well_named_has_no_fault();
+    typed_has_no_fault();
     made_stimuli();
     refusals();
 }
