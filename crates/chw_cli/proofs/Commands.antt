@@ -5,12 +5,13 @@ use Rattle.chw_cli.specs.Answer.{CommandAnswer, EmitAnswer, NormaliseAnswer, Run
 use Rattle.chw_cli.specs.Descriptions.{IsCompilable}
 use Rattle.chw_cli.specs.Exact.{AreHeld, BreakNothing, HasNormalRun, Misses}
 use Rattle.chw_cli.specs.Lines.{status_of}
-use Rattle.chw_cli.specs.Reads.{CanGoOn, Read, description_in, stimulus_in, verilog_in, wants}
+use Rattle.chw_cli.specs.Reads.{GoesOn, Read, description_in, stimulus_in, verilog_in, wants}
 use Rattle.chw_cli.specs.declared.refusal.Refusal.{Refusal}
 use Rattle.chw_cli.specs.declared.status.Status.{Status}
 use Rattle.chw_cli.specs.declared.status.Status.TheVariants as status
 use Rattle.chw_cli.proofs.Asking.{AreWhole, Held, IsLonger}
 use Rattle.chw_cli.proofs.Asking.IsLonger.{its, of_later}
+use Rattle.chw_cli.proofs.Compiling.{can_compile}
 use Rattle.chw_cli.proofs.Descriptions.{NoLexFault, OneSplitting, OneTree, has_no_fault, same_description}
 use Rattle.chw_cli.proofs.Emitting.{emit_status, good_is_emitted}
 use Rattle.chw_cli.proofs.Making.{make_is_answered, make_status, whole_made}
@@ -23,7 +24,7 @@ use Rattle.chw_grammar.specs.Text.{Text}
 use Rattle.chw_norm.specs.Laws.{NothingRefusesANormalRun, OneLastState}
 use Rattle.chw_words.specs.declared.command.Command.{Command}
 use Rattle.chw_words.specs.declared.command.Command.TheVariants.{Emit, Simulate, Check, Normalise, Run, Make}
-use Rattle.answers.specs.Compilation.Laws.{NothingRefusesACompile}
+use Rattle.answers.specs.Compilation.Laws.{CompiledEndsSmall, NothingRefusesACompile}
 use Rattle.data_kinds.specs.Laws.{OneProgram}
 use Rattle.answers.specs.MakeAnswer.Events.{make_stimulus}
 use Rattle.make_text.specs.MakeText.{make_text}
@@ -39,13 +40,14 @@ pub record Laws : Type 0 where
   pub normal : NothingRefusesANormalRun
   pub last : OneLastState
   pub compiles : NothingRefusesACompile
+  pub small : CompiledEndsSmall
   pub right : NothingWrong
   pub taken : NothingRefused
   pub values : NothingRefusesAStimulus
 
 pub laws_of : OneSplitting → NoLexFault → OneTree → HasNoNameFault → OneProgram → HasNoTypeFault → NothingRefusesANormalRun → OneLastState
-    → NothingRefusesACompile → NothingWrong → NothingRefused → NothingRefusesAStimulus → Laws
-laws_of once never one named alone typed_ normal last compiles right taken values = record {
+    → NothingRefusesACompile → CompiledEndsSmall → NothingWrong → NothingRefused → NothingRefusesAStimulus → Laws
+laws_of once never one named alone typed_ normal last compiles small right taken values = record {
   sound = has_no_fault once never one;
   same = same_description once one;
   named = named;
@@ -54,6 +56,7 @@ laws_of once never one named alone typed_ normal last compiles right taken value
   normal = normal;
   last = last;
   compiles = compiles;
+  small = small;
   right = right;
   taken = taken;
   values = values;
@@ -86,19 +89,19 @@ not_refused l files (Make taps) texts reads r held_texts breaks held_reads a =
 
 -- no command answers where one of its files is missing
 abbrev pub NoAnswer : Type 0
-NoAnswer = (files : Files) (command : Command) (reads : List Read) (answer : Result (List ℕ) Refusal) → Misses files (CanGoOn command) (wants command)
+NoAnswer = (files : Files) (command : Command) (reads : List Read) (answer : Result (List ℕ) Refusal) → Misses files (GoesOn command) (wants command)
     → Held files command (wants command) reads → CommandAnswer command reads answer → ⊥
 
 pub no_answer : Laws → NoAnswer
 no_answer l files (Emit file budget) reads answer m h a =
-    misses_one files (Emit file budget) (description_in file) (λ text tree answer. EmitAnswer tree budget answer) reads answer (λ text no. no) (λ text no. no) m h a
+    misses_one files (Emit file budget) (description_in file) (λ text tree answer. EmitAnswer tree budget answer) reads answer (λ text no. no) m h a
 no_answer l files (Simulate file stimulus budget) reads answer m h a =
     misses_two (SimulateAnswer budget) (simulations_are_of_two budget) files (Simulate file stimulus budget) (description_in file) (stimulus_in stimulus) reads answer
-    (λ text on r w. compilable_is_right l.sound l.same l.named l.alone l.typed l.compiles budget text on.0 on.1 r w) m h a
+    (λ text on r w. compilable_is_right l.sound l.same l.named l.alone l.typed l.compiles budget text on.0 (can_compile l.small on.1) r w) m h a
 no_answer l files (Check file) reads answer m h a =
-    misses_one files (Check file) (description_in file) (λ text tree answer. answer ≡ Ok (Text tree)) reads answer (λ text no. no) (λ text no. no) m h a
+    misses_one files (Check file) (description_in file) (λ text tree answer. answer ≡ Ok (Text tree)) reads answer (λ text no. no) m h a
 no_answer l files (Normalise file budget) reads answer m h a =
-    misses_one files (Normalise file budget) (description_in file) (λ text tree answer. NormaliseAnswer tree budget answer) reads answer (λ text no. no) (λ text no. no) m h a
+    misses_one files (Normalise file budget) (description_in file) (λ text tree answer. NormaliseAnswer tree budget answer) reads answer (λ text no. no) m h a
 no_answer l files (Run verilog stimulus) reads answer m h a =
     misses_two RunAnswer runs_are_of_two files (Run verilog stimulus) (verilog_in verilog) (stimulus_in stimulus) reads answer
     (λ text on r w. runnable_is_right l.right text on.0 on.1 r w) m h a

@@ -2,12 +2,13 @@
 use Rattle.std.proofs.Common.{◌≡◌, ℕ, List, sym, subst}
 use Rattle.chw_clock.specs.declared.event.Event.{Event}
 use Rattle.chw_clock.specs.declared.event.Ports.{Ports}
-use Rattle.chw_cli.specs.Descriptions.{CanCompile, Compiles, HasProgram, IsTypedText}
-use Rattle.chw_cli.proofs.OneText.{OneDescription, one_program_for}
+use Rattle.chw_cli.specs.Descriptions.{CanCompile, CompilableIsCompiled, Compiles, HasProgram, IsTypedText}
+use Rattle.chw_cli.proofs.OneText.{OneDescription, one_program_for, one_program_of}
 use Rattle.chw_grammar.specs.declared.program.Tree.{Tree}
 use Rattle.chw_terms.specs.declared.program.Program.{Program}
+use Rattle.chw_typing.specs.Programs.{IsTyped}
 use Rattle.answers.specs.Compilation.Compiling.{CompilesTo, IsCompileFault}
-use Rattle.answers.specs.Compilation.Laws.{NothingRefusesACompile}
+use Rattle.answers.specs.Compilation.Laws.{CompiledEndsSmall, NothingRefusesACompile, SmallEndsCompile}
 use Rattle.answers.specs.declared.compiled.fault.CompileFault.{CompileFault}
 use Rattle.data_kinds.specs.Laws.{OneProgram}
 use Rattle.netlist.specs.declared.net.Flat.{Flat}
@@ -41,3 +42,19 @@ pub values_without_fault : OneDescription → OneProgram → NothingRefusesAStim
 values_without_fault same alone law text stimulus budget p q ports events fault can can' values w =
     let one = one_program_for same alone text can'.tree can.tree q p can'.typed can'.has can.typed can.has in
     law p stimulus ports events fault values (subst (λ x. IsSimFault x stimulus fault) one w)
+
+-- a text that compiles can be compiled
+pub can_compile : CompiledEndsSmall → {text : List ℕ} {budget : ℕ} {p : Program} → Compiles text budget p → CanCompile text budget p
+can_compile small {text} {budget} {p} c =
+    record { tree = c.tree; typed = c.typed; has = c.has; ends = small p budget c.net c.flat c.compiles }
+
+-- and one that can be compiled compiles
+compiles_there : OneProgram → SmallEndsCompile → {text : List ℕ} {budget : ℕ} {p : Program} → CanCompile text budget p → Compiles text budget p
+compiles_there alone there {text} {budget} {p} c =
+    let typed = subst IsTyped (one_program_of alone c.tree c.typed.program p c.typed.is c.has) c.typed.typed in
+    let to = there p budget c.has.tidy typed c.ends in
+    record { tree = c.tree; typed = c.typed; has = c.has; net = to.0; flat = to.1; compiles = to.2 }
+
+pub compilable_is_compiled : OneProgram → CompiledEndsSmall → SmallEndsCompile → CompilableIsCompiled
+compilable_is_compiled alone small there budget text =
+    (λ can. (can.0, compiles_there alone there can.1), λ is. (is.0, can_compile small is.1))

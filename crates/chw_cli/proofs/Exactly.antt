@@ -19,7 +19,7 @@ use Rattle.chw_cli.specs.Outcome.{AnswersBy, Outcome, Told, stopped}
 use Rattle.chw_cli.specs.Outcome.Outcome.{answered, refused, unwritten}
 use Rattle.chw_cli.specs.Outcome.Told.{told as was_told, untold as was_untold}
 use Rattle.chw_cli.specs.Outcome.Refuses.{for_memory, by_answer}
-use Rattle.chw_cli.specs.Reads.{Asks, CanGoOn, GoesOn, Read, ReadsFor, Wanted, wants}
+use Rattle.chw_cli.specs.Reads.{Asks, GoesOn, Read, ReadsFor, Wanted, wants}
 use Rattle.chw_cli.specs.Reads.Asks.{uncalled, called}
 use Rattle.chw_cli.specs.declared.refusal.Refusal.{Refusal}
 use Rattle.chw_cli.specs.declared.refusal.Refusal.TheVariants as refusal
@@ -178,18 +178,18 @@ module _ (told : Option Files) (words : List (List ℕ)) (ShelfRose OutRose : Ty
 
   -- a command that comes to a file that isn't held has no answer but the refusal of a read
   no_other : (files : Files) (command other : Command) (reads : List Read) (answer : Result (List ℕ) Refusal) → told ≡ Some files → IsCommand words command
-      → Misses files (CanGoOn command) (wants command) → IsCommand words other → ((files : Files) → told ≡ Some files → Held files other (wants other) reads)
+      → Misses files (GoesOn command) (wants command) → IsCommand words other → ((files : Files) → told ≡ Some files → Held files other (wants other) reads)
       → CommandAnswer other reads answer → ⊥
   no_other files command other reads answer t is m is' held_reads a =
-      unanswered files other reads answer (subst (λ c. Misses files (CanGoOn c) (wants c)) (once words command other is is') m) (held_reads files t) a
+      unanswered files other reads answer (subst (λ c. Misses files (GoesOn c) (wants c)) (once words command other is is') m) (held_reads files t) a
 
   not_longer : (files : Files) (command other : Command) → told ≡ Some files → IsCommand words command
-      → Misses files (CanGoOn command) (wants command) → IsCommand words other → ((files : Files) → told ≡ Some files → Passes files other (wants other)) → ⊥
+      → Misses files (GoesOn command) (wants command) → IsCommand words other → ((files : Files) → told ≡ Some files → Passes files other (wants other)) → ⊥
   not_longer files command other t is m is' passes =
-      misses_passes files (CanGoOn other) other (wants other) (subst (λ c. Misses files (CanGoOn c) (wants c)) (once words command other is is') m) (passes files t)
+      misses_passes files (GoesOn other) other (wants other) (subst (λ c. Misses files (GoesOn c) (wants c)) (once words command other is is') m) (passes files t)
 
   absent : Reason told words ShelfRose OutRose s → (files : Files) (command : Command) → told ≡ Some files → IsCommand words command
-      → Misses files (CanGoOn command) (wants command) → Ends status.Read s
+      → Misses files (GoesOn command) (wants command) → Ends status.Read s
   absent (ok bytes (for_words h e') e) files command t is m = absurd (cc)
   absent (ok bytes (for_file other r h l e') e) files command t is m = absurd (cc)
   absent (ok bytes (for_texts other reads h held_reads a) e) files command t is m = absurd (no_other files command other reads (Ok bytes) t is m h held_reads a)

@@ -11,7 +11,7 @@ use Rattle.chw_cli.specs.Exact.AreHeld.{more}
 use Rattle.chw_cli.specs.Exact.BreaksNone.{typed as typed_text}
 use Rattle.chw_cli.specs.Exact.Misses.{here, later}
 use Rattle.chw_cli.specs.Lines.{status_of}
-use Rattle.chw_cli.specs.Reads.{CanGoOn, GoesOn, Read, Wanted}
+use Rattle.chw_cli.specs.Reads.{GoesOn, Read, Wanted}
 use Rattle.chw_cli.specs.declared.refusal.Refusal.{Refusal}
 use Rattle.chw_cli.specs.declared.status.Status.{Status}
 use Rattle.chw_cli.specs.declared.status.Status.TheVariants as status
@@ -90,13 +90,13 @@ one_text_is_answered sound same named alone typed_ Suits TreeAnswer answers file
 
 -- no command answers where one of its files is missing
 pub misses_one : (files : Files) (command : Command) (file : Wanted) (TreeAnswer : List ℕ → Tree → Result (List ℕ) Refusal → Type 0) (reads : List Read)
-    (answer : Result (List ℕ) Refusal) → ((text : List ℕ) → CanGoOn command text → ⊥) → ((text : List ℕ) → GoesOn command text → ⊥)
-    → Misses files (CanGoOn command) (file ∷ []) → Held files command (file ∷ []) reads
+    (answer : Result (List ℕ) Refusal) → ((text : List ℕ) → GoesOn command text → ⊥)
+    → Misses files (GoesOn command) (file ∷ []) → Held files command (file ∷ []) reads
     → TextAnswer TreeAnswer reads answer → ⊥
-misses_one files command file TreeAnswer _ answer never no_next (later _ _ text has on m) h a = never text on
-misses_one files command file TreeAnswer _ answer never no_next (here _ _ none_) (of_last _ _ text has) a = let some = has.0 in absurd (cc)
-misses_one files command file TreeAnswer _ answer never no_next (here _ _ none_) (of_next _ _ text _ has on rest) a = no_next text on
-misses_one files command file TreeAnswer _ answer never no_next (here _ _ none_) (of_none _) a = elim a [ ]
+misses_one files command file TreeAnswer _ answer never (later _ _ text has on m) h a = never text on
+misses_one files command file TreeAnswer _ answer never (here _ _ none_) (of_last _ _ text has) a = let some = has.0 in absurd (cc)
+misses_one files command file TreeAnswer _ answer never (here _ _ none_) (of_next _ _ text _ has on rest) a = never text on
+misses_one files command file TreeAnswer _ answer never (here _ _ none_) (of_none _) a = elim a [ ]
 
 -- the refusal of a text has one status
 fault_status : (text : List ℕ) (r : Refusal) → NoDescription text r → status_of r ≡ status.Refused

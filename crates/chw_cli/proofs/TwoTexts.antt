@@ -3,7 +3,7 @@ use Rattle.std.proofs.Common.{◌≡◌, ℕ, List, [], ◌∷◌, Result, Err, 
 use Rattle.chw_base.specs.Files.{Files}
 use Rattle.chw_cli.specs.Exact.{IsHeld, Misses}
 use Rattle.chw_cli.specs.Exact.Misses.{here, later}
-use Rattle.chw_cli.specs.Reads.{CanGoOn, Read, Wanted, whole}
+use Rattle.chw_cli.specs.Reads.{GoesOn, Read, Wanted, whole}
 use Rattle.chw_cli.specs.declared.refusal.Refusal.{Refusal}
 use Rattle.chw_cli.proofs.Asking.{AreWhole, Held}
 use Rattle.chw_cli.proofs.Asking.Held.{of_none, of_last, of_next}
@@ -46,14 +46,14 @@ two_are_answered Answers two files command first second text other reads r has h
         (subst (λ t. Answers (whole text' ∷ whole t ∷ []) (Err r)) (one_text files second other' other its'.0 has')
         (subst (Answers (whole text' ∷ whole other' ∷ [])) e a)))
 
--- there is no answer where the first file is missing, or the second is and the command can go on after the first, whose text isn't refused
+-- there is no answer where the first file is missing, or the second is and the command goes on after the first, whose text isn't refused
 pub misses_two : (Answers : List Read → Result (List ℕ) Refusal → Type 0) → AreOfTwo Answers → (files : Files) (command : Command) (first second : Wanted)
     (reads : List Read) (answer : Result (List ℕ) Refusal)
-    → ((text : List ℕ) → CanGoOn command text → (r : Refusal) → Answers (whole text ∷ []) (Err r) → ⊥)
-    → Misses files (CanGoOn command) (first ∷ second ∷ []) → Held files command (first ∷ second ∷ []) reads → Answers reads answer → ⊥
+    → ((text : List ℕ) → GoesOn command text → (r : Refusal) → Answers (whole text ∷ []) (Err r) → ⊥)
+    → Misses files (GoesOn command) (first ∷ second ∷ []) → Held files command (first ∷ second ∷ []) reads → Answers reads answer → ⊥
 misses_two Answers two files command first second reads answer right missing held_reads a = by reads answer missing held_reads (two reads answer a)
   where
-    by : (reads : List Read) (answer : Result (List ℕ) Refusal) → Misses files (CanGoOn command) (first ∷ second ∷ []) → Held files command (first ∷ second ∷ []) reads
+    by : (reads : List Read) (answer : Result (List ℕ) Refusal) → Misses files (GoesOn command) (first ∷ second ∷ []) → Held files command (first ∷ second ∷ []) reads
         → IsOfTwo Answers reads answer → ⊥
     by _ _ (here _ _ none_) h (of_first text r a) =
         let some = (held_first files command first (second ∷ []) text [] h).0.0 in absurd (cc)

@@ -1,5 +1,5 @@
 -- Which texts are descriptions, with their programs, and why a text is none.
-use Rattle.std.specs.Prelude.{ℕ, ◌≤◌, List, length}
+use Rattle.std.specs.Prelude.{ℕ, ◌≤◌, ◌↔◌, List, length}
 use Rattle.chw_base.specs.declared.limits.TheConstants.{NESTING}
 use Rattle.chw_lexer.specs.Tokens.{Tokens, NoToken}
 use Rattle.chw_lexer.specs.declared.token.Token.{Token}
@@ -83,3 +83,9 @@ pub record CanCompile (text : List ℕ) (budget : ℕ) (p : Program) : Type 0 wh
 -- the text is one of which the program can be compiled by so many steps at most
 abbrev pub IsCompilable : ℕ → List ℕ → Type 0
 IsCompilable budget text = (p : Program) × CanCompile text budget p
+
+-- a text is one of which the program can be compiled exactly where it is one of which the program
+-- is compiled to some net
+abbrev pub CompilableIsCompiled : Type 0
+CompilableIsCompiled =
+    (budget : ℕ) (text : List ℕ) → IsCompilable budget text ↔ IsCompiled budget text

@@ -4,7 +4,7 @@ use Rattle.chw_base.specs.Files.{Files, file_of}
 use Rattle.chw_clock.specs.declared.event.Event.{Event}
 use Rattle.chw_clock.specs.declared.event.Ports.{Ports}
 use Rattle.chw_cli.specs.Descriptions.{CanCompile, HasProgram, IsCompilable, IsDescription, IsTypedText}
-use Rattle.chw_cli.specs.Reads.{CanGoOn, GoesOn, Wanted, wants}
+use Rattle.chw_cli.specs.Reads.{GoesOn, Wanted, wants}
 use Rattle.chw_cli.specs.declared.status.Status.{Status}
 use Rattle.chw_cli.specs.declared.status.Status.TheVariants as status
 use Rattle.chw_grammar.specs.declared.program.Tree.{Tree}
@@ -106,11 +106,11 @@ pub record IsExact (told : Option Files) (words : List (List ℕ)) (ShelfRose Ou
   pub words_wrong : s ≡ status.Words → AreNoCommand words
   pub wrong_words : AreNoCommand words → Ends status.Words s
   -- a read is refused only where the command comes to a file that isn't held or the shelf's faults
-  -- rose, and always where it can come to such a file
+  -- rose, and always where it comes to such a file
   pub unread : s ≡ status.Read → (command : Command) × IsCommand words command
       × (IsSomeAnd told (λ files. Misses files (GoesOn command) (wants command)) ⊎ ShelfRose)
   pub absent : (files : Files) (command : Command) → told ≡ Some files → IsCommand words command
-      → Misses files (CanGoOn command) (wants command) → Ends status.Read s
+      → Misses files (GoesOn command) (wants command) → Ends status.Read s
   -- the write is refused only where the faults of `out` rose
   pub unwritten : s ≡ status.Write → OutRose
   -- files that break no restriction are answered where no fault rose

@@ -7,7 +7,7 @@ use Rattle.chw_base.specs.declared.outcome.Or.{Or}
 use Rattle.chw_base.specs.declared.shelf.Fetched.{Fetched}
 use Rattle.chw_base.specs.declared.shelf.Fetched.TheVariants.{Whole}
 use Rattle.chw_base.specs.declared.shelf.ShelfFault.{ShelfFault}
-use Rattle.chw_cli.specs.Descriptions.{IsCompilable, IsCompiled}
+use Rattle.chw_cli.specs.Descriptions.{IsCompiled}
 use Rattle.chw_cli.specs.declared.refusal.Refusal.{Refusal}
 use Rattle.chw_cli.specs.declared.refusal.Refusal.TheVariants.{LongText, Stimulus, Verilog}
 use Rattle.chw_words.specs.Commands.{IsCommand}
@@ -51,8 +51,9 @@ wants (Run verilog stimulus) = verilog_in verilog ∷ stimulus_in stimulus ∷ [
 wants (Make taps) = []
 
 -- after a file with this text the command goes on to the next one: never, if it wants one file at
--- most; if it wants a stimulus too, with a text of which the program is compiled, or a Verilog text
--- that can be run
+-- most; if it wants a stimulus too, with a text of which the program is compiled to some net, or a
+-- Verilog text that can be run. A text is one of the former exactly where its program can be
+-- compiled, by the law `compilable_is_compiled`.
 abbrev pub GoesOn : Command → List ℕ → Type 0
 GoesOn (Emit file budget) text = ⊥
 GoesOn (Simulate file stimulus budget) text = IsCompiled budget text
@@ -60,15 +61,6 @@ GoesOn (Check file) text = ⊥
 GoesOn (Normalise file budget) text = ⊥
 GoesOn (Run verilog stimulus) text = (flat : Flat) × CanRun text flat
 GoesOn (Make taps) text = ⊥
-
--- after a file with this text nothing but memory and the shelf keeps the command from the next one
-abbrev pub CanGoOn : Command → List ℕ → Type 0
-CanGoOn (Emit file budget) text = ⊥
-CanGoOn (Simulate file stimulus budget) text = IsCompilable budget text
-CanGoOn (Check file) text = ⊥
-CanGoOn (Normalise file budget) text = ⊥
-CanGoOn (Run verilog stimulus) text = (flat : Flat) × CanRun text flat
-CanGoOn (Make taps) text = ⊥
 
 -- one read: what a call of `fetch` answered, with the bytes
 pub data Read : Type 0 where

@@ -1,7 +1,8 @@
-//! The laws of the refusals of `make`, each as the contract of a call that does nothing.
+//! The laws of what is answered, each as the contract of a call that does nothing.
 ghost use Rattle.std.specs.Prelude.{◌≡◌, ℕ, List};
 ghost use Rattle.chw_base.specs.Faults.{Rose};
 ghost use Rattle.chw_cli.specs.Delivery.{WritesAll, StopsAt};
+ghost use Rattle.chw_cli.specs.Descriptions.{CompilableIsCompiled};
 ghost use Rattle.chw_cli.specs.Outcome.{Outcome, Told};
 ghost use Rattle.chw_cli.specs.Reads.{Asks};
 ghost use Rattle.chw_cli.specs.declared.status.Status.{Status};
@@ -9,6 +10,7 @@ ghost use Rattle.chw_words.specs.Commands.{IsCommand};
 ghost use Rattle.chw_words.specs.declared.command.Command.TheVariants.{Make};
 ghost use Rattle.chw_cli.specs.MakeLaws.{HaveOneOfTwoStatuses, IsOfMake, MadeTextsAreTyped, MakeIsRefusedForItsProgram, WordsAreRefusedForTheProgram};
 
+use answers::compiled::laws::{nothing_refuses_a_compile, small_ends_compile};
 use answers::make_answer::laws::made_stimuli;
 use answers::sim_answer::laws::refusals;
 use chw_base::{Shelf, Sink};
@@ -17,6 +19,7 @@ use chw_lexer::laws::{no_fault, one_splitting};
 use chw_parser::laws::one_tree;
 use chw_resolve::laws::well_named_has_no_fault;
 use chw_words::laws::words_are_one_command;
+use data_kinds::kind_laws::one_program;
 use make_laws::laws::{
     made_programs_take_words, made_texts_are_descriptions, made_texts_have_the_tree,
 };
@@ -70,4 +73,14 @@ pub fn make_ends_with_few_statuses<F: Shelf, K: Sink, E: Sink>()
         → IsOfMake s }
 {
     make_is_refused_for_its_program();
+}
+
+/// A program of a text can be compiled, by how its run ends, exactly where it is compiled to some
+/// net.
+pub fn compilable_is_compiled()
+    ensures { CompilableIsCompiled }
+{
+    nothing_refuses_a_compile();
+    one_program();
+    small_ends_compile();
 }

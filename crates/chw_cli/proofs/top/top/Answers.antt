@@ -34,7 +34,8 @@ pub returns-in-Ok-deliver-clause-exact : goal.returns-in-Ok-deliver-clause-exact
 returns-in-Ok-deliver-clause-exact g c =
     let laws =
     laws_of c.one_splitting.ensures c.no_fault.ensures c.one_tree.ensures c.well_named_has_no_fault.ensures c.one_program.ensures c.typed_has_no_fault.ensures
-    c.nothing_refuses_a_normal_run.ensures c.one_last_state.ensures c.nothing_refuses_a_compile.ensures.refused c.nothing_refuses_a_run.ensures.text
+    c.nothing_refuses_a_normal_run.ensures c.one_last_state.ensures c.nothing_refuses_a_compile.ensures.refused
+    c.nothing_refuses_a_compile.ensures.compiled c.nothing_refuses_a_run.ensures.text
     c.nothing_refuses_a_run.ensures.stimulus c.refusals.ensures.stimulus in
     exact_by _ _ _ _ c.words_are_one_command.ensures (not_refused laws) (no_answer laws) _
     (reason _ _ _ _ _ _ _ _ _ _
@@ -45,7 +46,8 @@ pub returns-in-Err-Fault-clause-exact : goal.returns-in-Err-Fault-clause-exact
 returns-in-Err-Fault-clause-exact g c =
     let laws =
     laws_of c.one_splitting.ensures c.no_fault.ensures c.one_tree.ensures c.well_named_has_no_fault.ensures c.one_program.ensures c.typed_has_no_fault.ensures
-    c.nothing_refuses_a_normal_run.ensures c.one_last_state.ensures c.nothing_refuses_a_compile.ensures.refused c.nothing_refuses_a_run.ensures.text
+    c.nothing_refuses_a_normal_run.ensures c.one_last_state.ensures c.nothing_refuses_a_compile.ensures.refused
+    c.nothing_refuses_a_compile.ensures.compiled c.nothing_refuses_a_run.ensures.text
     c.nothing_refuses_a_run.ensures.stimulus c.refusals.ensures.stimulus in
     exact_by _ _ _ _ c.words_are_one_command.ensures (not_refused laws) (no_answer laws) _
     (reason _ _ _ _ _ _ _ _ _ _
@@ -56,7 +58,8 @@ pub returns-in-Ok-clause-exact : goal.returns-in-Ok-clause-exact
 returns-in-Ok-clause-exact g c =
     let laws =
     laws_of c.one_splitting.ensures c.no_fault.ensures c.one_tree.ensures c.well_named_has_no_fault.ensures c.one_program.ensures c.typed_has_no_fault.ensures
-    c.nothing_refuses_a_normal_run.ensures c.one_last_state.ensures c.nothing_refuses_a_compile.ensures.refused c.nothing_refuses_a_run.ensures.text
+    c.nothing_refuses_a_normal_run.ensures c.one_last_state.ensures c.nothing_refuses_a_compile.ensures.refused
+    c.nothing_refuses_a_compile.ensures.compiled c.nothing_refuses_a_run.ensures.text
     c.nothing_refuses_a_run.ensures.stimulus c.refusals.ensures.stimulus in
     exact_by _ _ _ _ c.words_are_one_command.ensures (not_refused laws) (no_answer laws) _
     (reason _ _ _ _ _ _ _ _ _ _
@@ -67,7 +70,8 @@ pub returns-clause-exact : goal.returns-clause-exact
 returns-clause-exact g c =
     let laws =
     laws_of c.one_splitting.ensures c.no_fault.ensures c.one_tree.ensures c.well_named_has_no_fault.ensures c.one_program.ensures c.typed_has_no_fault.ensures
-    c.nothing_refuses_a_normal_run.ensures c.one_last_state.ensures c.nothing_refuses_a_compile.ensures.refused c.nothing_refuses_a_run.ensures.text
+    c.nothing_refuses_a_normal_run.ensures c.one_last_state.ensures c.nothing_refuses_a_compile.ensures.refused
+    c.nothing_refuses_a_compile.ensures.compiled c.nothing_refuses_a_run.ensures.text
     c.nothing_refuses_a_run.ensures.stimulus c.refusals.ensures.stimulus in
     exact_by _ _ _ _ c.words_are_one_command.ensures (not_refused laws) (no_answer laws) _
     (reason _ _ _ _ _ _ _ _ _ _
