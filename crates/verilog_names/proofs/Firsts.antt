@@ -1,5 +1,5 @@
 -- The table of the first places of names.
-use Rattle.std.proofs.Common.{◌≡◌, ℕ, ◌+◌, ◌<◌, ◌^◌, Bool, true, false, cond, List, [], ◌∷◌, ◌++◌, length, Option, Some, None, Bor, refl, sym, ap, ◌∙◌, length-append, arith}
+use Rattle.std.proofs.Common.{◌≡◌, ℕ, ◌+◌, ◌≤◌, ◌^◌, Bool, true, false, cond, List, [], ◌∷◌, ◌++◌, length, Option, Some, None, Bor, refl, sym, ap, ◌∙◌, length-append, arith}
 use Rattle.std.specs.Option.{is_some, option_map}
 use Rattle.std.specs.Str.{bytes_eq}
 use Rattle.std.proofs.lemmas.Bool.{false≢true}
@@ -53,7 +53,7 @@ placed_more names name other =
     ∙ ap (place_more (place_of (texts names) other.now) (bytes_eq other.now name.now)) (length-map names _)
 
 -- a name that is new is noted with its place
-pub noted : (old new : PlaceTable) (names : List (Bor (List ℕ))) (name : Bor (List ℕ)) (place : ℕ) → AreFirsts old names → length names + 1 < 2 ^ 32 → place ≡ length names
+pub noted : (old new : PlaceTable) (names : List (Bor (List ℕ))) (name : Bor (List ℕ)) (place : ℕ) → AreFirsts old names → length names + 1 ≤ 2 ^ 32 → place ≡ length names
     → is_some (place_at old name) ≡ false → IsWith old new name place → AreFirsts new (names ++ name ∷ [])
 noted old new names name place firsts few is unknown with_it = record {
   firsts = λ other. with_it other
@@ -74,7 +74,7 @@ noted old new names name place firsts few is unknown with_it = record {
     by other false None same at = refl
 
 -- a name that is known changes no place
-pub kept : (table : PlaceTable) (names : List (Bor (List ℕ))) (name : Bor (List ℕ)) → AreFirsts table names → length names + 1 < 2 ^ 32
+pub kept : (table : PlaceTable) (names : List (Bor (List ℕ))) (name : Bor (List ℕ)) → AreFirsts table names → length names + 1 ≤ 2 ^ 32
     → is_some (place_at table name) ≡ true → AreFirsts table (names ++ name ∷ [])
 kept table names name firsts few known = record {
   firsts = λ other. firsts.firsts other ∙ by other (bytes_eq other.now name.now) (place_of (texts names) other.now) refl refl ∙ sym (placed_more names name other);

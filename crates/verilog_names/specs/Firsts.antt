@@ -1,5 +1,5 @@
 -- The table of the first places of names.
-use Rattle.std.specs.Prelude.{◌≡◌, ℕ, ◌<◌, ◌^◌, List, length}
+use Rattle.std.specs.Prelude.{◌≡◌, ℕ, ◌≤◌, ◌^◌, List, length}
 use Rattle.std.specs.Borrow.{Bor}
 use Rattle.std.specs.Str.{bytes_eq}
 use Rattle.std.specs.declared.hash.BuildHasherDefault.{BuildHasherDefault}
@@ -16,4 +16,4 @@ pub record AreFirsts (table : PlaceTable) (names : List (Bor (List ℕ))) : Type
   pub firsts :
       (name : Bor (List ℕ))
       → get_by (λ key. bytes_eq name.now key.now) table ≡ place_of (texts names) name.now
-  pub few : length names < 2 ^ 32
+  pub few : length names ≤ 2 ^ 32

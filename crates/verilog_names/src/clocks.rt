@@ -1,6 +1,7 @@
 //! The ports of a text, and its clocks and resets found by their names.
 ghost use Rattle.std.specs.Prelude.{◌≡◌, ◌+◌, [], IfOk, OnOk, map};
 ghost use Rattle.chw_clock.specs.Histories.{has_reset};
+ghost use Rattle.verilog_checks.specs.Narrow.{AreNarrow, IsNarrow};
 ghost use Rattle.verilog_names.specs.Clocked.{IsMarked, IsMarks, ports_from};
 ghost use Rattle.verilog_rules.specs.Declarations.{domains_of, port_of, resets_of};
 ghost use Rattle.verilog_rules.specs.NameRules.{domain_of};
@@ -9,7 +10,7 @@ ghost use Rattle.verilog_text.specs.Names.{domain_name};
 
 use crate::forms::{domain_part, is_clock, name_part, without};
 use crate::places::Places;
-use chw_base::{DomId, Name, NoMemory, Seq};
+use chw_base::{DomId, Name, NoMemory, Seq, narrow};
 use chw_clock::{Port, Ports};
 use std::alloc::Global;
 use std::marker::Model;
@@ -70,27 +71,16 @@ fn reset_domains(alloc: Global, signals: &[Word<'_>]) -> Result<Vec<DomId>, NoMe
     ensures { IfOk result (λ v. v.items ≡ resets_of 0 signals.now) }
 {
     let mut resets = Vec::new(alloc);
-    let mut clocks: u32 = 0;
+    let mut clocks: usize = 0;
     for signal in signals {
         if is_clock(signal.bytes) {
-            clocks = next(clocks)?;
+            clocks += 1;
         } else {
-            resets.push(DomId {
-                number: clocks.saturating_sub(1),
-            })?;
+            let number = narrow(clocks.saturating_sub(1))?;
+            resets.push(DomId { number })?;
         }
     }
     Ok(resets)
-}
-
-// The next number.
-fn next(number: u32) -> Result<u32, NoMemory>
-    ensures { IfOk result (λ n. n ≡ number + 1) }
-{
-    match number.checked_add(1) {
-        Some(next) => Ok(next),
-        None => Err(NoMemory),
-    }
 }
 
 // Whether the domain of each number is one of these.
@@ -118,6 +108,7 @@ fn mark(marks: &mut Vec<bool>, number: u32) -> Result<(), NoMemory>
 
 // The ports of a net that lines of the last module are.
 fn ports_of(alloc: Global, domains: &Places<'_>, lines: &[Line<'_>]) -> Result<Vec<Port>, NoMemory>
+    requires { AreNarrow lines.now }
     ensures { IfOk result (λ v. v.items ≡ map (port_of domains.now) lines.now) }
 {
     let mut ports = Vec::new(alloc);
@@ -129,9 +120,10 @@ fn ports_of(alloc: Global, domains: &Places<'_>, lines: &[Line<'_>]) -> Result<V
 
 // The port of a net that a line of the last module is.
 fn port(alloc: Global, domains: &Places<'_>, line: &Line<'_>) -> Result<Port, NoMemory>
+    requires { IsNarrow line.now }
     ensures { IfOk result (λ p. p ≡ port_of domains.now line.now) }
 {
-    let width = bits_of(&line.range)?;
+    let width = bits_of(&line.range);
     let number = domains.find(domain_part(line.name.bytes)).unwrap_or(0);
     let name = Name::copy_of(alloc, name_part(line.name.bytes))?;
     Ok(Port {
@@ -149,7 +141,9 @@ fn all_ports(
     inputs: &[Line<'_>],
     outputs: &[Line<'_>],
 ) -> Result<Ports, NoMemory>
-    requires { domains.now ≡ domains_of signals.now }
+    requires domains { domains.now ≡ domains_of signals.now }
+    requires inputs { AreNarrow inputs.now }
+    requires outputs { AreNarrow outputs.now }
     ensures { IfOk result (λ ports. ports ≡ ports_from signals.now inputs.now outputs.now) }
 {
     let names = Seq::from(domain_names(alloc, signals)?);
@@ -172,6 +166,8 @@ impl<'t> Clocks<'t> {
         inputs: &[Line<'t>],
         outputs: &[Line<'t>],
     ) -> Result<Clocks<'t>, NoMemory>
+        requires inputs { AreNarrow inputs.now }
+        requires outputs { AreNarrow outputs.now }
         ensures { IfOk result (λ c. c ≡ ports_from signals.now inputs.now outputs.now) }
     {
         let domains = domain_places(alloc, signals)?;

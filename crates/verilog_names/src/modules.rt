@@ -1,9 +1,10 @@
 //! The modules of a text, resolved one after the other.
 ghost use Rattle.std.specs.Prelude.{◌≡◌, ◌∷◌, ◌++◌, [], IfOk, OnOk, map, None};
 ghost use Rattle.verilog_checks.specs.Least.{least_after};
+ghost use Rattle.verilog_checks.specs.Narrow.{AreNarrow};
 ghost use Rattle.verilog_names.specs.Resolves.{module_items, port_rules};
 ghost use Rattle.verilog_rules.specs.Checks.{broken_at, lesser};
-ghost use Rattle.verilog_rules.specs.Declarations.{input_wire, line_name, modules_of, ports_by, ports_in, signals_of};
+ghost use Rattle.verilog_rules.specs.Declarations.{input_wire, inputs_of, line_name, modules_of, outputs_of, ports_by, ports_in, signals_of};
 ghost use Rattle.verilog_rules.specs.NameRules.{earlier_checks, last_checks, module_checks, module_names, name_checks, same_signals};
 ghost use Rattle.verilog_tree.specs.declared.module.Module.{Module as ModuleTree};
 ghost use Rattle.verilog_rules.specs.Resolving.{resolved, resolved_module, resolved_modules};
@@ -219,7 +220,9 @@ fn clocks_of<'t>(
     signals: &[Word<'t>],
     last: &Module<'t>,
 ) -> Result<Clocks<'t>, NoMemory>
-    requires { signals.now ≡ signals_of (ports_in last.now) }
+    requires signals { signals.now ≡ signals_of (ports_in last.now) }
+    requires inputs { AreNarrow (inputs_of (ports_in last.now)) }
+    requires outputs { AreNarrow (outputs_of (ports_in last.now)) }
     ensures { IfOk result (λ c. c ≡ ports_by last.now) }
 {
     let inputs = inputs_of(alloc, last)?;
@@ -233,6 +236,8 @@ pub(crate) fn resolve_tree<'t>(
     least: &mut Least,
     tree: &Tree<'t>,
 ) -> Result<Resolved<'t>, NoMemory>
+    requires inputs { AreNarrow (inputs_of (ports_in tree.now.last)) }
+    requires outputs { AreNarrow (outputs_of (ports_in tree.now.last)) }
     ensures resolved { IfOk result (λ r. r ≡ resolved tree.now) }
     ensures checks { OnOk result (least.new ≡ least_after least.old (name_checks tree.now)) }
 {

@@ -2,7 +2,7 @@
 ghost use Rattle.std.specs.Prelude.{◌≡◌, ◌∷◌, ◌++◌, [], not, length, IfOk, OnOk, OnErr};
 ghost use Rattle.name_tables.specs.Names.{is_among, place_of};
 
-use chw_base::NoMemory;
+use chw_base::{NoMemory, narrow};
 use indexmap::IndexMap;
 use std::alloc::Global;
 use std::marker::Model;
@@ -45,13 +45,10 @@ impl<'t> Places<'t> {
     pub(crate) fn add(&mut self, name: &'t [u8]) -> Result<(), NoMemory>
         ensures { OnOk result (self.new ≡ self.old ++ name.now ∷ []) }
     {
-        let place = self.names.len();
-        if place >= u32::MAX as usize {
-            return Err(NoMemory);
-        }
+        let place = narrow(self.names.len())?;
         self.names.reserve(1)?;
         if !self.firsts.contains_key(name) {
-            self.firsts.insert(name, place as u32)?;
+            self.firsts.insert(name, place)?;
         }
         self.names.push(name)?;
         Ok(())

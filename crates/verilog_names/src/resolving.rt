@@ -1,7 +1,9 @@
 //! Names resolved to wires, clocks and modules.
 ghost use Rattle.std.specs.Prelude.{◌≡◌, IfOk, OnOk, Some, None};
 ghost use Rattle.chw_base.specs.Outcome.{IfFault};
+ghost use Rattle.verilog_checks.specs.Narrow.{AreNarrow};
 ghost use Rattle.verilog_rules.specs.Checks.{Hold, least_broken};
+ghost use Rattle.verilog_rules.specs.Declarations.{inputs_of, outputs_of, ports_in};
 ghost use Rattle.verilog_rules.specs.NameRules.{name_checks};
 ghost use Rattle.verilog_rules.specs.Resolving.{resolved};
 
@@ -19,7 +21,11 @@ pub struct NameFault {
 }
 
 /// The text with each name resolved, or the least place at which a rule on names is broken.
+///
+/// The ports of its last module keep the limits.
 pub fn resolve<'t>(alloc: Global, tree: &Tree<'t>) -> Result<Resolved<'t>, Or<NameFault>>
+    requires inputs { AreNarrow (inputs_of (ports_in tree.now.last)) }
+    requires outputs { AreNarrow (outputs_of (ports_in tree.now.last)) }
     ensures resolved { IfOk result (λ r. r ≡ resolved tree.now) }
     ensures hold { OnOk result (Hold (name_checks tree.now)) }
     ensures fault { IfFault result (λ f. least_broken (name_checks tree.now) ≡ Some f.at) }
