@@ -1,6 +1,5 @@
 //! The printed text of a net, and what is read of it.
 ghost use Rattle.std.specs.Prelude.{◌≡◌, IfOk};
-ghost use Rattle.std.specs.Bool.{Decides};
 ghost use Rattle.net_rules.specs.WellFormed.{WellFormed};
 ghost use Rattle.verilog_text.specs.Text.{net_text};
 ghost use Rattle.verilog_text.specs.VText.{AreCounted, IsCounted, VText};
@@ -13,20 +12,25 @@ use verilog_print::print;
 use verilog_rules::laws::no_text_is_both;
 use verilog_text::laws::{one_net, printed_text_denotes_its_net};
 
-// Whether a machine counts the wires, cells and outputs of a module, as it does of each module in memory.
-fn is_counted(body: &Module) -> bool
-    ensures { Decides result (IsCounted body.now) }
+// A machine counts the wires, cells and outputs of each module in memory.
+fn count(body: &Module)
+    ensures { IsCounted body.now }
 {
-    body.widths.len() <= usize::MAX
-        && body.cells.len() <= usize::MAX
-        && body.outputs.len() <= usize::MAX
+    let wires = body.widths.len();
+    let cells = body.cells.len();
+    let outputs = body.outputs.len();
+    prove!(wires <= usize::MAX);
+    prove!(cells <= usize::MAX);
+    prove!(outputs <= usize::MAX);
 }
 
-// Whether it does of each module of a net.
-fn are_counted(net: &Net) -> bool
-    ensures { Decides result (AreCounted net.now) }
+// It does so of each module of a net.
+fn count_all(net: &Net)
+    ensures { AreCounted net.now }
 {
-    net.modules.as_slice().iter().all(|body| is_counted(body))
+    for body in net.modules.as_slice() {
+        count(body);
+    }
 }
 
 /// The printed text of a well formed net, which denotes this net.
@@ -38,9 +42,7 @@ pub fn readable_text(alloc: Global, net: &Net) -> Result<Vec<u8>, NoMemory>
     ensures denotes { IfOk result (λ text. VText text.items net.now) }
 {
     printed_text_denotes_its_net();
-    if !are_counted(net) {
-        return Err(NoMemory);
-    }
+    count_all(net);
     print(alloc, net)
 }
 

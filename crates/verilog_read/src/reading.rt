@@ -12,6 +12,10 @@ ghost use Rattle.verilog_text.specs.VText.{VText};
 use chw_base::Or;
 use netlist::Net;
 use std::alloc::Global;
+use verilog_judge::laws::{
+    checked_texts_are_meant, limited_ports_are_narrow, limited_texts_are_read,
+    named_texts_drive_their_own,
+};
 use verilog_judge::{drivers, net, widths};
 use verilog_lex::lex;
 use verilog_limits::limits;
@@ -53,6 +57,7 @@ fn named<'t>(alloc: Global, text: &'t [u8], tree: &Tree<'t>) -> Result<Resolved<
     ensures names { OnOk result (Hold (name_checks tree.now)) }
     ensures fault { IfFault result (IsVFault text.now) }
 {
+    limited_ports_are_narrow();
     if let Some(at) = limits(tree) {
         return Err(broken(VCode::V06, at));
     }
@@ -72,6 +77,9 @@ pub fn read(alloc: Global, text: &[u8]) -> Result<Net, Or<VFault>>
     ensures fault { IfFault result (IsVFault text.now) }
 {
     checked_texts_denote();
+    limited_texts_are_read();
+    named_texts_drive_their_own();
+    checked_texts_are_meant();
     let tree = tree_of(alloc, text)?;
     let resolved = named(alloc, text, &tree)?;
     if let Some(at) = widths(alloc, &resolved)? {

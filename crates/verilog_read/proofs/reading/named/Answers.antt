@@ -18,3 +18,9 @@ returns-in-Err-Fault-clause-fault c =
     (no_name c.args.tree.now c.in-Err-Fault.fault.at c.requires (sym c.limits.ensures ∙ c.in_default.is)
     (of_fault (λ (f : NameFault). least_broken (name_checks c.args.tree.now) ≡ Some f.at) c.in-Err-Fault.field-0 c.in-Err-Fault.fault
     c.in-Err-Fault.field-0-is c.in-Err-Fault.ensures.fault))
+
+pub resolve-requires-clause-inputs : goal.resolve-requires-clause-inputs
+resolve-requires-clause-inputs c = c.limited_ports_are_narrow.ensures.inputs c.args.tree.now (sym c.limits.ensures ∙ c.in_default.is)
+
+pub resolve-requires-clause-outputs : goal.resolve-requires-clause-outputs
+resolve-requires-clause-outputs c = c.limited_ports_are_narrow.ensures.outputs c.args.tree.now (sym c.limits.ensures ∙ c.in_default.is)
