@@ -1,8 +1,12 @@
+mod Agreeing
 mod Alike
 mod AsNet
 mod Back
+mod Chosen
 mod ExamplesShown
 mod IsFlat
+mod Leading
+mod NoLoop
 mod OneShared
 mod Renamed
 mod Rising

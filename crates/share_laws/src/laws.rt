@@ -47,16 +47,22 @@ pub fn sharing_keeps_soundness()
     ensures flat { (flat : Flat) → Sound flat → IsFlatOf (as_net flat) flat }
 {}
 
+/// Where a sound flat net whose ports hold has no loop, its shared net has none.
+pub fn sharing_makes_no_loop()
+    ensures { (flat shared : Flat) → Sound flat → HasNoLoop flat → PortsHold flat.ports
+        → Shares flat shared → HasNoLoop shared }
+{}
+
 /// At each history of the ports a wire has the bits that the wire has which it becomes, and so has
-/// each output. Neither net has a loop.
+/// each output.
 pub fn sharing_keeps_bits()
     ensures wires { (flat shared : Flat) (s : Shares flat shared) (h : List Event) (w n : ℕ)
-        (bits : List Bool) → Sound flat → HasNoLoop flat → HasNoLoop shared
-        → FitsPorts flat.ports h → Becomes flat s.kept w n
+        (bits : List Bool) → Sound flat → HasNoLoop flat → FitsPorts flat.ports h
+        → Becomes flat s.kept w n
         → (NetValue flat h w bits ↔ NetValue shared h n bits) }
     ensures outputs { (flat shared : Flat) (h : List Event) (k : ℕ) (o p : WireId)
-        (bits : List Bool) → Sound flat → HasNoLoop flat → HasNoLoop shared
-        → FitsPorts flat.ports h → Shares flat shared → slice_get flat.outputs k ≡ Some o
+        (bits : List Bool) → Sound flat → HasNoLoop flat → FitsPorts flat.ports h
+        → Shares flat shared → slice_get flat.outputs k ≡ Some o
         → slice_get shared.outputs k ≡ Some p
         → (NetValue flat h o.number bits ↔ NetValue shared h p.number bits) }
 {}

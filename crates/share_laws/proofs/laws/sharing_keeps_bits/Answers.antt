@@ -3,6 +3,6 @@ use Rattle.share_laws.proofs.laws.sharing_keeps_bits.Goals as goal
 
 pub returns : goal.returns
 returns c = record {
-  wires = λ flat shared s h w n bits sound no_loop none fits b. same_bits flat shared sound no_loop s none h w n bits fits b;
-  outputs = λ flat shared h k o p bits sound no_loop none fits s e f. same_outputs flat shared sound no_loop s none h k o p bits fits e f;
+  wires = λ flat shared s h w n bits sound no_loop fits b. same_bits flat shared sound no_loop s h w n bits fits b;
+  outputs = λ flat shared h k o p bits sound no_loop fits s e f. same_outputs flat shared sound no_loop s h k o p bits fits e f;
 }
