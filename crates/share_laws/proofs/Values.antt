@@ -34,7 +34,7 @@ use Rattle.share_laws.specs.Same.Copies.{chosen, copy, either, single, whole}
 use Rattle.share_laws.specs.Same.IsKnown.{carried, constant, folded}
 use Rattle.share_laws.specs.Same.Same.{chained, copied, equal_bits, equal_cells, itself, turned}
 use Rattle.share_laws.proofs.Alike.{Alike, alike}
-use Rattle.share_laws.proofs.Alike.Alike.{cuts, joins, rams, regs}
+use Rattle.share_laws.proofs.Alike.Alike.{rams, regs}
 use Rattle.share_laws.proofs.Widths.{folded_keeps, same_width, width_at}
 
 -- two wires have the same bits at a history
