@@ -10,7 +10,6 @@ use Rattle.chw_cli.specs.Outcome.Refuses.{for_memory, by_answer}
 use Rattle.chw_cli.specs.Outcome.Told.{told, untold}
 use Rattle.chw_cli.specs.Reads.{Read}
 use Rattle.chw_cli.specs.declared.refusal.Refusal.{Refusal}
-use Rattle.chw_cli.specs.declared.refusal.Refusal.TheVariants as refusal
 use Rattle.chw_cli.specs.declared.status.Status.{Status}
 use Rattle.chw_cli.specs.declared.status.Status.TheVariants as status
 use Rattle.chw_words.specs.Commands.{IsCommand}

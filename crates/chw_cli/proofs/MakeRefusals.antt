@@ -110,13 +110,15 @@ pub made_texts_typed : MadeTextsAreDescriptions → MadeTextsHaveTheTree → Are
 made_texts_typed are same known there all taps some few =
     let d = are taps (fits taps few) in
     let made : IsMade taps d.1 = record { some = some; few = omega (arith, few); same = same taps d.0 d.1 (fits taps few) d.2 d.3 } in
-    let program = there taps d.1 made in
-    (d.1, record {
-      description = record { tokens = d.0; split = d.2; reads = d.3; shallow = d.4; low = d.5 };
-      program = program.0;
-      is = record { named = known taps d.1 made; is = program.1; tidy = program.2 };
-      typed = all taps d.1 program.0 made program.1 program.2;
-    })
+    let program = there taps d.1 made in (
+      d.1,
+      record {
+        description = record { tokens = d.0; split = d.2; reads = d.3; shallow = d.4; low = d.5 };
+        program = program.0;
+        is = record { named = known taps d.1 made; is = program.1; tidy = program.2 };
+        typed = all taps d.1 program.0 made program.1 program.2;
+      },
+    )
 
 -- a text that is made isn't wrong
 made_is_right : OneSplitting → NoLexFault → OneTree → MadeTextsAreDescriptions → MadeTextsHaveTheTree → BreaksNothing → (taps : ℕ) (r : Refusal) → 1 ≤ taps
