@@ -1,0 +1,15 @@
+pub mod Distinct
+pub mod GoodTokens
+pub mod Heads
+pub mod Judging
+pub mod Lists
+pub mod NoBoth
+pub mod OneSource
+pub mod Plain
+pub mod PrintedRead
+pub mod Showing
+pub mod Spaced
+pub mod Splitting
+pub mod Telling
+pub mod Tokens
+pub mod ValuesShown
