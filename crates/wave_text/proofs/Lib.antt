@@ -2,6 +2,7 @@ pub mod Distinct
 pub mod GoodTokens
 pub mod Heads
 pub mod Judging
+pub mod Latest
 pub mod Lists
 pub mod NoBoth
 pub mod OneSource
