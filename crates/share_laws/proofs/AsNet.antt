@@ -124,6 +124,18 @@ has_port : (widths : List ℕ) (w : ℕ) (o : Option Port) → Some (slice_get w
 has_port widths w None e = absurd (cc)
 has_port widths w (Some port) e = let wide : slice_get widths w ≡ Some port.width = cc in slice_get_within widths w port.width wide
 
+module _ (flat : Flat) (sound : Sound flat) where
+  -- the outputs exist
+  pub outputs_exist : AllByRecursion (IsWire flat.widths) flat.outputs
+  outputs_exist = all_of_each (IsWire flat.widths) flat.outputs (λ k w e. there k w e)
+    where
+      there : (k : ℕ) (w : WireId) → slice_get flat.outputs k ≡ Some w → IsWire flat.widths w
+      there k w e =
+          let here : slice_get (map (λ (w : WireId). slice_get flat.widths w.number) flat.outputs) k ≡ Some (slice_get flat.widths w.number) =
+          slice_get-map (λ (w : WireId). slice_get flat.widths w.number) flat.outputs k ∙ ap (λ o. option_map (λ (w : WireId). slice_get flat.widths w.number) o) e in
+          has_port flat.widths w.number (slice_get flat.ports.outputs k)
+          (sym here ∙ ap (λ os. slice_get os k) sound.outputs ∙ slice_get-map (λ (port : Port). Some port.width) flat.ports.outputs k)
+
 module _ (flat : Flat) (sound : Sound flat) (hold : PortsHold flat.ports) where
   abbrev one_module : Module
   one_module = record { inputs = length flat.ports.inputs; widths = flat.widths; outputs = flat.outputs; cells = flat.cells }
@@ -164,20 +176,10 @@ module _ (flat : Flat) (sound : Sound flat) (hold : PortsHold flat.ports) where
       let both : Some port.width ≡ Some width = sym here ∙ ap (λ ws. slice_get ws k) sound.inputs ∙ there ∙ f in
       cc
 
-  outputs_exist : AllByRecursion (IsWire flat.widths) flat.outputs
-  outputs_exist = all_of_each (IsWire flat.widths) flat.outputs (λ k w e. there k w e)
-    where
-      there : (k : ℕ) (w : WireId) → slice_get flat.outputs k ≡ Some w → IsWire flat.widths w
-      there k w e =
-          let here : slice_get (map (λ (w : WireId). slice_get flat.widths w.number) flat.outputs) k ≡ Some (slice_get flat.widths w.number) =
-          slice_get-map (λ (w : WireId). slice_get flat.widths w.number) flat.outputs k ∙ ap (λ o. option_map (λ (w : WireId). slice_get flat.widths w.number) o) e in
-          has_port flat.widths w.number (slice_get flat.ports.outputs k)
-          (sym here ∙ ap (λ os. slice_get os k) sound.outputs ∙ slice_get-map (λ (port : Port). Some port.width) flat.ports.outputs k)
-
   names_hold : NamesHold (as_net flat) 0 one_module
   names_hold = record {
     cells = all_of_each (NamesExist (length flat.ports.domains) [] flat.widths) flat.cells (λ place cell e. names_exist place cell e);
-    outputs = outputs_exist;
+    outputs = outputs_exist flat sound;
     top = λ e. record { rules = hold; inputs = refl; outputs = outputs_long };
   }
 

@@ -165,7 +165,7 @@ module _ (flat : Flat) (decided : Decided flat) where
   decide_copy (Use m reads drives) f = absurd f
 
 -- what holds of each of finitely many, if not falsely, holds of all of them, if not falsely
-not_not_all : (n : ℕ) (P : ℕ → Type 0) → ((i : ℕ) → i < n → (P i → ⊥) → ⊥) → (((i : ℕ) → i < n → P i) → ⊥) → ⊥
+pub not_not_all : (n : ℕ) (P : ℕ → Type 0) → ((i : ℕ) → i < n → (P i → ⊥) → ⊥) → (((i : ℕ) → i < n → P i) → ⊥) → ⊥
 not_not_all zero P each refuted = refuted (λ i l. absurd (omega (arith, l)))
 not_not_all (suc n) P each refuted =
     not_not_all n P (λ i l. each i (omega (arith, l)))

@@ -63,7 +63,7 @@ choice_is_first =
     (chosen (wire 3) (wire 2) (wire 0) (wire 1) (bit 1) (constant (wire 2) (bit 1) (0, refl)))
 
 -- registers of two initial values
-byte_width : IsWireWidth 8
+pub byte_width : IsWireWidth 8
 byte_width = (omega arith, omega arith)
 
 initials_sound : Sound two_initials

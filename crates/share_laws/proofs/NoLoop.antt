@@ -21,8 +21,7 @@ use Rattle.netlist.proofs.Places.{cell_there}
 use Rattle.share_laws.specs.Same.{AllSame, IsKnown, Same, bare}
 use Rattle.share_laws.specs.Same.AllSame.{same_and, same_none}
 use Rattle.share_laws.specs.Same.Same.{chained, itself, turned}
-use Rattle.share_laws.specs.Shares.{AllBecome, Becomes, IsLive, IsNumbered, IsProper, IsSharedCell, Shares, Stands}
-use Rattle.share_laws.specs.Shares.IsLive.{for_cell, for_output}
+use Rattle.share_laws.specs.Shares.{AllBecome, Becomes, IsNumbered, IsProper, IsSharedCell, Shares, Stands}
 use Rattle.share_laws.specs.Shares.IsNumbered.{as_input, as_kept}
 use Rattle.share_laws.specs.Shares.IsProper.{of_input}
 use Rattle.share_laws.specs.Shares.IsSharedCell.{as_constant, as_own}
@@ -35,7 +34,7 @@ use Rattle.share_laws.proofs.Chosen.{Decided, KnownOnce, not_undecided}
 use Rattle.share_laws.proofs.Leading.{Led, StandsAt, leads_proper, leads_same, led}
 use Rattle.share_laws.proofs.Leading.Leads.{rests}
 use Rattle.share_laws.proofs.OneShared.{one_driver}
-use Rattle.share_laws.proofs.Renamed.{cell_of, proper_within, shared_at, shared_target}
+use Rattle.share_laws.proofs.Renamed.{cell_of, live_stands, proper_within, shared_at, shared_target}
 use Rattle.share_laws.proofs.Rising.{rises_at}
 use Rattle.share_laws.proofs.Soundness.{shared_sound}
 
@@ -75,7 +74,7 @@ same_at flat _ _ (same_and v x vs ws s all) zero w e =
     let is : x ≡ w = cc in (v, refl, subst (λ (y : WireId). Same flat v.number y.number) is s)
 same_at flat _ _ (same_and v x vs ws s all) (suc k) w e = same_at flat vs ws all k w e
 
-all_themselves : (flat : Flat) (ws : List WireId) → AllByRecursion (IsWire flat.widths) ws → AllSame flat ws ws
+pub all_themselves : (flat : Flat) (ws : List WireId) → AllByRecursion (IsWire flat.widths) ws → AllSame flat ws ws
 all_themselves flat [] all = same_none
 all_themselves flat (w ∷ ws) all = same_and w w ws ws (itself w.number all.0) (all_themselves flat ws all.1)
 
@@ -90,13 +89,9 @@ module _ (flat shared : Flat) (sound : Sound flat) (once : KnownOnce flat) (s : 
   stands_there : (w place i : ℕ) → i < length places → slice_index places i ≡ place → target_at flat.cells place ≡ Some w → Here w i
   stands_there w place i l e t = (l, ap (λ p. target_at flat.cells p) e ∙ t)
 
-  live_proper : (w : ℕ) → IsLive flat w → IsProper flat w
-  live_proper _ (for_output k o v e serves) = serves.stands.proper
-  live_proper _ (for_cell w cell k r v live unknown has t e serves) = serves.stands.proper
-
   numbered_proper : (w n : ℕ) → Numbered w n → IsProper flat w
   numbered_proper w n (as_input l e) = of_input l
-  numbered_proper w n (as_kept k at e) = live_proper w ((s.live w).0 (k, at)).0
+  numbered_proper w n (as_kept k at e) = (live_stands flat w ((s.live w).0 (k, at)).0).proper
 
   -- a proper wire that is equal to the one of a new number stands at this place of the order
   record Near (n i : ℕ) : Type 0 where
@@ -252,7 +247,7 @@ module _ (flat shared : Flat) (sound : Sound flat) (once : KnownOnce flat) (s : 
         let at = shared_at flat s.kept (length flat.ports.inputs) s.kept shared.cells b.feeds.0 there.0 s.cells there.1 in
         let place : slice_index wires 0 ≡ length flat.ports.inputs + b.feeds.0 =
         same_Some (slice_index wires 0) (length flat.ports.inputs + b.feeds.0) (sym there.2 ∙ shared_target flat s.kept at.w (length flat.ports.inputs + b.feeds.0) there.0 at.is_shared) in
-        let proper = live_proper at.w ((s.live at.w).0 (b.feeds.0, at.there)).0 in
+        let proper = (live_stands flat at.w ((s.live at.w).0 (b.feeds.0, at.there)).0).proper in
         let within = proper_within flat sound at.w proper in
         let own = (each_driven_once flat sound).driven at.w (rises_at (length flat.ports.inputs) s.kept b.feeds.0 at.w s.rises at.there) within in
         let here = order.all own.0 (target_within flat.cells own.0 at.w own.1) in

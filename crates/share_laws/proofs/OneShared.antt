@@ -56,13 +56,13 @@ one_driver flat c d w sound has there t u =
     let both : Some c ≡ Some d = sym has.1 ∙ ap (λ k. slice_get flat.cells k) place ∙ there.1 in cc
 
 -- one wire stands for a wire
-one_serves : (flat : Flat) (u v w : ℕ) → Serves flat u w → Serves flat v w → u ≡ v
+pub one_serves : (flat : Flat) (u v w : ℕ) → Serves flat u w → Serves flat v w → u ≡ v
 one_serves flat u v w s t =
     let there = t.stands.least u s.stands.proper (chained u w v s.same (turned v w t.same)) in
     let back = s.stands.least v t.stands.proper (chained v w u t.same (turned u w s.same)) in
     omega (arith, there, back)
 
-one_becomes : (flat : Flat) (kept : List ℕ) (w n m : ℕ) → RisesFrom (length flat.ports.inputs) kept → Becomes flat kept w n → Becomes flat kept w m → n ≡ m
+pub one_becomes : (flat : Flat) (kept : List ℕ) (w n m : ℕ) → RisesFrom (length flat.ports.inputs) kept → Becomes flat kept w n → Becomes flat kept w m → n ≡ m
 one_becomes flat kept w n m r b c =
     let is = one_serves flat b.by c.by w b.serves c.serves in
     one_number (length flat.ports.inputs) kept c.by n m r (subst (λ v. IsNumbered (length flat.ports.inputs) kept v n) is b.numbered) c.numbered

@@ -9,7 +9,7 @@ use Rattle.netlist.specs.Sound.{Sound}
 use Rattle.netlist.specs.declared.net.Cell.{Cell}
 use Rattle.netlist.specs.declared.net.Flat.{Flat}
 use Rattle.netlist.proofs.Driven.{target_is_wire}
-use Rattle.share_laws.specs.Shares.{AllBecome, AreSharedCells, Becomes, IsAmong, IsLive, IsNumbered, IsProper, IsSharedCell, Shares}
+use Rattle.share_laws.specs.Shares.{AllBecome, AreSharedCells, Becomes, IsAmong, IsLive, IsNumbered, IsProper, IsSharedCell, Shares, Stands}
 use Rattle.share_laws.specs.Shares.IsLive.{for_cell, for_output}
 use Rattle.share_laws.specs.Shares.IsNumbered.{as_input, as_kept}
 use Rattle.share_laws.specs.Shares.IsProper.{of_cell, of_input}
@@ -64,6 +64,11 @@ get_behind (suc n) [] ys k m = absurd (omega (arith, m))
 get_behind (suc n) (x ∷ xs) ys k m =
     let e : suc n + k ≡ suc (n + k) = omega arith in
     ap (λ j. slice_get (x ∷ (take n xs ++ ys)) j) e ∙ get_behind n xs ys k (omega (arith, m))
+
+-- a live wire stands for those equal to it
+pub live_stands : (flat : Flat) (w : ℕ) → IsLive flat w → Stands flat w
+live_stands flat _ (for_output k o v e serves) = serves.stands
+live_stands flat _ (for_cell w cell k r v live unknown has t e serves) = serves.stands
 
 module _ (flat : Flat) (sound : Sound flat) where
   pub proper_within : (w : ℕ) → IsProper flat w → w < length flat.widths

@@ -1,5 +1,6 @@
 -- Rising lists of numbers.
 use Rattle.std.proofs.Common.{◌≡◌, ℕ, zero, suc, ◌+◌, ◌<◌, ◌≤◌, List, [], ◌∷◌, length, Some, None, slice_get, refl, sym, ap, subst, ◌∙◌, arith}
+use Rattle.std.proofs.lemmas.Option.{same_Some}
 use Rattle.share_laws.specs.Shares.{IsAmong, IsNumbered, RisesFrom}
 use Rattle.share_laws.specs.Shares.IsNumbered.{as_input, as_kept}
 
@@ -70,3 +71,12 @@ one_number inputs kept v n m r (as_input l e) (as_kept k at f) = absurd (let aft
 one_number inputs kept v n m r (as_kept k at f) (as_input l e) = absurd (let after = rises_at inputs kept k v r at in omega (arith, l, after))
 one_number inputs kept v n m r (as_kept j here e) (as_kept k at f) =
     let same = rises_once inputs kept j k v r here at in omega (arith, e, f, same)
+
+-- a new number is of one wire
+pub one_origin : (inputs : ℕ) (kept : List ℕ) (v w n : ℕ) → IsNumbered inputs kept v n → IsNumbered inputs kept w n → v ≡ w
+one_origin inputs kept v w n (as_input l e) (as_input k f) = sym e ∙ f
+one_origin inputs kept v w n (as_input l e) (as_kept k at f) = absurd (omega (arith, l, e, f))
+one_origin inputs kept v w n (as_kept k at e) (as_input l f) = absurd (omega (arith, l, e, f))
+one_origin inputs kept v w n (as_kept j here e) (as_kept k at f) =
+    let same : j ≡ k = omega (arith, e, f) in
+    same_Some v w (sym here ∙ ap (λ i. slice_get kept i) same ∙ at)

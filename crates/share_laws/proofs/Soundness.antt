@@ -126,16 +126,23 @@ module _ (flat shared : Flat) (sound : Sound flat) (s : Shares flat shared) wher
   taken_long : length (take (length flat.ports.inputs) flat.widths) ≡ length flat.ports.inputs
   taken_long = length-take-le (length flat.ports.inputs) flat.widths few
 
-  long : length shared.widths ≡ length flat.ports.inputs + length s.kept
-  long =
+  -- the shared net has the inputs and the kept wires
+  pub count_wires : length shared.widths ≡ length flat.ports.inputs + length s.kept
+  count_wires =
       let rest = map (λ w. slice_index flat.widths w) s.kept in
       ap length s.widths ∙ length-append (take (length flat.ports.inputs) flat.widths) rest
       ∙ omega (arith, taken_long, length-map s.kept (λ w. slice_index flat.widths w))
 
+  -- a kept wire has a cell of its own in the first net
+  pub no_more : length shared.cells ≤ length flat.cells
+  no_more =
+      let fit = rises_fit (length flat.ports.inputs) (length flat.widths) s.kept s.rises few (λ w i. kept_within flat sound shared s w i) in
+      omega (arith, fit, sound.all, count_shared flat s.kept (length flat.ports.inputs) s.kept shared.cells s.cells)
+
   fewer : length shared.widths ≤ FLAT_WIRES
   fewer =
       let fit = rises_fit (length flat.ports.inputs) (length flat.widths) s.kept s.rises few (λ w i. kept_within flat sound shared s w i) in
-      omega (arith, long, fit, sound.few)
+      omega (arith, count_wires, fit, sound.few)
 
   -- a shared cell fits
   shared_fits : (w n : ℕ) (cell : Cell) → IsNumbered (length flat.ports.inputs) s.kept w n → IsSharedCell flat s.kept w n cell
@@ -175,5 +182,5 @@ module _ (flat shared : Flat) (sound : Sound flat) (s : Shares flat shared) wher
             (drives_from flat s.kept (length flat.ports.inputs) s.kept shared.cells s.cells);
         all =
             let ports = ap (λ (p : Ports). length p.inputs) s.ports in
-            omega (arith, ports, long, count_shared flat s.kept (length flat.ports.inputs) s.kept shared.cells s.cells);
+            omega (arith, ports, count_wires, count_shared flat s.kept (length flat.ports.inputs) s.kept shared.cells s.cells);
       }

@@ -89,7 +89,7 @@ by_choice : (flat : Flat) (h : List Event) (n a b : ℕ) (on : Bool) (x y : List
 by_choice flat h n a b true x y u v r = record { bits = x; one = r; other = u }
 by_choice flat h n a b false x y u v r = record { bits = y; one = r; other = v }
 
-item_at : {X : Type 0} (xs : List X) (k : ℕ) → k < length xs → (x : X) × (slice_get xs k ≡ Some x)
+pub item_at : {X : Type 0} (xs : List X) (k : ℕ) → k < length xs → (x : X) × (slice_get xs k ≡ Some x)
 item_at [] k l = absurd (omega arith)
 item_at (x ∷ xs) zero l = (x, refl)
 item_at (x ∷ xs) (suc k) l = item_at xs k (omega arith)

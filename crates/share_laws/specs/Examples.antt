@@ -5,7 +5,7 @@ use Rattle.netlist.specs.Examples.{bit, byte, dom, one_clock, wire}
 use Rattle.netlist.specs.declared.net.Cell.{Cell}
 use Rattle.netlist.specs.declared.net.Cell.TheVariants.{Const, Copy, Cut, Un, Bin, Mux, Reg}
 use Rattle.netlist.specs.declared.net.Flat.{Flat}
-use Rattle.netlist.specs.declared.net.Op1.TheVariants.{Not}
+use Rattle.netlist.specs.declared.net.Op1.TheVariants.{Not, RedAnd, RedOr}
 use Rattle.netlist.specs.declared.net.Op2.TheVariants.{Add}
 use Rattle.share_laws.specs.Same.{IsKnown, Same}
 use Rattle.share_laws.specs.Shares.{Shares}
@@ -82,3 +82,32 @@ bit_of_input =
 -- What is shared has the ports of the other. The outputs are named alike here.
 abbrev pub CopyGoes : Type 0
 CopyGoes = Shares bit_of_copy bit_of_input
+
+-- two counters that are alike: the register of each takes its own number plus 1
+abbrev pub two_counters : Flat
+two_counters =
+    flat_of [] (8 ∷ 8 ∷ 8 ∷ 8 ∷ 8 ∷ []) ((0, 8) ∷ (1, 8) ∷ [])
+    (register 0 0 2 ∷ register 1 0 3 ∷ Bin (wire 2) Add (wire 0) (wire 4)
+    ∷ Bin (wire 3) Add (wire 1) (wire 4) ∷ Const (wire 4) (byte 1) ∷ [])
+
+-- `Same` is the least equality: the registers would be equal if their sums were, and the sums if
+-- the registers were, so neither are.
+abbrev pub CountersDiffer : Type 0
+CountersDiffer = Same two_counters 0 1 → ⊥
+
+-- so both stay
+abbrev pub CountersStay : Type 0
+CountersStay = Shares two_counters two_counters
+
+-- a copy before the cell that it copies, and a cell that no output needs
+abbrev pub early_copy : Flat
+early_copy =
+    flat_of (8 ∷ []) (1 ∷ 1 ∷ 1 ∷ []) ((1, 1) ∷ [])
+    (Copy (wire 1) (wire 2) ∷ Un (wire 2) RedOr (wire 0) ∷ Un (wire 3) RedAnd (wire 0) ∷ [])
+
+-- the cell that is copied
+abbrev pub one_reduction : Flat
+one_reduction = flat_of (8 ∷ []) (1 ∷ []) ((1, 1) ∷ []) (Un (wire 1) RedOr (wire 0) ∷ [])
+
+abbrev pub CopiedCellStays : Type 0
+CopiedCellStays = Shares early_copy one_reduction

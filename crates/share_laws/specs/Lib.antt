@@ -1,3 +1,4 @@
 pub mod Examples
+pub mod Left
 pub mod Same
 pub mod Shares

@@ -1,16 +1,18 @@
 //! The laws of shared wires. Each is a function that does nothing, and says its law of all flat
 //! nets.
-ghost use Rattle.std.specs.Prelude.{◌≡◌, ◌↔◌, ℕ, Bool, List, length, Some, slice_get};
+ghost use Rattle.std.specs.Prelude.{◌≡◌, ◌↔◌, ◌≤◌, ℕ, Bool, List, length, Some, slice_get};
 ghost use Rattle.chw_base.specs.declared.index.WireId.{WireId};
 ghost use Rattle.chw_clock.specs.Histories.{FitsPorts};
 ghost use Rattle.chw_clock.specs.declared.event.Event.{Event};
 ghost use Rattle.net_flat.specs.Flattened.{IsFlatOf};
 ghost use Rattle.net_rules.specs.PortsHold.{PortsHold};
 ghost use Rattle.net_rules.specs.WellFormed.{WellFormed};
-ghost use Rattle.netlist.specs.NetValue.{NetValue};
+ghost use Rattle.netlist.specs.NetValue.{HasCell, NetValue};
 ghost use Rattle.netlist.specs.Orders.{HasNoLoop};
 ghost use Rattle.netlist.specs.Sound.{Sound};
+ghost use Rattle.netlist.specs.declared.net.Cell.TheVariants.{Const};
 ghost use Rattle.netlist.specs.declared.net.Flat.{Flat};
+ghost use Rattle.share_laws.specs.Left.{NothingToShare};
 ghost use Rattle.share_laws.specs.Same.{IsKnown, Same};
 ghost use Rattle.share_laws.specs.Shares.{Becomes, Shares, as_net};
 
@@ -36,6 +38,12 @@ pub fn same_wires_have_one_value()
 pub fn one_shared_net()
     ensures { (flat a b : Flat) → Sound flat → HasNoLoop flat → PortsHold flat.ports
         → Shares flat a → Shares flat b → a ≡ b }
+{}
+
+/// It isn't false that a sound flat net without a loop has a shared net.
+pub fn some_shared_net()
+    ensures { (flat : Flat) → Sound flat → HasNoLoop flat
+        → ((shared : Flat) → Shares flat shared → ⊥) → ⊥ }
 {}
 
 /// The shared net of a sound flat net is sound. A sound flat net whose ports hold is, as one
@@ -65,4 +73,32 @@ pub fn sharing_keeps_bits()
         → Shares flat shared → slice_get flat.outputs k ≡ Some o
         → slice_get shared.outputs k ≡ Some p
         → (NetValue flat h o.number bits ↔ NetValue shared h p.number bits) }
+{}
+
+/// The shared net of a sound flat net has no more cells than this.
+pub fn no_more_cells()
+    ensures { (flat shared : Flat) → Sound flat → Shares flat shared
+        → length shared.cells ≤ length flat.cells }
+{}
+
+/// Of a shared net nothing is left to share. So none of its wires are equal, and each wire of
+/// which bits are known is driven by the constant of these bits.
+pub fn nothing_is_left_to_share()
+    ensures cells { (flat shared : Flat) → Sound flat → HasNoLoop flat → PortsHold flat.ports
+        → Shares flat shared → NothingToShare shared }
+    ensures wires { (flat shared : Flat) (v w : ℕ) → Sound flat → HasNoLoop flat
+        → PortsHold flat.ports → Shares flat shared → Same shared v w → v ≡ w }
+    ensures known { (flat shared : Flat) (w : ℕ) (bits : List Bool) → Sound flat → HasNoLoop flat
+        → PortsHold flat.ports → Shares flat shared → IsKnown shared w bits
+        → HasCell shared (Const (record { number = w }) bits) }
+{}
+
+/// A sound flat net of which nothing is left to share is its own shared net, so a shared net is
+/// its own, and has no other.
+pub fn shared_shares_itself()
+    ensures nothing { (flat : Flat) → Sound flat → NothingToShare flat → Shares flat flat }
+    ensures itself { (flat shared : Flat) → Sound flat → HasNoLoop flat → PortsHold flat.ports
+        → Shares flat shared → Shares shared shared }
+    ensures no_other { (flat shared other : Flat) → Sound flat → HasNoLoop flat
+        → PortsHold flat.ports → Shares flat shared → Shares shared other → other ≡ shared }
 {}
