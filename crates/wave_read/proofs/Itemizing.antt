@@ -1,0 +1,187 @@
+-- Changes and times that were read.
+use Rattle.std.proofs.Common.{◌≡◌, ℕ, ◌<◌, ◌≤◌, Bool, true, false, List, [], ◌∷◌, ◌++◌, length, map, Some, Result, Ok, Err, refl, sym, ap, ◌∙◌, subst, arith, append_assoc}
+use Rattle.std.specs.Prelude.{IfErr, IfOk}
+use Rattle.std.proofs.lemmas.List.{append-nil, map-append}
+use Rattle.wave_text.specs.Faults.{FailsAt}
+use Rattle.wave_read.specs.Reading.{FailsBehind, GoesOn, HasChanges, IsItem, IsOther, IsShorter, end_of, left_of}
+use Rattle.wave_read.specs.Shown.{change_of}
+use Rattle.wave_text.specs.VcdText.{AreBits, AreChanges, Changed, IsCode, IsDigit, IsTime, Moment}
+use Rattle.wave_text.specs.VcdText.AreChanges.{none as nothing, at_time as time, by_digit as digit, by_bits as bits}
+use Rattle.wave_text.specs.Words.{Word}
+use Rattle.wave_read.specs.declared.items.Item.{Item}
+use Rattle.wave_read.specs.declared.items.Item.TheVariants.{Change, Nothing, Time}
+use Rattle.wave_read.specs.declared.items.Stamp.{Stamp}
+use Rattle.wave_read.specs.declared.words.Left.{Left}
+use Rattle.wave_read.specs.declared.source.Changed.{Changed as ReadChange}
+use Rattle.wave_read.proofs.WordKinds.{bits_behind, bits_fail, digit_behind, none_fails, time_behind}
+use Rattle.wave_read.specs.Slots.{FailsRow}
+use Rattle.wave_read.specs.declared.slots.Slot.TheVariants.{Code}
+use Rattle.waves.specs.Vcd.{digit_of}
+
+-- what stands first
+same_first : (a b : ℕ) (xs ys : List ℕ) → a ∷ xs ≡ b ∷ ys → a ≡ b
+same_first a b xs ys same = cc
+
+same_rest : (a b : ℕ) (xs ys : List ℕ) → a ∷ xs ≡ b ∷ ys → xs ≡ ys
+same_rest a b xs ys same = cc
+
+pub digit_item : (w : Word) (bit : Bool) (code : List ℕ) (value : List Bool) (words : List Word) (end : ℕ) → IsDigit w.bytes bit code → value ≡ bit ∷ []
+    → ((changes : List Changed) (moments : List Moment) → AreChanges words changes moments
+    → AreChanges (w ∷ words) ((record { at = w.at; code_at = w.at; code = code; bits = value }) ∷ changes) moments)
+    × FailsBehind HasChanges HasChanges end words (w ∷ words)
+digit_item w bit code value words end is same = (
+  λ changes moments rest.
+      subst (λ (v : List Bool). AreChanges (w ∷ words) ((let c : Changed = record { at = w.at; code_at = w.at; code = code; bits = v } in c) ∷ changes) moments) (sym same)
+      (digit w words bit code changes moments is rest),
+  digit_behind w end words bit code is,
+)
+
+-- a digit with no code behind it
+pub digit_fails : (w : Word) (bit : Bool) (code : List ℕ) (end : ℕ) (words : List Word) → w.bytes ≡ digit_of bit ∷ code → (IsCode code → ⊥)
+    → FailsAt HasChanges end (w ∷ words) w.at
+digit_fails w bit code end words bytes no_code =
+    none_fails w end words (λ at is. no_time at is bit bytes) (λ b c is. no_code (same_code b c is)) (λ value is. no_bits value is bit bytes)
+  where
+    no_time : (at : ℕ) → IsTime w.bytes at → (b : Bool) → w.bytes ≡ digit_of b ∷ code → ⊥
+    no_time at is true there =
+        let first = same_first 35 49 is.digits code (sym is.bytes_are ∙ there) in
+        absurd (omega arith)
+    no_time at is false there =
+        let first = same_first 35 48 is.digits code (sym is.bytes_are ∙ there) in
+        absurd (omega arith)
+
+    no_bits : (value : List Bool) → AreBits w.bytes value → (b : Bool) → w.bytes ≡ digit_of b ∷ code → ⊥
+    no_bits value is true there =
+        let first = same_first 98 49 (map digit_of value) code (sym is.bytes_are ∙ there) in
+        absurd (omega arith)
+    no_bits value is false there =
+        let first = same_first 98 48 (map digit_of value) code (sym is.bytes_are ∙ there) in
+        absurd (omega arith)
+
+    same_code : (b : Bool) (c : List ℕ) → IsDigit w.bytes b c → IsCode code
+    same_code b c is = subst IsCode (same_rest (digit_of b) (digit_of bit) c code (sym is.bytes_are ∙ bytes)) is.form
+
+pub bits_item : (w c : Word) (value : List Bool) (words rest : List Word) (end : ℕ) → AreBits w.bytes value → IsCode c.bytes → words ≡ c ∷ rest
+    → ((changes : List Changed) (moments : List Moment) → AreChanges rest changes moments
+    → AreChanges (w ∷ words) ((record { at = w.at; code_at = c.at; code = c.bytes; bits = value }) ∷ changes) moments)
+    × FailsBehind HasChanges HasChanges end rest (w ∷ words)
+bits_item w c value words rest end is form there = (
+  λ changes moments others.
+      subst (λ (ws : List Word). AreChanges (w ∷ ws) ((let d : Changed = record { at = w.at; code_at = c.at; code = c.bytes; bits = value } in d) ∷ changes) moments) (sym there)
+      (bits w c rest value changes moments is form others),
+  λ at fails. subst (λ (ws : List Word). FailsAt HasChanges end (w ∷ ws) at) (sym there) (bits_behind w c end rest value is form at fails),
+)
+
+-- `b` and bits, with no code in the next word
+pub code_fails : (w : Word) (value : List Bool) (end : ℕ) (words : List Word) (at : ℕ) → AreBits w.bytes value → FailsRow (Code ∷ []) end words at
+    → FailsAt HasChanges end (w ∷ words) at
+code_fails w value end words at is fails = bits_fail w end words value at is fails
+
+-- `b` before what are no bits
+pub no_bits_fail : (w : Word) (digits : List ℕ) (end : ℕ) (words : List Word) → w.bytes ≡ 98 ∷ digits
+    → ((value : List Bool) → digits ≡ map digit_of value → 0 < length value → ⊥) → FailsAt HasChanges end (w ∷ words) w.at
+no_bits_fail w digits end words bytes never = none_fails w end words no_time (λ b c is. no_digit b c is) (λ value is. never value (same_digits value is) is.some)
+  where
+    no_time : (at : ℕ) → IsTime w.bytes at → ⊥
+    no_time at is =
+        let first = same_first 98 35 digits is.digits (sym bytes ∙ is.bytes_are) in
+        absurd (omega arith)
+
+    no_digit : (b : Bool) (c : List ℕ) → IsDigit w.bytes b c → ⊥
+    no_digit true c is =
+        let first = same_first 98 49 digits c (sym bytes ∙ is.bytes_are) in
+        absurd (omega arith)
+    no_digit false c is =
+        let first = same_first 98 48 digits c (sym bytes ∙ is.bytes_are) in
+        absurd (omega arith)
+
+    same_digits : (value : List Bool) → AreBits w.bytes value → digits ≡ map digit_of value
+    same_digits value is = same_rest 98 98 digits (map digit_of value) (sym bytes ∙ is.bytes_are)
+
+pub time_item : (w : Word) (at : ℕ) (words : List Word) (end : ℕ) → IsTime w.bytes at
+    → ((changes : List Changed) (moments : List Moment) → AreChanges words changes moments
+    → AreChanges (w ∷ words) [] ((record { at = w.at; time = at; changes = changes }) ∷ moments))
+    × FailsBehind HasChanges HasChanges end words (w ∷ words)
+time_item w at words end is = (λ changes moments rest. time w words at changes moments is rest, time_behind w end words at is)
+
+-- neither a time nor a change
+pub other_fails : (w : Word) (end : ℕ) (words : List Word) → IsOther w.bytes → ((time : ℕ) → IsTime w.bytes time → ⊥) → FailsAt HasChanges end (w ∷ words) w.at
+other_fails w end words other no_time = none_fails w end words no_time (λ b c is. no_digit w.bytes b c other is) (λ value is. no_value w.bytes value other is)
+  where
+    no_digit : (bytes : List ℕ) (b : Bool) (c : List ℕ) → IsOther bytes → IsDigit bytes b c → ⊥
+    no_digit [] b c other is = let e = is.bytes_are in cc
+    no_digit (x ∷ bytes) true c other is = other.1 (same_first x 49 bytes c is.bytes_are)
+    no_digit (x ∷ bytes) false c other is = other.0 (same_first x 48 bytes c is.bytes_are)
+
+    no_value : (bytes : List ℕ) (value : List Bool) → IsOther bytes → AreBits bytes value → ⊥
+    no_value [] value other is = let e = is.bytes_are in cc
+    no_value (x ∷ bytes) value other is = other.2 (same_first x 98 bytes (map digit_of value) is.bytes_are)
+
+-- the changes so far, with one more
+pub forms_more : (all rest : List Word) (read pushed : List ReadChange) (it : ReadChange) (behind : List Word) → pushed ≡ read ++ it ∷ []
+    → ((others : List Changed) (moments : List Moment) → AreChanges rest others moments → AreChanges all (map change_of read ++ others) moments)
+    → ((others : List Changed) (moments : List Moment) → AreChanges behind others moments → AreChanges rest (change_of it ∷ others) moments)
+    → (others : List Changed) (moments : List Moment) → AreChanges behind others moments → AreChanges all (map change_of pushed ++ others) moments
+forms_more all rest read pushed it behind new before step others moments is =
+    let listed : map change_of pushed ≡ map change_of read ++ change_of it ∷ [] = ap (map change_of) new ∙ map-append change_of read (it ∷ []) in
+    subst (λ (cs : List Changed). AreChanges all cs moments)
+    (sym (ap (λ (t : List Changed). t ++ others) listed ∙ append_assoc (map change_of read) (change_of it ∷ []) others))
+    (before (change_of it ∷ others) moments (step others moments is))
+
+-- a time stands behind the changes
+pub goes_on : (end : ℕ) (all rest behind : List Word) (read : List ReadChange) (stamp : Stamp)
+    → ((others : List Changed) (moments : List Moment) → AreChanges rest others moments → AreChanges all (map change_of read ++ others) moments)
+    → FailsBehind HasChanges HasChanges end rest all
+    → ((others : List Changed) (moments : List Moment) → AreChanges behind others moments
+    → AreChanges rest [] ((record { at = stamp.at; time = stamp.time; changes = others }) ∷ moments))
+    → FailsBehind HasChanges HasChanges end behind rest → GoesOn end all (map change_of read) (Some stamp) behind
+goes_on end all rest behind read stamp forms fails step step_fails = (
+  λ others moments is.
+      subst (λ (cs : List Changed). AreChanges all cs ((let m : Moment = record { at = stamp.at; time = stamp.time; changes = others } in m) ∷ moments)) (append-nil (map change_of read))
+      (forms [] ((let m : Moment = record { at = stamp.at; time = stamp.time; changes = others } in m) ∷ moments) (step others moments is)),
+  λ at here. fails at (step_fails at here),
+)
+
+-- nothing stands behind the changes
+pub goes_no_further : (all rest : List Word) (read : List ReadChange)
+    → ((others : List Changed) (moments : List Moment) → AreChanges rest others moments → AreChanges all (map change_of read ++ others) moments)
+    → AreChanges rest [] [] → AreChanges all (map change_of read) []
+goes_no_further all rest read forms ends =
+    subst (λ (cs : List Changed). AreChanges all cs []) (append-nil (map change_of read)) (forms [] [] ends)
+
+pub no_more : (words : List Word) → words ≡ [] → AreChanges words [] []
+no_more words none = subst (λ (ws : List Word). AreChanges ws [] []) (sym none) nothing
+
+-- an item, at the end of all
+pub item_at : (words : List Word) (it : Item) (inner end : ℕ) → inner ≡ end → IsItem inner words it → IsItem end words it
+item_at words it inner end same is = subst (λ (n : ℕ). IsItem n words it) same is
+
+-- what stands next fails
+pub item_fails : (all rest : List Word) (end inner at : ℕ) → FailsBehind HasChanges HasChanges end rest all → inner ≡ end → FailsAt HasChanges inner rest at → FailsAt HasChanges end all at
+item_fails all rest end inner at behind same fails = behind at (subst (λ (n : ℕ). FailsAt HasChanges n rest at) same fails)
+
+-- what the first word begins
+pub item_read : (r : Result Item ℕ) (w : Word) (words rest : List Word) (inner end : ℕ) → words ≡ w ∷ rest → inner ≡ end → IfOk r (IsItem inner (w ∷ rest)) → IfOk r (IsItem end words)
+item_read (Err at) w words rest inner end is same read = tt
+item_read (Ok it) w words rest inner end is same read =
+    subst (λ (ws : List Word). IsItem end ws it) (sym is) (subst (λ (n : ℕ). IsItem n (w ∷ rest) it) same read)
+
+pub item_end : (r : Result Item ℕ) (behind left : Left) → end_of behind ≡ end_of left → IfOk r (λ it. end_of (left_of behind it) ≡ end_of behind)
+    → IfOk r (λ it. end_of (left_of left it) ≡ end_of left)
+item_end (Err at) behind left same ends = tt
+item_end (Ok Nothing) behind left same ends = refl
+item_end (Ok (Time stamp rest)) behind left same ends = ends ∙ same
+item_end (Ok (Change it rest)) behind left same ends = ends ∙ same
+
+pub item_shorter : (r : Result Item ℕ) (behind left : Left) → length behind.text.now < length left.text.now
+    → IfOk r (λ it. length (left_of behind it).text.now ≤ length behind.text.now) → IfOk r (λ it. IsShorter it left.text.now)
+item_shorter (Err at) behind left less short = tt
+item_shorter (Ok Nothing) behind left less short = tt
+item_shorter (Ok (Time stamp rest)) behind left less short = omega arith
+item_shorter (Ok (Change it rest)) behind left less short = omega arith
+
+pub item_failed : (r : Result Item ℕ) (w : Word) (words rest : List Word) (inner end : ℕ) → words ≡ w ∷ rest → inner ≡ end → IfErr r (FailsAt HasChanges inner (w ∷ rest))
+    → IfErr r (FailsAt HasChanges end words)
+item_failed (Ok it) w words rest inner end is same failed = tt
+item_failed (Err at) w words rest inner end is same failed =
+    subst (λ (ws : List Word). FailsAt HasChanges end ws at) (sym is) (subst (λ (n : ℕ). FailsAt HasChanges n (w ∷ rest) at) same failed)

@@ -1,0 +1,15 @@
+pub mod BitDigits
+pub mod Bytes
+pub mod Converting
+pub mod Defining
+pub mod DistinctCodes
+pub mod Failing
+pub mod Forms
+pub mod Itemizing
+pub mod Momenting
+pub mod Numerals
+pub mod Rising
+pub mod RowSteps
+pub mod Searching
+pub mod SourceFaults
+pub mod WordKinds

@@ -1,0 +1,8 @@
+use Rattle.wave_read.specs.Reading.{end_of, words_in}
+use Rattle.wave_read.proofs.Momenting.{no_times, times_fail, times_read}
+use Rattle.wave_read.proofs.moments.moments_of.Goals as goal
+
+pub returns-in-Ok-None-clause-forms : goal.returns-in-Ok-None-clause-forms
+returns-in-Ok-None-clause-forms c =
+    let none = rw c.in-Ok-None.field-0-is at c.in-Ok-None.ensures.none in
+    no_times (words_in c.args.left) c.new.result.items none c.new.ensures.items

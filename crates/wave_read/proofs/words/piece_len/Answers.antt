@@ -1,0 +1,14 @@
+use Rattle.std.proofs.Common.{◌≡◌, ℕ, false, length, get_or, sym, ◌∙◌, arith}
+use Rattle.std.proofs.lemmas.List.Sums.{position_or_len_is}
+use Rattle.verilog_text.specs.VTokens.{is_white}
+use Rattle.wave_read.proofs.words.piece_len.Goals as goal
+use borrow.Author.Count.{below_more}
+
+pub returns-then-is_white-clause-len : goal.returns-then-is_white-clause-len
+returns-then-is_white-clause-len c =
+    sym (position_or_len_is is_white c.args.text.now c.loop-len.len 0 (omega (arith, c.loop-len-test.true)) c.loop-len.invariant (λ _. sym c.is_white.ensures ∙ c.if-is_white.true))
+
+pub returns-clause-len : goal.returns-clause-len
+returns-clause-len c =
+    sym (position_or_len_is is_white c.args.text.now (length c.args.text.now) 0 (omega arith) (λ k below. c.loop-len.invariant k (omega (arith, c.loop-len-test.false)))
+    (λ below. absurd (omega arith)))

@@ -1,0 +1,16 @@
+//! Waves read of their text: the words, the form, and the rules on codes, widths and times.
+#![tactic(auto)]
+
+mod definitions;
+mod denoting;
+mod items;
+mod moments;
+mod numbers;
+mod reading;
+mod rows;
+mod rules;
+mod slots;
+mod source;
+mod words;
+
+pub use reading::read_vcd;
