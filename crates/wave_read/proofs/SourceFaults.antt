@@ -1,5 +1,5 @@
 -- What a source breaks, by what the table says, and its wave.
-use Rattle.std.proofs.Common.{◌≡◌, ℕ, ◌<◌, Bool, true, false, List, length, map, inl, inr, refl, sym, ap, ◌∙◌, subst, Result, Ok, Err}
+use Rattle.std.proofs.Common.{◌≡◌, ℕ, true, List, length, map, inl, inr, sym, ◌∙◌, subst, Result, Ok, Err}
 use Rattle.std.specs.Prelude.{◌==◌, ◌↔◌, IfOk, IsTrue}
 use Rattle.std.specs.List.{AllByRecursion}
 use Rattle.std.proofs.lemmas.Bool.{false≢true}
@@ -11,14 +11,14 @@ use Rattle.chw_base.specs.declared.outcome.Or.TheVariants.{Fault, Memory}
 use Rattle.name_tables.specs.Names.{AreDistinct}
 use Rattle.waves.specs.Vcd.{variable}
 use Rattle.wave_text.specs.Faults.{IsBackAt, IsSourceFault, IsVcdFault}
-use Rattle.wave_text.specs.VcdText.{Changed, Declared, IsRight, IsSource, Moment, Rise, Source, VcdText, all_changes, codes_of, wave_of}
+use Rattle.wave_text.specs.VcdText.{Declared, IsRight, IsSource, Moment, Rise, Source, VcdText, all_changes, codes_of, wave_of}
 use Rattle.wave_text.specs.Words.{words_of}
 use Rattle.wave_text.specs.declared.fault.VcdCode.TheVariants.{X02, X03, X04}
 use Rattle.wave_text.specs.declared.fault.VcdFault.{VcdFault}
 use Rattle.wave_text.specs.declared.wave.Wave.{Wave}
 use Rattle.wave_text.specs.declared.wave.WaveStep.{WaveStep}
 use Rattle.waves.specs.declared.wave.WaveVar.{WaveVar}
-use Rattle.wave_read.specs.Rules.{BreaksAt, Keeps, OfTable, step_in, var_in, width_in}
+use Rattle.wave_read.specs.Rules.{BreaksAt, Keeps, OfTable, step_in, width_in}
 use Rattle.wave_read.specs.Shown.{bits_of, change_of, source_in}
 use Rattle.wave_read.specs.declared.rules.Rule.TheVariants.{Code, Width}
 use Rattle.wave_read.specs.declared.rules.Table.{Table}

@@ -1,5 +1,5 @@
 -- The kinds of words among changes and times, told apart by their first bytes.
-use Rattle.std.proofs.Common.{◌≡◌, ℕ, Bool, true, false, List, [], ◌∷◌, ◌⊎◌, inl, inr, refl, ap, arith}
+use Rattle.std.proofs.Common.{◌≡◌, ℕ, Bool, List, [], ◌∷◌, refl}
 use Rattle.wave_text.specs.Faults.{FailsAt}
 use Rattle.wave_read.specs.Reading.{FailsBehind, HasChanges, HasTimes}
 use Rattle.wave_read.specs.Slots.{FailsRow}

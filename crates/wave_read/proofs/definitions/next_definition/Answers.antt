@@ -1,8 +1,8 @@
-use Rattle.std.proofs.Common.{◌≡◌, codes, sym, ◌∙◌, length, arith}
+use Rattle.std.proofs.Common.{sym, ◌∙◌, arith}
 use Rattle.std.proofs.lemmas.Bool.{false≢true}
 use Rattle.wave_read.specs.Reading.{end_of, words_in}
 use Rattle.wave_read.specs.Shown.{shown}
-use Rattle.wave_read.proofs.Defining.{definition_end, definition_fails, definition_read, definition_shorter, no_definition, other_word}
+use Rattle.wave_read.proofs.Defining.{no_definition, other_word}
 use Rattle.wave_read.proofs.definitions.next_definition.Goals as goal
 
 pub returns-in_default-clause-fault : goal.returns-in_default-clause-fault

@@ -1,8 +1,7 @@
-use Rattle.std.proofs.Common.{List, map, sym, subst}
+use Rattle.std.proofs.Common.{List, map, subst}
 use Rattle.std.proofs.lemmas.Result.{err_from_is_err_and}
-use Rattle.wave_read.specs.Reading.{Declares, end_of, variable_slots, words_in}
+use Rattle.wave_read.specs.Reading.{Declares, end_of, words_in}
 use Rattle.wave_read.specs.Shown.{shown, variable_of}
-use Rattle.wave_read.specs.Slots.{FitsRow}
 use Rattle.wave_read.specs.declared.words.Word.{Word as ReadWord}
 use Rattle.wave_read.proofs.Defining.{variable_definition, variable_row_fails}
 use Rattle.wave_read.proofs.definitions.variable.Goals as goal

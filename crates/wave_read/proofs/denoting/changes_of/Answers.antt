@@ -1,8 +1,7 @@
-use Rattle.std.proofs.Common.{refl, arith}
-use Rattle.wave_read.specs.Rules.{Keeps, change_in}
-use Rattle.wave_read.specs.Shown.{change_of}
+use Rattle.std.proofs.Common.{refl}
+use Rattle.wave_read.specs.Rules.{Keeps}
 use Rattle.wave_read.specs.declared.rules.Rule.TheVariants.{Width}
-use Rattle.wave_read.proofs.Searching.{change_at, twice_all, twice_push}
+use Rattle.wave_read.proofs.Searching.{change_at}
 use Rattle.wave_read.proofs.denoting.changes_of.Goals as goal
 
 pub change_made-requires : goal.change_made-requires

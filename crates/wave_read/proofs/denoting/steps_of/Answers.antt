@@ -1,8 +1,6 @@
-use Rattle.std.proofs.Common.{arith}
-use Rattle.wave_read.specs.Rules.{Keeps, step_in}
-use Rattle.wave_read.specs.Shown.{time_of}
+use Rattle.wave_read.specs.Rules.{Keeps}
 use Rattle.wave_read.specs.declared.rules.Rule.TheVariants.{Width}
-use Rattle.wave_read.proofs.Searching.{changes_at, twice_all, twice_push}
+use Rattle.wave_read.proofs.Searching.{changes_at}
 use Rattle.wave_read.proofs.denoting.steps_of.Goals as goal
 
 pub step_made-requires : goal.step_made-requires

@@ -1,7 +1,5 @@
-use Rattle.std.proofs.Common.{◌<◌, ◌∙◌, length, arith}
-use Rattle.wave_read.specs.Reading.{end_of, words_in}
-use Rattle.wave_read.specs.declared.items.Item.TheVariants.{Change, Time}
-use Rattle.wave_read.proofs.Itemizing.{forms_more, goes_no_further, goes_on, item_at, item_fails, no_more}
+use Rattle.wave_read.specs.Reading.{words_in}
+use Rattle.wave_read.proofs.Itemizing.{goes_no_further, no_more}
 use Rattle.wave_read.proofs.moments.changes_in.Goals as goal
 
 pub returns-in-Ok-Nothing-clause-goes_on : goal.returns-in-Ok-Nothing-clause-goes_on

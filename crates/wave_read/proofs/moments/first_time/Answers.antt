@@ -1,4 +1,3 @@
-use Rattle.std.proofs.Common.{refl}
 use Rattle.wave_read.specs.Reading.{end_of, words_in}
 use Rattle.wave_read.specs.Shown.{shown}
 use Rattle.wave_read.proofs.Momenting.{no_first_time}

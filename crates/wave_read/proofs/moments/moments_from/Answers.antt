@@ -1,11 +1,11 @@
-use Rattle.std.proofs.Common.{◌≡◌, ◌∷◌, map, Option, refl, ap, ◌∙◌, subst, arith}
+use Rattle.std.proofs.Common.{◌≡◌, ◌∷◌, map, Option, refl, ◌∙◌, subst}
 use Rattle.std.proofs.lemmas.Result.{err_from_is_err_and}
-use Rattle.wave_read.specs.Reading.{end_of, waiting, words_in}
+use Rattle.wave_read.specs.Reading.{end_of, words_in}
 use Rattle.wave_read.specs.Shown.{time_of}
 use Rattle.wave_text.specs.VcdText.{IsTime}
 use Rattle.wave_text.specs.Words.{Word}
 use Rattle.wave_read.specs.declared.items.Stamp.{Stamp}
-use Rattle.wave_read.proofs.Momenting.{Reached, fails_from, less_waits, reached_end, reached_none, reached_push}
+use Rattle.wave_read.proofs.Momenting.{Reached, fails_from, reached_end, reached_none, reached_push}
 use Rattle.wave_read.proofs.moments.moments_from.Goals as goal
 
 pub loop-next-init : goal.loop-next-init

@@ -1,5 +1,5 @@
-use Rattle.wave_read.specs.Reading.{end_of, words_in}
-use Rattle.wave_read.proofs.Momenting.{no_times, times_fail, times_read}
+use Rattle.wave_read.specs.Reading.{words_in}
+use Rattle.wave_read.proofs.Momenting.{no_times}
 use Rattle.wave_read.proofs.moments.moments_of.Goals as goal
 
 pub returns-in-Ok-None-clause-forms : goal.returns-in-Ok-None-clause-forms

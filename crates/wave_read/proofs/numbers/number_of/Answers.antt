@@ -1,7 +1,6 @@
-use Rattle.std.proofs.Common.{◌<◌, length, subst, arith}
-use Rattle.std.proofs.lemmas.Grind.{common_steps}
+use Rattle.std.proofs.Common.{◌<◌, subst, arith}
 use Rattle.std.proofs.lemmas.Int.Digits.{digits_more}
-use Rattle.wave_read.proofs.Numerals.{number_all, number_more, stops_here}
+use Rattle.wave_read.proofs.Numerals.{number_more, stops_here}
 use Rattle.wave_read.proofs.numbers.number_of.Goals as goal
 
 pub returns-in_err-number : goal.returns-in_err-number

@@ -3,7 +3,7 @@ use Rattle.std.proofs.lemmas.Result.{err_from_is_err_and}
 use Rattle.wave_read.specs.Reading.{words_in}
 use Rattle.wave_read.specs.Shown.{shown}
 use Rattle.wave_text.specs.Words.{words_of}
-use Rattle.wave_read.proofs.Forms.{first_behind, first_fails, first_form}
+use Rattle.wave_read.proofs.Forms.{first_behind, first_fails}
 use Rattle.wave_read.proofs.reading.behind_first.Goals as goal
 
 pub returns-in_err-row-clause-fault : goal.returns-in_err-row-clause-fault

@@ -1,7 +1,7 @@
-use Rattle.std.proofs.Common.{◌+◌, length, map, refl, ◌∙◌, arith}
+use Rattle.std.proofs.Common.{◌+◌, length, refl, ◌∙◌, arith}
 use Rattle.wave_read.specs.Shown.{shown}
 use Rattle.wave_text.specs.Words.{words_from}
-use Rattle.wave_read.proofs.RowSteps.{fails_at, fails_behind, fits_all, fits_more, words_more}
+use Rattle.wave_read.proofs.RowSteps.{fails_at, fails_behind, fits_more, words_more}
 use Rattle.wave_read.proofs.rows.row_of.Goals as goal
 
 pub returns-in-Err-clause-fault : goal.returns-in-Err-clause-fault

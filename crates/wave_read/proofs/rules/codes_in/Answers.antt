@@ -1,9 +1,4 @@
-use Rattle.std.proofs.Common.{List, ap, refl, subst, ◌∙◌, map, arith}
-use Rattle.std.proofs.lemmas.List.{take_all}
-use Rattle.name_tables.specs.Names.{AreDistinct}
-use Rattle.wave_read.specs.Shown.{variable_of}
-use Rattle.wave_read.specs.declared.source.Declared.{Declared}
-use Rattle.wave_text.specs.VcdText.{codes_of}
+use Rattle.std.proofs.Common.{refl}
 use Rattle.wave_read.proofs.DistinctCodes.{code_again, codes_declared, codes_distinct}
 use Rattle.wave_read.proofs.rules.codes_in.Goals as goal
 

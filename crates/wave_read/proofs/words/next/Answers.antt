@@ -1,7 +1,5 @@
-use Rattle.std.proofs.Common.{◌≡◌, ◌<◌, length, sym, ◌∙◌, arith}
-use Rattle.std.proofs.lemmas.Grind.{common_steps}
-use Rattle.std.proofs.lemmas.List.{nil_from_length}
-use Rattle.wave_text.proofs.Splitting.{behind_blank, behind_word, no_words}
+use Rattle.std.proofs.Common.{sym, ◌∙◌}
+use Rattle.wave_text.proofs.Splitting.{behind_word}
 use Rattle.wave_read.proofs.words.next.Goals as goal
 
 pub returns-then-len-gt0-clause-some : goal.returns-then-len-gt0-clause-some

@@ -1,8 +1,7 @@
-use Rattle.std.proofs.Common.{◌≡◌, ℕ, false, length, get_or, sym, ◌∙◌, arith}
+use Rattle.std.proofs.Common.{length, sym, ◌∙◌, arith}
 use Rattle.std.proofs.lemmas.List.Sums.{position_or_len_is}
 use Rattle.verilog_text.specs.VTokens.{is_white}
 use Rattle.wave_read.proofs.words.piece_len.Goals as goal
-use borrow.Author.Count.{below_more}
 
 pub returns-then-is_white-clause-len : goal.returns-then-is_white-clause-len
 returns-then-is_white-clause-len c =

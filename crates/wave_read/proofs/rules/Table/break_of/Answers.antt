@@ -1,9 +1,8 @@
-use Rattle.std.proofs.Common.{List, map, subst, arith}
-use Rattle.std.specs.List.{AllByRecursion}
+use Rattle.std.proofs.Common.{List, map, subst}
 use Rattle.wave_read.specs.Rules.{BreaksAt, Keeps}
 use Rattle.wave_read.specs.Shown.{change_of}
 use Rattle.wave_read.specs.declared.source.Changed.{Changed}
-use Rattle.wave_read.proofs.Searching.{all_changes_more, all_changes_of, first_of_all}
+use Rattle.wave_read.proofs.Searching.{first_of_all}
 use Rattle.wave_read.proofs.rules.Table.break_of.Goals as goal
 
 pub returns-in-Some-clause-some : goal.returns-in-Some-clause-some

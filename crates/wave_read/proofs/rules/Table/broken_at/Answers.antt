@@ -1,8 +1,7 @@
-use Rattle.std.proofs.Common.{refl, sym, ◌∙◌, arith}
+use Rattle.std.proofs.Common.{refl, sym, ◌∙◌}
 use Rattle.std.proofs.lemmas.Bool.{false≢true}
 use Rattle.wave_read.specs.Rules.{Keeps}
-use Rattle.wave_read.specs.Shown.{change_of}
-use Rattle.wave_read.proofs.Searching.{all_more, all_of, first_without}
+use Rattle.wave_read.proofs.Searching.{first_without}
 use Rattle.wave_read.proofs.rules.Table.broken_at.Goals as goal
 
 pub returns-then-not-keeps-clause-some : goal.returns-then-not-keeps-clause-some
