@@ -1,12 +1,11 @@
 -- The digits of bits.
-use Rattle.std.proofs.Common.{◌≡◌, ◌≢◌, ℕ, ◌<◌, Bool, true, false, List, [], ◌∷◌, length, map, take, inl, inr, refl, sym, ap, ◌∙◌, subst, arith}
+use Rattle.std.proofs.Common.{◌≡◌, ℕ, ◌<◌, Bool, true, false, List, [], ◌∷◌, length, map, take, inl, inr, refl, sym, ap, ◌∙◌, subst, arith}
 use Rattle.std.specs.Prelude.{◌||◌, ◌==◌}
 use Rattle.std.proofs.lemmas.Bool.{false≢true}
 use Rattle.std.proofs.lemmas.Bool.Decides.{eqb_tells}
 use Rattle.chw_base.specs.Names.{AllOf, BeginsThen}
 use Rattle.waves.specs.Vcd.{digit_of}
 use Rattle.wave_text.specs.VcdText.{AreBits}
-use Rattle.wave_read.specs.Reading.{IsOther}
 use Rattle.wave_read.specs.Shown.{bits_of, is_bit}
 
 -- a digit is that of its bit
@@ -51,18 +50,3 @@ value_digits digits value is some = subst (BeginsThen is_bit is_bit) (sym is) (s
 pub first_bit : (bytes code : List ℕ) (bit : Bool) → bytes ≡ digit_of bit ∷ code → bits_of (take 1 bytes) ≡ bit ∷ []
 first_bit bytes code true is = ap (λ (bs : List ℕ). bits_of (take 1 bs)) is
 first_bit bytes code false is = ap (λ (bs : List ℕ). bits_of (take 1 bs)) is
-
-pub other_first : (bytes rest : List ℕ) (first : ℕ) → bytes ≡ first ∷ rest → is_bit first ≡ false → first ≢ 98 → IsOther bytes
-other_first bytes rest first is no_bit no_b =
-    subst IsOther (sym is) (
-      λ zero. false≢true (sym no_bit ∙ ap is_bit zero),
-      λ one. false≢true (sym no_bit ∙ ap is_bit one),
-      no_b,
-    )
-
-pub other_none : (bytes : List ℕ) → bytes ≡ [] → IsOther bytes
-other_none bytes none = subst IsOther (sym none) tt
-
--- a word of a digit and of what stands behind it, by its bit
-pub digit_word : (bytes code : List ℕ) (first : ℕ) → is_bit first ≡ true → bytes ≡ first ∷ code → (bit : Bool) × (bytes ≡ digit_of bit ∷ code)
-digit_word bytes code first is bytes_are = (first == 49, bytes_are ∙ ap (λ (d : ℕ). d ∷ code) (sym (digit_back first is)))

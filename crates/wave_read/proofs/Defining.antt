@@ -1,22 +1,19 @@
 -- Definitions that were read.
-use Rattle.std.proofs.Common.{◌≡◌, ℕ, ◌<◌, ◌≤◌, List, [], ◌∷◌, ◌++◌, length, map, get_or, codes, Result, Ok, Err, refl, sym, ap, ◌∙◌, subst, append_assoc, arith}
-use Rattle.std.specs.Prelude.{IfOk}
-use Rattle.chw_base.specs.Outcome.{IfFault, OfFault}
+use Rattle.std.proofs.Common.{◌≡◌, ℕ, List, [], ◌∷◌, ◌++◌, map, codes, sym, ap, ◌∙◌, subst, append_assoc}
+use Rattle.chw_base.specs.Outcome.{OfFault}
 use Rattle.chw_base.specs.declared.outcome.Or.{Or}
 use Rattle.chw_base.specs.declared.outcome.Or.TheVariants.{Fault, Memory}
-use Rattle.std.proofs.lemmas.List.{append-nil, map-append}
+use Rattle.std.proofs.lemmas.List.{map-append}
 use Rattle.wave_text.specs.Faults.{FailsAt}
-use Rattle.wave_read.specs.Reading.{Declares, FailsBehind, HasDeclarations, IsDefinition, behind_of, end_of, last_slots, variable_slots, words_in}
-use Rattle.wave_read.specs.Shown.{shown, variable_of}
+use Rattle.wave_read.specs.Reading.{Declares, HasDeclarations, IsDefinition, last_slots, variable_slots, words_in}
+use Rattle.wave_read.specs.Shown.{variable_of}
 use Rattle.wave_read.specs.Slots.{FailsRow, FitsRow}
-use Rattle.wave_text.specs.VcdText.{AreChanges, AreDeclarations, Declared, IsWidth, Moment}
+use Rattle.wave_text.specs.VcdText.{AreChanges, AreDeclarations, Declared, Moment}
 use Rattle.wave_text.specs.VcdText.AreDeclarations.{next as variable}
 use Rattle.wave_text.specs.Words.{Word}
-use Rattle.wave_read.specs.declared.definitions.Definition.{Definition}
 use Rattle.wave_read.specs.declared.definitions.Definition.TheVariants.{Last, Variable}
 use Rattle.wave_read.specs.declared.source.Declared.{Declared as ReadVariable}
 use Rattle.wave_read.specs.declared.words.Left.{Left}
-use Rattle.wave_read.specs.declared.words.Word.{Word as ReadWord}
 use Rattle.wave_read.proofs.Failing.{row_up}
 use Rattle.wave_read.proofs.Forms.{definitions_end, last_behind, last_fails, last_form, other_fails, variable_behind, variable_fails}
 
@@ -64,32 +61,6 @@ forms_more all rest read pushed it behind new before step declared moments is =
     (sym (ap (λ (t : List Declared). t ++ declared) listed ∙ append_assoc (map variable_of read) (variable_of it ∷ []) declared))
     (before (variable_of it ∷ declared) moments (step declared moments is))
 
--- all variables
-pub forms_all : (all rest : List Word) (read : List ReadVariable) (behind : List Word)
-    → ((declared : List Declared) (moments : List Moment) → AreDeclarations rest declared moments → AreDeclarations all (map variable_of read ++ declared) moments)
-    → ((moments : List Moment) → AreChanges behind [] moments → AreDeclarations rest [] moments)
-    → (moments : List Moment) → AreChanges behind [] moments → AreDeclarations all (map variable_of read) moments
-forms_all all rest read behind before step moments is =
-    subst (λ (ds : List Declared). AreDeclarations all ds moments) (append-nil (map variable_of read)) (before [] moments (step moments is))
-
--- what the words behind `$var` declare
-pub declares_of : (words : List ReadWord) (d : ReadWord) (width : ℕ) → FitsRow variable_slots (map shown words) → IsWidth (get_or words 1 d).bytes.now width
-    → Declares (map shown words)
-    (record { at = (get_or words 2 d).at; width = width; code = (get_or words 2 d).bytes.now; name = (get_or words 3 d).bytes.now })
-declares_of [] d width fits is = absurd fits
-declares_of (v ∷ []) d width fits is = absurd fits.1
-declares_of (v ∷ n ∷ []) d width fits is = absurd fits.1.1
-declares_of (v ∷ n ∷ c ∷ []) d width fits is = absurd fits.1.1.1
-declares_of (v ∷ n ∷ c ∷ name ∷ []) d width fits is = absurd fits.1.1.1.1
-declares_of (v ∷ n ∷ c ∷ name ∷ e ∷ []) d width fits is = (fits.0, is, fits.1.1.0, fits.1.1.1.0, fits.1.1.1.1.0, refl)
-declares_of (v ∷ n ∷ c ∷ name ∷ e ∷ x ∷ more) d width fits is = absurd fits.1.1.1.1.1
-
--- the second word is a width
-pub second_width : (words : List ReadWord) (d : ReadWord) → FitsRow variable_slots (map shown words) → (width : ℕ) × IsWidth (get_or words 1 d).bytes.now width
-second_width [] d fits = absurd fits
-second_width (v ∷ []) d fits = absurd fits.1
-second_width (v ∷ n ∷ more) d fits = fits.1.0
-
 -- a row that fails
 pub variable_row_fails : (end : ℕ) (words : List Word) (e : Or ℕ) → OfFault e (FailsRow variable_slots end words)
     → OfFault e (λ at. (w : Word) → w.bytes ≡ codes "$var" → FailsAt HasDeclarations end (w ∷ words) at)
@@ -110,36 +81,3 @@ pub other_word : (w : Word) (end : ℕ) (words rest : List Word) → words ≡ w
     → FailsAt HasDeclarations end words w.at
 other_word w end words rest is no_var no_upscope =
     subst (λ (ws : List Word). FailsAt HasDeclarations end ws w.at) (sym is) (other_fails w end rest no_var no_upscope)
-
--- a definition behind a word that was read
-pub definition_read : (r : Result Definition (Or ℕ)) (bytes : List ℕ) (w : Word) (words rest : List Word) (inner end : ℕ) → w.bytes ≡ bytes → words ≡ w ∷ rest → inner ≡ end
-    → IfOk r (λ d. (v : Word) → v.bytes ≡ bytes → IsDefinition inner (v ∷ rest) d) → IfOk r (IsDefinition end words)
-definition_read (Err e) bytes w words rest inner end first is same read = tt
-definition_read (Ok d) bytes w words rest inner end first is same read =
-    subst (λ (ws : List Word). IsDefinition end ws d) (sym is) (subst (λ (n : ℕ). IsDefinition n (w ∷ rest) d) same (read w first))
-
-pub definition_fails : (r : Result Definition (Or ℕ)) (bytes : List ℕ) (w : Word) (words rest : List Word) (inner end : ℕ) → w.bytes ≡ bytes → words ≡ w ∷ rest → inner ≡ end
-    → IfFault r (λ at. (v : Word) → v.bytes ≡ bytes → FailsAt HasDeclarations inner (v ∷ rest) at) → IfFault r (FailsAt HasDeclarations end words)
-definition_fails (Ok d) bytes w words rest inner end first is same read = tt
-definition_fails (Err Memory) bytes w words rest inner end first is same read = tt
-definition_fails (Err (Fault at)) bytes w words rest inner end first is same read =
-    subst (λ (ws : List Word). FailsAt HasDeclarations end ws at) (sym is) (subst (λ (n : ℕ). FailsAt HasDeclarations n (w ∷ rest) at) same (read w first))
-
-pub definition_end : (r : Result Definition (Or ℕ)) (inner end : ℕ) → inner ≡ end → IfOk r (λ d. end_of (behind_of d) ≡ inner) → IfOk r (λ d. end_of (behind_of d) ≡ end)
-definition_end (Err e) inner end same is = tt
-definition_end (Ok d) inner end same is = is ∙ same
-
-pub definition_shorter : (r : Result Definition (Or ℕ)) (inner outer : ℕ) → inner < outer → IfOk r (λ d. length (behind_of d).text.now ≤ inner)
-    → IfOk r (λ d. length (behind_of d).text.now < outer)
-definition_shorter (Err e) inner outer less is = tt
-definition_shorter (Ok d) inner outer less is = omega arith
-
--- the next definition fails
-pub fails_after : (all rest : List Word) (end inner : ℕ) (e : Or ℕ) → FailsBehind HasDeclarations HasDeclarations end rest all → inner ≡ end
-    → OfFault e (FailsAt HasDeclarations inner rest) → OfFault e (FailsAt HasDeclarations end all)
-fails_after all rest end inner Memory behind same fails = tt
-fails_after all rest end inner (Fault at) behind same fails = behind at (subst (λ (n : ℕ). FailsAt HasDeclarations n rest at) same fails)
-
--- the steps of a definition, at the end of all
-pub step_at : (words : List Word) (d : Definition) (inner end : ℕ) → inner ≡ end → IsDefinition inner words d → IsDefinition end words d
-step_at words d inner end same is = subst (λ (n : ℕ). IsDefinition n words d) same is

@@ -221,13 +221,6 @@ pub source_fails : (end : ℕ) (words : List Word) (at : ℕ) → FailsRow first
 source_fails end words at fails =
     alike HasSource (RowThen first_slots HasDeclarations) end words at source_down source_up (row_fails first_slots HasDeclarations end words at some_declarations fails)
 
--- what the first words make of the text
-pub first_form : (p words rest : List Word) (declared : List Declared) (moments : List Moment) → FitsRow first_slots p → words ≡ p ++ rest → AreDeclarations rest declared moments
-    → IsSource words (record { declared = declared; moments = moments })
-first_form p words rest declared moments fits there is =
-    source_form words (record { declared = declared; moments = moments })
-    (subst (RowThen first_slots (λ more. AreDeclarations more declared moments)) (sym there) (row_up first_slots (λ more. AreDeclarations more declared moments) p rest fits is))
-
 pub first_behind : (p words rest : List Word) (end : ℕ) → FitsRow first_slots p → words ≡ p ++ rest → FailsBehind HasDeclarations HasSource end rest words
 first_behind p words rest end fits there at fails =
     subst (λ (ws : List Word). FailsAt HasSource end ws at) (sym there) (source_behind end p rest fits at fails)
@@ -236,12 +229,6 @@ pub first_fails : (text : List ℕ) (end : ℕ) (e : Or ℕ) → end ≡ length 
     → OfFault e (FailsAt HasSource (length text) (words_of text))
 first_fails text end Memory same fails = tt
 first_fails text end (Fault at) same fails = source_fails (length text) (words_of text) at (subst (λ (n : ℕ). FailsRow first_slots n (words_of text) at) same fails)
-
--- the definitions fail
-pub definitions_fail : (words rest : List Word) (end inner : ℕ) (e : Or ℕ) → FailsBehind HasDeclarations HasSource end rest words → inner ≡ end
-    → OfFault e (FailsAt HasDeclarations inner rest) → OfFault e (FailsAt HasSource end words)
-definitions_fail words rest end inner Memory behind same fails = tt
-definitions_fail words rest end inner (Fault at) behind same fails = behind at (subst (λ (n : ℕ). FailsAt HasDeclarations n rest at) same fails)
 
 -- the times fail
 pub times_fail : (words first rest : List Word) (end inner innermost : ℕ) (e : Or ℕ) → FailsBehind HasDeclarations HasSource end first words → inner ≡ end

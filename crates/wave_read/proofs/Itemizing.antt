@@ -1,17 +1,13 @@
 -- Changes and times that were read.
-use Rattle.std.proofs.Common.{◌≡◌, ℕ, ◌<◌, ◌≤◌, Bool, true, false, List, [], ◌∷◌, ◌++◌, length, map, Some, Result, Ok, Err, refl, sym, ap, ◌∙◌, subst, arith, append_assoc}
-use Rattle.std.specs.Prelude.{IfErr, IfOk}
+use Rattle.std.proofs.Common.{◌≡◌, ℕ, ◌<◌, Bool, true, false, List, [], ◌∷◌, ◌++◌, length, map, Some, sym, ap, ◌∙◌, subst, arith, append_assoc}
 use Rattle.std.proofs.lemmas.List.{append-nil, map-append}
 use Rattle.wave_text.specs.Faults.{FailsAt}
-use Rattle.wave_read.specs.Reading.{FailsBehind, GoesOn, HasChanges, IsItem, IsOther, IsShorter, end_of, left_of}
+use Rattle.wave_read.specs.Reading.{FailsBehind, GoesOn, HasChanges, IsOther}
 use Rattle.wave_read.specs.Shown.{change_of}
 use Rattle.wave_text.specs.VcdText.{AreBits, AreChanges, Changed, IsCode, IsDigit, IsTime, Moment}
 use Rattle.wave_text.specs.VcdText.AreChanges.{none as nothing, at_time as time, by_digit as digit, by_bits as bits}
 use Rattle.wave_text.specs.Words.{Word}
-use Rattle.wave_read.specs.declared.items.Item.{Item}
-use Rattle.wave_read.specs.declared.items.Item.TheVariants.{Change, Nothing, Time}
 use Rattle.wave_read.specs.declared.items.Stamp.{Stamp}
-use Rattle.wave_read.specs.declared.words.Left.{Left}
 use Rattle.wave_read.specs.declared.source.Changed.{Changed as ReadChange}
 use Rattle.wave_read.proofs.WordKinds.{bits_behind, bits_fail, digit_behind, none_fails, time_behind}
 use Rattle.wave_read.specs.Slots.{FailsRow}
@@ -151,37 +147,3 @@ goes_no_further all rest read forms ends =
 
 pub no_more : (words : List Word) → words ≡ [] → AreChanges words [] []
 no_more words none = subst (λ (ws : List Word). AreChanges ws [] []) (sym none) nothing
-
--- an item, at the end of all
-pub item_at : (words : List Word) (it : Item) (inner end : ℕ) → inner ≡ end → IsItem inner words it → IsItem end words it
-item_at words it inner end same is = subst (λ (n : ℕ). IsItem n words it) same is
-
--- what stands next fails
-pub item_fails : (all rest : List Word) (end inner at : ℕ) → FailsBehind HasChanges HasChanges end rest all → inner ≡ end → FailsAt HasChanges inner rest at → FailsAt HasChanges end all at
-item_fails all rest end inner at behind same fails = behind at (subst (λ (n : ℕ). FailsAt HasChanges n rest at) same fails)
-
--- what the first word begins
-pub item_read : (r : Result Item ℕ) (w : Word) (words rest : List Word) (inner end : ℕ) → words ≡ w ∷ rest → inner ≡ end → IfOk r (IsItem inner (w ∷ rest)) → IfOk r (IsItem end words)
-item_read (Err at) w words rest inner end is same read = tt
-item_read (Ok it) w words rest inner end is same read =
-    subst (λ (ws : List Word). IsItem end ws it) (sym is) (subst (λ (n : ℕ). IsItem n (w ∷ rest) it) same read)
-
-pub item_end : (r : Result Item ℕ) (behind left : Left) → end_of behind ≡ end_of left → IfOk r (λ it. end_of (left_of behind it) ≡ end_of behind)
-    → IfOk r (λ it. end_of (left_of left it) ≡ end_of left)
-item_end (Err at) behind left same ends = tt
-item_end (Ok Nothing) behind left same ends = refl
-item_end (Ok (Time stamp rest)) behind left same ends = ends ∙ same
-item_end (Ok (Change it rest)) behind left same ends = ends ∙ same
-
-pub item_shorter : (r : Result Item ℕ) (behind left : Left) → length behind.text.now < length left.text.now
-    → IfOk r (λ it. length (left_of behind it).text.now ≤ length behind.text.now) → IfOk r (λ it. IsShorter it left.text.now)
-item_shorter (Err at) behind left less short = tt
-item_shorter (Ok Nothing) behind left less short = tt
-item_shorter (Ok (Time stamp rest)) behind left less short = omega arith
-item_shorter (Ok (Change it rest)) behind left less short = omega arith
-
-pub item_failed : (r : Result Item ℕ) (w : Word) (words rest : List Word) (inner end : ℕ) → words ≡ w ∷ rest → inner ≡ end → IfErr r (FailsAt HasChanges inner (w ∷ rest))
-    → IfErr r (FailsAt HasChanges end words)
-item_failed (Ok it) w words rest inner end is same failed = tt
-item_failed (Err at) w words rest inner end is same failed =
-    subst (λ (ws : List Word). FailsAt HasChanges end ws at) (sym is) (subst (λ (n : ℕ). FailsAt HasChanges n (w ∷ rest) at) same failed)

@@ -1,6 +1,5 @@
 pub mod BitDigits
 pub mod Bytes
-pub mod Converting
 pub mod Defining
 pub mod DistinctCodes
 pub mod Failing
@@ -11,5 +10,4 @@ pub mod Numerals
 pub mod Rising
 pub mod RowSteps
 pub mod Searching
-pub mod SourceFaults
 pub mod WordKinds

@@ -1,12 +1,11 @@
 -- Times that were read one after the other.
-use Rattle.std.proofs.Common.{◌≡◌, ℕ, ◌+◌, ◌<◌, List, [], ◌∷◌, ◌++◌, length, map, Option, Some, None, Result, Ok, Err, Vec, Global, refl, sym, ap, ◌∙◌, subst, append_assoc, arith}
-use Rattle.std.specs.Prelude.{IfOk}
+use Rattle.std.proofs.Common.{◌≡◌, ℕ, List, [], ◌∷◌, ◌++◌, map, Option, Some, None, Result, Ok, Err, Vec, Global, refl, sym, ap, ◌∙◌, subst, append_assoc}
 use Rattle.chw_base.specs.Outcome.{IfFault, OfFault}
 use Rattle.chw_base.specs.declared.outcome.Or.{Or}
 use Rattle.chw_base.specs.declared.outcome.Or.TheVariants.{Fault, Memory}
 use Rattle.std.proofs.lemmas.List.{map-append}
 use Rattle.wave_text.specs.Faults.{FailsAt}
-use Rattle.wave_read.specs.Reading.{FailsBehind, GoesOn, HasChanges, HasTimes, IsLess, waiting}
+use Rattle.wave_read.specs.Reading.{FailsBehind, GoesOn, HasChanges, HasTimes}
 use Rattle.wave_read.specs.Shown.{change_of, time_of}
 use Rattle.wave_text.specs.VcdText.{AreChanges, Changed, IsTime, Moment}
 use Rattle.wave_text.specs.VcdText.AreChanges.{at_time as time, none as nothing}
@@ -60,12 +59,6 @@ reached_push end inner all rest behind read pushed it stamp next new at instant 
     subst (λ (ms : List Moment). Reached end all ms next behind) listed
     (reached_more end all rest behind (map time_of read) stamp changes next reached (subst (λ (n : ℕ). GoesOn n rest changes next behind) same goes))
 
--- the changes of the next time fail
-pub fails_next : (end inner : ℕ) (all rest : List Word) (read : List Moment) (stamp : Stamp) (e : Or ℕ) → Reached end all read (Some stamp) rest → inner ≡ end
-    → OfFault e (FailsAt HasChanges inner rest) → OfFault e (FailsAt HasTimes end all)
-fails_next end inner all rest read stamp Memory reached same fails = tt
-fails_next end inner all rest read stamp (Fault at) reached same fails = reached.1 at (subst (λ (n : ℕ). FailsAt HasChanges n rest at) same fails)
-
 -- the same of all words behind the first time
 pub fails_from : (end inner : ℕ) (first : Stamp) (rest left : List Word) (read : List Moment) (stamp : Stamp) (e : Or ℕ)
     → ((w : Word) → IsTime w.bytes first.time → w.at ≡ first.at → Reached end (w ∷ left) read (Some stamp) rest) → inner ≡ end
@@ -81,11 +74,6 @@ pub reached_end : (end : ℕ) (all : List Word) (read : List Moment) (next : Opt
 reached_end end all read None rest none reached = reached
 reached_end end all read (Some stamp) rest none reached = absurd (none stamp refl)
 
--- what is left gets less
-pub less_waits : (next : Option Stamp) (behind text : List ℕ) → IsLess next behind text → waiting next + length behind < 1 + length text
-less_waits None behind text less = omega arith
-less_waits (Some stamp) behind text less = omega arith
-
 -- no times
 pub no_times : (words : List Word) (read : List ReadMoment) → words ≡ [] → read ≡ [] → AreChanges words [] (map time_of read)
 no_times words read none unread =
@@ -94,14 +82,6 @@ no_times words read none unread =
 -- the first word is no time
 pub no_first_time : (w : Word) (end : ℕ) (words rest : List Word) → words ≡ w ∷ rest → ((at : ℕ) → IsTime w.bytes at → ⊥) → FailsAt HasTimes end words w.at
 no_first_time w end words rest is no_time = subst (λ (ws : List Word). FailsAt HasTimes end ws w.at) (sym is) (first_fails w end rest no_time)
-
--- what was read from the first time on
-pub times_read : (w : Word) (first : Stamp) (words rest : List Word) (r : Result (Vec ReadMoment Global) (Or ℕ)) → words ≡ w ∷ rest → IsTime w.bytes first.time → w.at ≡ first.at
-    → IfOk r (λ v. (x : Word) → IsTime x.bytes first.time → x.at ≡ first.at → AreChanges (x ∷ rest) [] (map time_of v.items))
-    → IfOk r (λ v. AreChanges words [] (map time_of v.items))
-times_read w first words rest (Err e) is instant there read = tt
-times_read w first words rest (Ok v) is instant there read =
-    subst (λ (ws : List Word). AreChanges ws [] (map time_of v.items)) (sym is) (read w instant there)
 
 pub times_fail : (w : Word) (first : Stamp) (inner end : ℕ) (words rest : List Word) (r : Result (Vec ReadMoment Global) (Or ℕ)) → words ≡ w ∷ rest → inner ≡ end → IsTime w.bytes first.time
     → w.at ≡ first.at → IfFault r (λ at. (x : Word) → IsTime x.bytes first.time → x.at ≡ first.at → FailsAt HasTimes inner (x ∷ rest) at)

@@ -1,16 +1,10 @@
 -- Times that rise.
 use Rattle.std.proofs.Common.{◌≡◌, ℕ, ◌+◌, ◌<◌, ◌≤◌, List, [], ◌∷◌, ◌++◌, length, get_or, take, drop, map, refl, sym, ap, ◌∙◌, subst, arith}
-use Rattle.std.proofs.lemmas.List.{take_all}
 use Rattle.wave_text.specs.Faults.{IsBackAt}
 use Rattle.wave_text.specs.VcdText.{Moment as Time, Rise}
 use Rattle.wave_read.specs.Shown.{time_of}
 use Rattle.wave_read.specs.declared.source.Moment.{Moment}
 use Rattle.wave_read.proofs.Searching.{around, mapped_more}
-
--- one time rises
-pub rise_one : (xs : List Moment) → Rise (map time_of (take 1 xs))
-rise_one [] = tt
-rise_one (x ∷ xs) = tt
 
 rise_push : (xs : List Time) (x y : Time) → Rise (xs ++ x ∷ []) → x.time < y.time → Rise ((xs ++ x ∷ []) ++ y ∷ [])
 rise_push [] x y rise less = (less, tt)
@@ -54,6 +48,3 @@ back_here xs j k x y d e next within x_is y_is less rise = record {
         let two = last_two xs j k x y d e next within x_is y_is in
         let more = rise_last (map time_of (take j xs)) (time_of x) (time_of y) (subst Rise two.1 rises) in
         absurd (omega arith)
-
-pub rise_all : (xs : List Moment) (k : ℕ) → length xs ≤ k → Rise (map time_of (take k xs)) → Rise (map time_of xs)
-rise_all xs k end rise = subst (λ (ys : List Moment). Rise (map time_of ys)) (take_all k xs end) rise

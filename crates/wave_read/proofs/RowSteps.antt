@@ -1,6 +1,6 @@
 -- One word of a row more.
-use Rattle.std.proofs.Common.{◌≡◌, ℕ, ◌+◌, ◌<◌, ◌≤◌, List, [], ◌∷◌, ◌++◌, length, map, take, drop, get_or, inl, inr, refl, sym, ap, ◌∙◌, subst, append_assoc, arith}
-use Rattle.std.proofs.lemmas.List.{drop_more, map-append, take_all, take_more}
+use Rattle.std.proofs.Common.{◌≡◌, ℕ, ◌+◌, ◌<◌, List, [], ◌∷◌, ◌++◌, length, map, take, drop, get_or, inl, inr, refl, sym, ap, ◌∙◌, subst, append_assoc, arith}
+use Rattle.std.proofs.lemmas.List.{drop_more, map-append, take_more}
 use Rattle.wave_read.specs.Reading.{variable_slots}
 use Rattle.wave_read.specs.Shown.{shown}
 use Rattle.wave_read.specs.Slots.{FailsRow, Fits, FitsRow}
@@ -22,9 +22,6 @@ fits_more slots i slot d words pushed w within is new fits fit =
     let all : map shown pushed ≡ map shown words ++ shown w ∷ [] = ap (map shown) new ∙ map-append shown words (w ∷ []) in
     subst (λ (ss : List Slot). FitsRow ss (map shown pushed)) (sym more)
     (subst (FitsRow (take i slots ++ slot ∷ [])) (sym all) (fits_push (take i slots) (map shown words) slot (shown w) fits fit))
-
-pub fits_all : (slots : List Slot) (i : ℕ) (words : List Word) → length slots ≤ i → FitsRow (take i slots) words → FitsRow slots words
-fits_all slots i words end fits = subst (λ (ss : List Slot). FitsRow ss words) (take_all i slots end) fits
 
 -- the words before what is left, with one more
 pub words_more : (words pushed : List ReadWord) (w : ReadWord) (all rest behind : List Word) → pushed ≡ words ++ w ∷ [] → all ≡ map shown words ++ rest → rest ≡ shown w ∷ behind
@@ -52,13 +49,6 @@ fails_behind slots i slot d end w rest behind at within is first fit fails =
     let here : drop i slots ≡ slot ∷ drop (i + 1) slots = drop_more slots i d within ∙ ap (λ (s : Slot). s ∷ drop (i + 1) slots) (sym is) in
     subst (λ (ss : List Slot). FailsRow ss end rest at) (sym here)
     (subst (λ (ws : List Word). FailsRow (slot ∷ drop (i + 1) slots) end ws at) (sym first) (inr (fit, fails)))
-
--- one place alone
-pub fails_here : (slot : Slot) (end : ℕ) (words rest : List Word) (w : Word) → words ≡ w ∷ rest → (Fits slot w.bytes → ⊥) → FailsRow (slot ∷ []) end words w.at
-fails_here slot end words rest w is never = subst (λ (ws : List Word). FailsRow (slot ∷ []) end ws w.at) (sym is) (inl (never, refl))
-
-pub fails_end : (slot : Slot) (end at : ℕ) (words : List Word) → words ≡ [] → at ≡ end → FailsRow (slot ∷ []) end words at
-fails_end slot end at words none here = subst (λ (ws : List Word). FailsRow (slot ∷ []) end ws at) (sym none) here
 
 -- as many words as places
 pub row_length : (slots : List Slot) (words : List ReadWord) → FitsRow slots (map shown words) → length words ≡ length slots

@@ -1,7 +1,7 @@
 -- Lists that are searched from the front.
-use Rattle.std.proofs.Common.{◌≡◌, ℕ, zero, suc, ◌+◌, ◌<◌, ◌≤◌, List, [], ◌∷◌, ◌++◌, length, map, take, drop, get_or, refl, sym, ap, ◌∙◌, subst, append_assoc, arith}
+use Rattle.std.proofs.Common.{◌≡◌, ℕ, zero, suc, ◌+◌, ◌<◌, List, [], ◌∷◌, ◌++◌, length, map, take, drop, get_or, refl, sym, ap, ◌∙◌, subst, append_assoc, arith}
 use Rattle.std.specs.List.{AllByRecursion}
-use Rattle.std.proofs.lemmas.List.{append-nil, drop_more, map-append, take-append-drop, take_all, take_more}
+use Rattle.std.proofs.lemmas.List.{drop_more, map-append, take-append-drop, take_more}
 use Rattle.wave_text.proofs.Lists.{all_append}
 use Rattle.wave_text.specs.Faults.{IsFirstWithout}
 use Rattle.wave_read.specs.Shown.{change_of, time_of}
@@ -22,25 +22,6 @@ pub mapped_more : {A B : Type 0} (f : A → B) (xs : List A) (i : ℕ) (x d : A)
 mapped_more {A} f xs i x d within is =
     ap (map f) (take_more xs i d within ∙ ap (λ (y : A). take i xs ++ y ∷ []) (sym is)) ∙ map-append f (take i xs) (x ∷ [])
 
--- one item more of what was made of each
-pub twice_push : {A B C : Type 0} (f : B → C) (g : A → B) (xs : List A) (i : ℕ) (x d : A) (made pushed : List C) (y : C) → i < length xs → x ≡ get_or xs i d
-    → made ≡ map f (map g (take i xs)) → pushed ≡ made ++ y ∷ [] → y ≡ f (g x) → pushed ≡ map f (map g (take (i + 1) xs))
-twice_push {A} {B} {C} f g xs i x d made pushed y within is so_far new same =
-    new ∙ ap (λ (ms : List C). ms ++ y ∷ []) so_far ∙ ap (λ (z : C). map f (map g (take i xs)) ++ z ∷ []) same
-    ∙ sym (map-append f (map g (take i xs)) (g x ∷ [])) ∙ sym (ap (map f) (mapped_more g xs i x d within is))
-
-pub twice_all : {A B C : Type 0} (f : B → C) (g : A → B) (xs : List A) (i : ℕ) (made : List C) → length xs ≤ i → made ≡ map f (map g (take i xs)) → made ≡ map f (map g xs)
-twice_all {A} f g xs i made end so_far = so_far ∙ ap (λ (ys : List A). map f (map g ys)) (take_all i xs end)
-
--- what holds of each so far, of one more, and of all
-pub all_more : {A B : Type 0} (f : A → B) (P : B → Type 0) (xs : List A) (i : ℕ) (x d : A) → i < length xs → x ≡ get_or xs i d → AllByRecursion P (map f (take i xs)) → P (f x)
-    → AllByRecursion P (map f (take (i + 1) xs))
-all_more f P xs i x d within is before here =
-    subst (AllByRecursion P) (sym (mapped_more f xs i x d within is)) (all_append P (map f (take i xs)) (f x ∷ []) before (here, tt))
-
-pub all_of : {A B : Type 0} (f : A → B) (P : B → Type 0) (xs : List A) (i : ℕ) → length xs ≤ i → AllByRecursion P (map f (take i xs)) → AllByRecursion P (map f xs)
-all_of {A} f P xs i end before = subst (λ (ys : List A). AllByRecursion P (map f ys)) (take_all i xs end) before
-
 -- the first of a list of which something doesn't hold
 pub first_without : (P : Change → Type 0) (xs : List Changed) (i : ℕ) (x d : Changed) → i < length xs → x ≡ get_or xs i d
     → AllByRecursion P (map change_of (take i xs)) → (P (change_of x) → ⊥) → IsFirstWithout P (map change_of xs) (change_of x)
@@ -55,11 +36,6 @@ first_without P xs i x d within is before broken = record {
 changes_append : (xs ys : List Time) → all_changes (xs ++ ys) ≡ all_changes xs ++ all_changes ys
 changes_append [] ys = refl
 changes_append (x ∷ xs) ys = ap (λ t. x.changes ++ t) (changes_append xs ys) ∙ sym (append_assoc x.changes (all_changes xs) (all_changes ys))
-
--- the changes of one time more
-pub changes_more : (xs : List Moment) (i : ℕ) (x d : Moment) → i < length xs → x ≡ get_or xs i d
-    → all_changes (map time_of (take (i + 1) xs)) ≡ all_changes (map time_of (take i xs)) ++ (map change_of x.changes.items ++ [])
-changes_more xs i x d within is = ap all_changes (mapped_more time_of xs i x d within is) ∙ changes_append (map time_of (take i xs)) (time_of x ∷ [])
 
 -- the first of all changes of which something doesn't hold
 pub first_of_all : (P : Change → Type 0) (xs : List Moment) (i : ℕ) (x d : Moment) (change : Change) → i < length xs → x ≡ get_or xs i d
@@ -80,18 +56,6 @@ first_of_all P xs i x d change within is before first =
       before = all_append P front first.earlier before first.before;
       broken = first.broken;
     }
-
--- the changes of the times so far and of one more
-pub all_changes_more : (P : Change → Type 0) (xs : List Moment) (i : ℕ) (x d : Moment) → i < length xs → x ≡ get_or xs i d → AllByRecursion P (all_changes (map time_of (take i xs)))
-    → AllByRecursion P (map change_of x.changes.items) → AllByRecursion P (all_changes (map time_of (take (i + 1) xs)))
-all_changes_more P xs i x d within is before here =
-    let front = all_changes (map time_of (take i xs)) in
-    subst (AllByRecursion P) (sym (changes_more xs i x d within is ∙ ap (λ (t : List Change). front ++ t) (append-nil (map change_of x.changes.items))))
-    (all_append P front (map change_of x.changes.items) before here)
-
-pub all_changes_of : (P : Change → Type 0) (xs : List Moment) (i : ℕ) → length xs ≤ i → AllByRecursion P (all_changes (map time_of (take i xs)))
-    → AllByRecursion P (all_changes (map time_of xs))
-all_changes_of P xs i end before = subst (λ (ys : List Moment). AllByRecursion P (all_changes (map time_of ys))) (take_all i xs end) before
 
 -- what holds of all changes holds of each, and of those of each time
 pub change_at : (P : Change → Type 0) (xs : List Changed) (i : ℕ) (x d : Changed) → i < length xs → x ≡ get_or xs i d → AllByRecursion P (map change_of xs) → P (change_of x)
