@@ -1,8 +1,9 @@
 //! `Sim`, the table in which a flat net is stepped.
-ghost use Rattle.std.specs.Prelude.{◌≡◌, List, [], ◌∷◌, IfOk};
+ghost use Rattle.std.specs.Prelude.{◌≡◌, ◌<◌, List, [], ◌∷◌, length, IfOk};
 ghost use Rattle.chw_clock.specs.Histories.{HaveWidths};
 ghost use Rattle.chw_clock.specs.declared.event.Event.{Event};
 ghost use Rattle.net_sim.specs.Sims.{IsSettledFor, IsTable, SimGives, SimShows, SimStandsFor};
+ghost use Rattle.net_sim.specs.Sims.{value_of};
 ghost use Rattle.netlist.specs.Orders.{IsOrder};
 ghost use Rattle.netlist.specs.Sound.{Sound};
 
@@ -14,7 +15,8 @@ use crate::outputs::put_outputs;
 use crate::room::ROOM;
 use crate::tick::advance;
 use crate::word::Word;
-use chw_base::NoMemory;
+use crate::words::bits_at;
+use chw_base::{NoMemory, WireId};
 use chw_bits::Bits;
 use chw_clock::Event;
 use netlist::{Flat, Order};
@@ -96,6 +98,15 @@ impl<'a> Sim<'a> {
         ensures { result.now ≡ self.now.outputs.items }
     {
         self.outputs.as_slice()
+    }
+
+    /// The bits of a wire, as they were settled last.
+    pub fn bits(&self, alloc: Global, w: WireId) -> Result<Bits, NoMemory>
+        requires table { IsTable self.now }
+        requires wire { w.number < length self.now.flat.now.widths }
+        ensures { IfOk result (λ bits. bits ≡ value_of self.now w.number) }
+    {
+        bits_at(alloc, &self.words, w)
     }
 
     /// Moves the registers and RAMs whose domains tick in the event.

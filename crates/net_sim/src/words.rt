@@ -1,12 +1,15 @@
 //! Words by the wires that they are of.
-ghost use Rattle.std.specs.Prelude.{◌≡◌, ◌==◌, ◌<◌, ◌≤◌, ◌^◌, length, map, [], slice_index_or, slice_set, if◌then◌else◌};
+ghost use Rattle.std.specs.Prelude.{◌≡◌, ◌==◌, ◌<◌, ◌≤◌, ◌^◌, length, map, [], slice_index_or};
+ghost use Rattle.std.specs.Prelude.{slice_set, if◌then◌else◌, IfOk};
 ghost use Rattle.chw_bits.specs.Bits.{bits_of, number_of};
 ghost use Rattle.net_sim.specs.Tables.{value_in};
 ghost use Rattle.netlist.specs.Sound.{HasWidth, IsWire};
 
 use crate::memory::Memory;
-use crate::word::Word;
-use chw_base::WireId;
+use crate::word::{Word, no_bits};
+use chw_base::{NoMemory, WireId};
+use chw_bits::Bits;
+use std::alloc::Global;
 
 /// The word of a wire.
 pub(crate) fn word_at(words: &[Word], w: WireId) -> &Word
@@ -14,6 +17,17 @@ pub(crate) fn word_at(words: &[Word], w: WireId) -> &Word
     ensures { result.now ≡ value_in words.now w.number }
 {
     &words[w.number as usize]
+}
+
+/// The bits of a wire, once more.
+pub(crate) fn bits_at(alloc: Global, words: &[Word], w: WireId) -> Result<Bits, NoMemory>
+    requires { IsWire (map length words.now) w }
+    ensures { IfOk result (λ bits. bits ≡ value_in words.now w.number) }
+{
+    let word = word_at(words, w);
+    let mut bits = Bits::of_list(no_bits(alloc, word.len() as usize)?);
+    word.put_into(&mut bits);
+    Ok(bits)
 }
 
 /// The wire that a choice takes: the first where the condition is 1, else the second.
