@@ -1,0 +1,155 @@
+-- What equal keys say of cells and of marked wires.
+use Rattle.std.proofs.Common.{◌≡◌, ℕ, zero, suc, ◌+◌, ◌<◌, inl, inr, Bool, true, false, List, [], ◌∷◌, length, map, drop, Some, slice_get, refl, sym, ap, subst, ◌∙◌, arith}
+use Rattle.std.specs.List.{AllByRecursion}
+use Rattle.std.specs.Option.{option_map}
+use Rattle.std.specs.Prelude.{option_and_then}
+use Rattle.std.proofs.lemmas.Bool.{cases_lt, cond-false, cond-true, false≢true}
+use Rattle.std.proofs.lemmas.List.{get_or-drop, get_or_past, length-map}
+use Rattle.std.proofs.lemmas.Option.{none-some, same_Some, slice_get-map, slice_get_within}
+use Rattle.chw_base.specs.declared.index.WireId.{WireId}
+use Rattle.netlist.specs.Feeds.{target, target_at}
+use Rattle.netlist.specs.Sound.{IsWire}
+use Rattle.netlist.specs.Wires.{read_by}
+use Rattle.netlist.specs.declared.net.Cell.{Cell}
+use Rattle.netlist.specs.declared.net.Flat.{Flat}
+use Rattle.netlist.proofs.Driven.{driven_wire}
+use Rattle.netlist.proofs.Lengths.{fits_cell}
+use Rattle.share_laws.specs.Same.{AllSame, IsKnown, Same}
+use Rattle.share_laws.specs.Same.AllSame.{same_and, same_none}
+use Rattle.share_laws.specs.Same.Same.{equal_bits, equal_cells}
+use Rattle.wire_classes.specs.Closed.{AreFound, AreLabels, BitsHold, CellsHold, bits_in, label_of, labels_of, mark_of}
+use Rattle.wire_classes.specs.Keys.{AreWireKeys, KeysAgree, KeysClash, cell_key, known_key, tagged, wire_key}
+use Rattle.wire_classes.specs.Steps.{IsStep}
+use Rattle.wire_classes.specs.declared.steps.Step.TheVariants.{Merge}
+use Rattle.wire_classes.proofs.Copying.{same_by_label, target_there}
+use Rattle.wire_classes.proofs.Exist.{reads_exist, shown_count}
+use Rattle.wire_classes.proofs.KeyBytes.{bits_apart, cell_apart, cell_meet, first_of, rest_of, tagged_apart}
+
+-- an item of a mapped list is made of one of the list
+mapped_at : {X Y : Type 0} (f : X → Y) (xs : List X) (k : ℕ) (y : Y) → slice_get (map f xs) k ≡ Some y → (x : X) × (slice_get xs k ≡ Some x) × (f x ≡ y)
+mapped_at f [] k y e = absurd (none-some y e)
+mapped_at f (x ∷ xs) zero y e = (x, refl, same_Some (f x) y e)
+mapped_at f (x ∷ xs) (suc k) y e = mapped_at f xs k y e
+
+module _ (flat : Flat) (of : List ℕ) (labels : AreLabels flat of) where
+  abbrev inputs : ℕ
+  inputs = length flat.ports.inputs
+
+  -- the label of the wire of a cell
+  label_there : (p : ℕ) → label_of (drop inputs of) p ≡ label_of of (inputs + p)
+  label_there p = get_or-drop inputs of p 0
+
+  wire_there : (p w : ℕ) (cell : Cell) → slice_get flat.cells p ≡ Some cell → target cell ≡ Some w → w ≡ inputs + p
+  wire_there p w cell at t =
+      driven_wire inputs flat.cells labels.sound.in_order p w (ap (λ o. option_and_then target o) at ∙ t)
+
+  key_there : (p : ℕ) (cell : Cell) → slice_get flat.cells p ≡ Some cell → slice_get (map (cell_key of) flat.cells) p ≡ Some (cell_key of cell)
+  key_there p cell at = slice_get-map (cell_key of) flat.cells p ∙ ap (option_map (cell_key of)) at
+
+  pub cells_hold : KeysAgree (map (cell_key of) flat.cells) (drop inputs of) → CellsHold flat of
+  cells_hold agree = λ c d v w has there t u e same.
+      let one = wire_there has.0 v c has.1 t in
+      let other = wire_there there.0 w d there.1 u in
+      let here = key_there has.0 c has.1 in
+      let meets : slice_get (map (cell_key of) flat.cells) there.0 ≡ Some (cell_key of c) =
+      key_there there.0 d there.1 ∙ ap Some (sym (cell_meet of c d e same)) in
+      let is = agree has.0 there.0 (cell_key of c) here meets in
+      ap (label_of of) one ∙ sym (label_there has.0) ∙ is ∙ label_there there.0 ∙ ap (label_of of) (sym other)
+
+  all_same : (vs ws : List WireId) → AllByRecursion (IsWire flat.widths) vs → AllByRecursion (IsWire flat.widths) ws
+      → labels_of of vs ≡ labels_of of ws → AllSame flat vs ws
+  all_same [] [] l m e = same_none
+  all_same [] (w ∷ ws) l m e = absurd (cc)
+  all_same (v ∷ vs) [] l m e = absurd (cc)
+  all_same (v ∷ vs) (w ∷ ws) l m e =
+      same_and v w vs ws (same_by_label flat of labels v.number w.number l.0 m.0 (ap first_of e)) (all_same vs ws l.1 m.1 (ap rest_of e))
+
+  -- cells with equal keys stand among the cells
+  pub clash_within : (p q : ℕ) (others : List ℕ) → KeysClash (map (cell_key of) flat.cells) others p q
+      → (p < length flat.cells) × (q < length flat.cells)
+  clash_within p q others clash =
+      let count = length-map flat.cells (cell_key of) in
+      let one = slice_get_within (map (cell_key of) flat.cells) p clash.key clash.one in
+      let other = slice_get_within (map (cell_key of) flat.cells) q clash.key clash.other in
+      (omega (arith, count, one), omega (arith, count, other))
+
+  -- and drive equal wires
+  pub keys_equal : (p q v w : ℕ) (key : List ℕ) → target_at flat.cells p ≡ Some v → target_at flat.cells q ≡ Some w
+      → slice_get (map (cell_key of) flat.cells) p ≡ Some key → slice_get (map (cell_key of) flat.cells) q ≡ Some key → Same flat v w
+  keys_equal p q v w key at to here there =
+      let one = mapped_at (cell_key of) flat.cells p key here in
+      let other = mapped_at (cell_key of) flat.cells q key there in
+      let c = one.0 in
+      let d = other.0 in
+      let t = target_there flat p v c one.1 at in
+      let u = target_there flat q w d other.1 to in
+      let keys : cell_key of c ≡ cell_key of d = one.2 ∙ sym other.2 in
+      let meet = cell_apart of c d v t keys in
+      let reads = reads_exist (length flat.ports.domains) flat.widths c (fits_cell flat c labels.sound (p, one.1)) in
+      let others = reads_exist (length flat.ports.domains) flat.widths d (fits_cell flat d labels.sound (q, other.1)) in
+      equal_cells c d v w (p, one.1) (q, other.1) t u meet.bares (all_same (read_by c) (read_by d) reads others meet.labels)
+
+  pub cells_merged : (known : List Bool) (p q v w : ℕ) → target_at flat.cells p ≡ Some v → target_at flat.cells q ≡ Some w
+      → KeysClash (map (cell_key of) flat.cells) (drop inputs of) p q → IsStep flat of known (Merge v w)
+  cells_merged known p q v w at to clash =
+      let one = driven_wire inputs flat.cells labels.sound.in_order p v at in
+      let other = driven_wire inputs flat.cells labels.sound.in_order q w to in (
+        keys_equal p q v w clash.key at to clash.one clash.other,
+        λ e. clash.apart (label_there p ∙ ap (label_of of) (sym one) ∙ e ∙ ap (label_of of) other ∙ sym (label_there q)),
+      )
+
+-- a marked wire is within the marks
+marked_within : (known : List Bool) (w : ℕ) → mark_of known w ≡ true → w < length known
+marked_within known w m = elim (cases_lt w (length known)) [
+  | inl l ↦ l
+  | inr l ↦ absurd (false≢true (sym (get_or_past known w false l) ∙ m))
+]
+
+module _ (flat : Flat) (of : List ℕ) (known : List Bool) (values : List (List Bool)) (found : AreFound flat of known values)
+    (keys : List (List ℕ)) (are : AreWireKeys known values (length values) keys) where
+  marked_key : (w : ℕ) → mark_of known w ≡ true → wire_key known values w ≡ known_key (bits_in values w)
+  marked_key w m = cond-true (mark_of known w) (known_key (bits_in values w)) (tagged 0 w) m
+
+  other_key : (w : ℕ) → mark_of known w ≡ false → wire_key known values w ≡ tagged 0 w
+  other_key w m = cond-false (mark_of known w) (known_key (bits_in values w)) (tagged 0 w) m
+
+  pub bits_hold : KeysAgree keys of → BitsHold of known values
+  bits_hold agree = λ v w m k e.
+      let count = shown_count flat values found.shown in
+      let size = found.count in
+      let one : v < length values = let l = marked_within known v m in omega (arith, l, count, size) in
+      let other : w < length values = let l = marked_within known w k in omega (arith, l, count, size) in
+      let key = known_key (bits_in values v) in
+      let here : slice_get keys v ≡ Some key = are.each v one ∙ ap Some (marked_key v m) in
+      let there : slice_get keys w ≡ Some key =
+      are.each w other ∙ ap Some (marked_key w k ∙ ap known_key (sym e)) in
+      agree v w key here there
+
+  pub bits_merged : (v w : ℕ) → KeysClash keys of v w → IsStep flat of known (Merge v w)
+  bits_merged v w clash = by (mark_of known v) (mark_of known w) refl refl
+    where
+      is_key : (x : ℕ) → slice_get keys x ≡ Some clash.key → wire_key known values x ≡ clash.key
+      is_key x at =
+          let n = are.number in
+          let l : x < length values = let m = slice_get_within keys x clash.key at in omega (arith, m, n) in
+          same_Some (wire_key known values x) clash.key (sym (are.each x l) ∙ at)
+
+      keys_are : wire_key known values v ≡ wire_key known values w
+      keys_are = is_key v clash.one ∙ sym (is_key w clash.other)
+
+      both : mark_of known v ≡ true → mark_of known w ≡ true → IsStep flat of known (Merge v w)
+      both m k =
+          let same : bits_in values v ≡ bits_in values w =
+          bits_apart (bits_in values v) (bits_in values w) (ap rest_of (sym (marked_key v m) ∙ keys_are ∙ marked_key w k)) in (
+            equal_bits v w (bits_in values v) (found.bits v m) (subst (λ bits. IsKnown flat w bits) (sym same) (found.bits w k)),
+            clash.apart,
+          )
+
+      by : (s t : Bool) → mark_of known v ≡ s → mark_of known w ≡ t → IsStep flat of known (Merge v w)
+      by true true m k = both m k
+      by true false m k =
+          absurd (let h : ◌≡◌ {A = ℕ} 1 0 = ap first_of (sym (marked_key v m) ∙ keys_are ∙ other_key w k) in omega (arith, h))
+      by false true m k =
+          absurd (let h : ◌≡◌ {A = ℕ} 0 1 = ap first_of (sym (other_key v m) ∙ keys_are ∙ marked_key w k) in omega (arith, h))
+      by false false m k =
+          let is = tagged_apart 0 v w [] [] (sym (other_key v m) ∙ keys_are ∙ other_key w k) in absurd (clash.apart (ap (label_of of) is.0))

@@ -1,0 +1,11 @@
+mod AlikeCells
+mod Beginning
+mod Closing
+mod Copying
+mod Exact
+mod Exist
+mod KeyBytes
+mod Looks
+mod Marking
+mod Shown
+mod Taking

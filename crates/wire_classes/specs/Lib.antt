@@ -1,0 +1,5 @@
+pub mod Classes
+pub mod Closed
+pub mod Keys
+pub mod Steps
+pub mod Partition
