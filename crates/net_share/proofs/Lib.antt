@@ -1,0 +1,12 @@
+pub mod Pushed
+pub mod Rising
+pub mod Copies
+pub mod Proper
+pub mod Servers
+pub mod Marks
+pub mod Looking
+pub mod Numbers
+pub mod Renamed
+pub mod Becoming
+pub mod Made
+pub mod Whole

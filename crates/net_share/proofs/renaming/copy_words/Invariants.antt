@@ -1,0 +1,6 @@
+-- the copy has the items so far
+use Rattle.std.proofs.Common.{◌≡◌, take}
+use Rattle.net_share.proofs.renaming.copy_words.Given as goal
+
+abbrev pub invariant-loop-word : goal.invariant-loop-word
+invariant-loop-word l = l.copy.items ≡ take l.word-index l.word-items

@@ -1,0 +1,7 @@
+pub mod Copying
+pub mod Standing
+pub mod Marking
+pub mod Numbering
+pub mod Renaming
+pub mod Making
+pub mod Sharing
