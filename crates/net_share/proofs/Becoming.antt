@@ -1,5 +1,5 @@
 -- The plan of a shared net: the needed wires, and what wires become.
-use Rattle.std.proofs.Common.{◌≡◌, ℕ, zero, suc, ◌+◌, ◌<◌, ◌≤◌, ◌⊎◌, inl, inr, Bool, true, List, [], ◌∷◌, length, map, Some, None, slice_get, refl, sym, ap, subst, ◌∙◌, arith}
+use Rattle.std.proofs.Common.{◌≡◌, ℕ, suc, ◌+◌, ◌<◌, ◌≤◌, ◌⊎◌, inl, inr, Bool, List, [], ◌∷◌, length, map, Some, slice_get, refl, sym, ap, subst, ◌∙◌, arith}
 use Rattle.std.specs.Prelude.{slice_index}
 use Rattle.std.specs.List.{AllByRecursion}
 use Rattle.std.proofs.lemmas.Bool.{cases_lt}
@@ -8,18 +8,15 @@ use Rattle.std.proofs.lemmas.Option.{get_or_from_slice_get, slice_get_within}
 use Rattle.chw_base.specs.declared.index.WireId.{WireId}
 use Rattle.netlist.specs.Sound.{IsWire, Sound}
 use Rattle.netlist.specs.Wires.{read_by}
-use Rattle.netlist.specs.declared.net.Cell.{Cell}
 use Rattle.netlist.specs.declared.net.Flat.{Flat}
 use Rattle.netlist.proofs.Places.{all_at}
-use Rattle.share_laws.specs.Same.{IsOpen}
-use Rattle.share_laws.specs.Shares.{AllBecome, Becomes, IsAmong, IsLive, IsNumbered, Serves}
+use Rattle.share_laws.specs.Shares.{AllBecome, Becomes, IsAmong, IsLive, IsNumbered}
 use Rattle.share_laws.specs.Shares.IsLive.{for_cell, for_output}
 use Rattle.share_laws.specs.Shares.IsNumbered.{as_input, as_kept}
-use Rattle.net_share.specs.Copying.{Drives}
 use Rattle.net_share.specs.Making.{IsPlan}
 use Rattle.net_share.specs.Marking.{MarkLive}
 use Rattle.net_share.specs.Numbering.{AreKept, AreNumbered}
-use Rattle.net_share.specs.Renaming.{new_wire, new_wires}
+use Rattle.net_share.specs.Renaming.{new_wires}
 use Rattle.net_share.specs.Standing.{AreServers}
 use Rattle.net_share.proofs.Looking.{live_within, outputs_exist, reads_exist, server_of}
 use Rattle.net_share.proofs.Proper.{proper_within}

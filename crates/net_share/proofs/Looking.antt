@@ -2,13 +2,11 @@
 use Rattle.std.proofs.Common.{◌≡◌, ℕ, ◌+◌, ◌<◌, ◌≤◌, ◌⊎◌, inl, inr, Bool, true, List, [], ◌∷◌, length, Option, Some, None, slice_get, refl, sym, ap, subst, ◌∙◌, arith}
 use Rattle.std.specs.Prelude.{option_map, slice_index}
 use Rattle.std.specs.List.{AllByRecursion}
-use Rattle.std.proofs.lemmas.Bool.{cases_eq, cases_lt}
+use Rattle.std.proofs.lemmas.Bool.{cases_lt}
 use Rattle.std.proofs.lemmas.Option.{same_Some, slice_get-get_or, slice_get-map, slice_get_within}
 use Rattle.chw_base.specs.declared.index.WireId.{WireId}
 use Rattle.chw_clock.specs.declared.event.Port.{Port}
 use Rattle.net_rules.proofs.EachItem.{all_of_each}
-use Rattle.netlist.specs.Feeds.{target}
-use Rattle.netlist.specs.NetValue.{HasCell}
 use Rattle.netlist.specs.Sound.{IsWire, Sound}
 use Rattle.netlist.specs.Wires.{read_by}
 use Rattle.netlist.specs.declared.net.Cell.{Cell}
@@ -16,7 +14,7 @@ use Rattle.netlist.specs.declared.net.Flat.{Flat}
 use Rattle.netlist.proofs.Lengths.{fits_cell}
 use Rattle.netlist.proofs.Places.{all_at}
 use Rattle.net_sim.proofs.Cells.{drives_no_input, reads_wires, same_cell}
-use Rattle.share_laws.specs.Same.{IsKnown, IsOpen}
+use Rattle.share_laws.specs.Same.{IsOpen}
 use Rattle.share_laws.specs.Shares.{IsAmong, IsLive, Serves}
 use Rattle.share_laws.specs.Shares.IsLive.{for_cell, for_output}
 use Rattle.wire_classes.specs.Classes.{AreClasses}

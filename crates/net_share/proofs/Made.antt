@@ -1,9 +1,8 @@
 -- The cells that are made are those of the shared net.
-use Rattle.std.proofs.Common.{◌≡◌, ℕ, zero, suc, ◌+◌, ◌<◌, ◌≤◌, ◌⊎◌, inl, inr, Bool, true, false, List, [], ◌∷◌, ◌++◌, length, Some, None, slice_get, refl, sym, ap, subst, ◌∙◌, arith}
+use Rattle.std.proofs.Common.{◌≡◌, ℕ, zero, suc, ◌+◌, ◌⊎◌, inl, inr, Bool, true, false, List, [], ◌∷◌, ◌++◌, length, refl, sym, ap, subst, ◌∙◌, arith}
 use Rattle.std.specs.Prelude.{slice_index_or}
 use Rattle.std.proofs.lemmas.Bool.{cases_Bool}
 use Rattle.std.proofs.lemmas.Option.{get_or_from_slice_get}
-use Rattle.chw_base.specs.declared.index.WireId.{WireId}
 use Rattle.netlist.specs.Feeds.{target}
 use Rattle.netlist.specs.Sound.{Sound}
 use Rattle.netlist.specs.Wires.{read_by}
@@ -11,14 +10,14 @@ use Rattle.netlist.specs.declared.net.Cell.{Cell}
 use Rattle.netlist.specs.declared.net.Cell.TheVariants.{Const}
 use Rattle.netlist.specs.declared.net.Flat.{Flat}
 use Rattle.netlist.proofs.Lengths.{fits_cell}
-use Rattle.share_laws.specs.Same.{IsOpen, bare}
+use Rattle.share_laws.specs.Same.{bare}
 use Rattle.share_laws.specs.Shares.{AllBecome, AreSharedCells, IsAmong, IsLive, IsSharedCell}
 use Rattle.share_laws.specs.Shares.IsSharedCell.{as_constant, as_own}
 use Rattle.wire_classes.specs.Classes.{AreClasses}
 use Rattle.wire_classes.specs.declared.classes.Classes.{Classes}
 use Rattle.net_share.specs.Copying.{Drives, has_bits}
-use Rattle.net_share.specs.Making.{AreMade, IsMade, IsPlan, IsRenamed}
-use Rattle.net_share.specs.Renaming.{new_wires, renamed, wire_of}
+use Rattle.net_share.specs.Making.{AreMade, IsMade, IsPlan}
+use Rattle.net_share.specs.Renaming.{renamed, wire_of}
 use Rattle.net_share.proofs.Copies.{known_of, open_of}
 use Rattle.net_share.proofs.Renamed.{renamed_bare, renamed_reads, renamed_target}
 

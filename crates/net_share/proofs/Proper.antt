@@ -1,21 +1,20 @@
 -- Each wire is equal to one that copies no other.
-use Rattle.std.proofs.Common.{◌≡◌, ℕ, zero, suc, ◌+◌, ◌-◌, ◌<◌, ◌≤◌, ◌⊎◌, inl, inr, Bool, true, false, not, MatchBool, List, [], ◌∷◌, length, Some, None, slice_get, refl, sym, ap, subst, ◌∙◌, arith}
+use Rattle.std.proofs.Common.{◌≡◌, ℕ, zero, suc, ◌+◌, ◌<◌, ◌≤◌, ◌⊎◌, inl, inr, Bool, true, false, not, MatchBool, List, [], ◌∷◌, length, Some, None, slice_get, sym, ap, subst, ◌∙◌, arith}
 use Rattle.std.specs.Prelude.{option_and_then, option_map, slice_index}
 use Rattle.std.specs.List.{AllByRecursion}
 use Rattle.std.proofs.lemmas.Bool.{cases_Bool, cases_lt}
 use Rattle.chw_base.specs.declared.index.WireId.{WireId}
 use Rattle.netlist.specs.Feeds.{awaited_at, awaited_wire, target, target_at}
-use Rattle.netlist.specs.NetValue.{HasCell}
 use Rattle.netlist.specs.Orders.{OrdersCells}
 use Rattle.netlist.specs.Sound.{FitsCell, IsWire, Sound}
 use Rattle.netlist.specs.Wires.{read_by}
 use Rattle.netlist.specs.declared.net.Cell.{Cell}
-use Rattle.netlist.specs.declared.net.Cell.TheVariants.{Reg, Ram, Use}
+use Rattle.netlist.specs.declared.net.Cell.TheVariants.{Reg, Ram}
 use Rattle.netlist.specs.declared.net.Flat.{Flat}
 use Rattle.netlist.proofs.Driven.{each_driven_once, target_in_order, target_is_wire}
 use Rattle.netlist.proofs.Lengths.{fits_cell}
 use Rattle.netlist.proofs.Lists.{target_within}
-use Rattle.netlist.proofs.Places.{all_at, cell_there}
+use Rattle.netlist.proofs.Places.{cell_there}
 use Rattle.net_sim.proofs.Cells.{drives_no_input, reads_wires, same_cell}
 use Rattle.share_laws.specs.Same.{Copies, Same}
 use Rattle.share_laws.specs.Same.Same.{chained, copied, itself, turned}

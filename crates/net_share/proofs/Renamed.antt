@@ -1,5 +1,5 @@
 -- A renamed cell: what it is, drives and reads.
-use Rattle.std.proofs.Common.{◌≡◌, ℕ, List, [], ◌∷◌, length, map, Some, refl, ap, ◌∙◌}
+use Rattle.std.proofs.Common.{◌≡◌, ℕ, List, [], ◌∷◌, Some, refl, ap}
 use Rattle.chw_base.specs.declared.index.WireId.{WireId}
 use Rattle.netlist.specs.Feeds.{target}
 use Rattle.netlist.specs.Wires.{read_by}
@@ -7,7 +7,7 @@ use Rattle.netlist.specs.Sound.{FitsCell}
 use Rattle.netlist.specs.declared.net.Cell.{Cell}
 use Rattle.netlist.specs.declared.net.Cell.TheVariants.{Const, Copy, Join, Cut, Un, Bin, Mux, Reg, Ram, Use}
 use Rattle.share_laws.specs.Same.{bare, zero_wires, wire_0}
-use Rattle.net_share.specs.Renaming.{new_wire, new_wires, renamed, wire_of}
+use Rattle.net_share.specs.Renaming.{new_wires, renamed}
 
 zero_renamed : (names : List ℕ) (wires : List WireId) → zero_wires wires ≡ zero_wires (new_wires names wires)
 zero_renamed names [] = refl

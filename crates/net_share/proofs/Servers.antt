@@ -1,5 +1,5 @@
 -- The table of the least proper wires by class, from the last wire down, and the wires that serve.
-use Rattle.std.proofs.Common.{◌≡◌, ℕ, ◌+◌, ◌<◌, ◌≤◌, ◌⊎◌, inl, inr, List, ◌∷◌, ◌++◌, [], length, set, Some, slice_get, refl, sym, ap, subst, ◌∙◌, arith}
+use Rattle.std.proofs.Common.{◌≡◌, ℕ, ◌+◌, ◌<◌, ◌≤◌, inl, inr, List, ◌∷◌, ◌++◌, [], length, set, Some, slice_get, sym, ap, subst, ◌∙◌, arith}
 use Rattle.std.specs.Prelude.{slice_index}
 use Rattle.std.proofs.lemmas.Bool.{cases_eq}
 use Rattle.std.proofs.lemmas.List.{get_or-set_other, get_or-set_same}
@@ -7,9 +7,8 @@ use Rattle.std.proofs.lemmas.Option.{same_Some}
 use Rattle.netlist.specs.Orders.{OrdersCells}
 use Rattle.netlist.specs.Sound.{Sound}
 use Rattle.netlist.specs.declared.net.Flat.{Flat}
-use Rattle.share_laws.specs.Same.{Same}
 use Rattle.share_laws.specs.Same.Same.{chained, turned}
-use Rattle.share_laws.specs.Shares.{IsProper, Serves, Stands}
+use Rattle.share_laws.specs.Shares.{IsProper, Serves}
 use Rattle.wire_classes.specs.Classes.{AreClasses}
 use Rattle.wire_classes.specs.declared.classes.Classes.{Classes}
 use Rattle.net_share.specs.Standing.{EachServes, IsLeastFrom, LeastsFrom}

@@ -1,5 +1,5 @@
 -- The shared net, put together of its parts.
-use Rattle.std.proofs.Common.{◌≡◌, ℕ, Bool, List, [], ◌∷◌, ◌++◌, ◌+◌, ◌<◌, ◌≤◌, length, map, take, Some, slice_get, refl, sym, ap, subst, ◌∙◌, arith}
+use Rattle.std.proofs.Common.{◌≡◌, ℕ, List, [], ◌∷◌, ◌++◌, ◌+◌, ◌<◌, ◌≤◌, length, map, take, slice_get, sym, ap, subst, ◌∙◌, arith}
 use Rattle.std.specs.Prelude.{slice_index}
 use Rattle.chw_base.specs.declared.index.WireId.{WireId}
 use Rattle.chw_clock.specs.declared.event.Ports.{Ports}
@@ -17,7 +17,6 @@ use Rattle.share_laws.specs.Shares.IsLive.{for_cell, for_output}
 use Rattle.wire_classes.specs.Classes.{AreClasses}
 use Rattle.wire_classes.specs.declared.classes.Classes.{Classes}
 use Rattle.net_share.specs.Making.{AreMade, IsPlan}
-use Rattle.net_share.specs.Renaming.{new_wires}
 use Rattle.net_share.specs.Sharing.{IsModuleBy, IsShared, IsSharedNet}
 use Rattle.net_share.proofs.Made.{made_shared}
 use Rattle.net_share.proofs.Proper.{proper_within}

@@ -1,5 +1,5 @@
 -- The cells of kept wires, made by the classes and by new numbers.
-use Rattle.std.specs.Prelude.{◌≡◌, ◌↔◌, ℕ, ◌+◌, ◌≤◌, true, false, List, [], ◌∷◌, length, Some}
+use Rattle.std.specs.Prelude.{◌≡◌, ◌↔◌, ℕ, ◌+◌, ◌≤◌, true, false, List, [], ◌∷◌, length}
 use Rattle.std.specs.Prelude.{slice_index_or}
 use Rattle.netlist.specs.Wires.{read_by}
 use Rattle.netlist.specs.declared.net.Cell.{Cell}

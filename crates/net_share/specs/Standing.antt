@@ -1,5 +1,5 @@
 -- The wires that stand for others, in tables by classes and by wires.
-use Rattle.std.specs.Prelude.{◌≡◌, ℕ, ◌<◌, ◌≤◌, List, length, Some, slice_get, slice_index}
+use Rattle.std.specs.Prelude.{◌≡◌, ℕ, ◌≤◌, List, length, Some, slice_get, slice_index}
 use Rattle.netlist.specs.declared.net.Flat.{Flat}
 use Rattle.share_laws.specs.Shares.{IsProper, Serves}
 

@@ -1,4 +1,4 @@
-use Rattle.std.proofs.Common.{◌≡◌, ◌+◌, ◌-◌, ◌<◌, length, ap, sym, ◌∙◌, arith}
+use Rattle.std.proofs.Common.{◌≡◌, ◌+◌, ◌-◌, ◌<◌, length, ap, arith}
 use Rattle.net_share.proofs.Proper.{drives_at}
 use Rattle.net_share.proofs.Pushed.{item_at}
 use Rattle.net_share.proofs.copying.cell_of.Goals as goal

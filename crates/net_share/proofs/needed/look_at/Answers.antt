@@ -1,4 +1,4 @@
-use Rattle.std.proofs.Common.{◌≡◌, ◌<◌, ℕ, List, length, sym, ap, subst, ◌∙◌, arith}
+use Rattle.std.proofs.Common.{sym, ◌∙◌, arith}
 use Rattle.std.proofs.lemmas.Result.{on_ok_weaker}
 use Rattle.net_share.proofs.Copies.{open_of}
 use Rattle.net_share.proofs.Looking.{listed, looks_at_cell, looks_at_input, looks_at_known, reads_exist, server_within}

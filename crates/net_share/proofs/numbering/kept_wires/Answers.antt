@@ -1,4 +1,4 @@
-use Rattle.std.proofs.Common.{◌≡◌, ℕ, length, refl, sym, subst, arith}
+use Rattle.std.proofs.Common.{◌≡◌, ℕ, length, refl, subst, arith}
 use Rattle.net_share.specs.Numbering.{AreKept}
 use Rattle.net_share.proofs.Numbers.{kept_none}
 use Rattle.net_share.proofs.numbering.kept_wires.Goals as goal

@@ -1,6 +1,5 @@
-use Rattle.std.proofs.Common.{◌≡◌, ◌+◌, ◌<◌, ℕ, length, get_or, Some, slice_get, refl, sym, ap, subst, ◌∙◌, arith}
+use Rattle.std.proofs.Common.{◌≡◌, ◌+◌, get_or, Some, slice_get, refl, arith}
 use Rattle.std.proofs.lemmas.Option.{slice_get-get_or}
-use Rattle.net_share.specs.Numbering.{AreNumbered}
 use Rattle.net_share.proofs.Numbers.{number_fits, numbered_first, numbered_next}
 use Rattle.net_share.proofs.numbering.new_numbers.Goals as goal
 

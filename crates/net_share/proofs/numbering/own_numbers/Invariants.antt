@@ -1,5 +1,5 @@
 -- each wire so far has its own number
-use Rattle.std.proofs.Common.{◌≡◌, ◌<◌, ℕ, length, Some, slice_get}
+use Rattle.std.proofs.Common.{◌≡◌, ℕ, length, Some, slice_get}
 use Rattle.net_share.proofs.numbering.own_numbers.Given as goal
 
 abbrev pub invariant-loop-w : goal.invariant-loop-w

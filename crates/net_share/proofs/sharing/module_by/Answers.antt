@@ -1,9 +1,6 @@
-use Rattle.std.proofs.Common.{◌≡◌, ◌+◌, ◌<◌, ◌++◌, ℕ, List, length, map, take, refl, sym, ap, subst, ◌∙◌, arith}
-use Rattle.std.specs.Prelude.{slice_index}
+use Rattle.std.proofs.Common.{◌≡◌, ℕ, List, length, refl, sym, ap, subst, ◌∙◌, arith}
 use Rattle.std.specs.List.{AllByRecursion}
 use Rattle.chw_base.specs.declared.index.WireId.{WireId}
-use Rattle.netlist.specs.declared.net.Cell.{Cell}
-use Rattle.net_share.specs.Making.{AreMade}
 use Rattle.net_share.specs.Renaming.{IsNamed, new_wires}
 use Rattle.net_share.proofs.Looking.{listed, outputs_exist}
 use Rattle.net_share.proofs.Whole.{kept_after, kept_fits, kept_wires_exist, made_by, widths_by}
