@@ -31,8 +31,8 @@ pub(crate) fn flat_of(alloc: Global, net: &Net) -> Result<Flat, Or<Unread>>
     }
 }
 
-// The net of a text, in which pieces may stand several times.
-fn net_in(alloc: Global, text: &str) -> Result<Net, Or<Unread>> {
+/// The net of a text, in which pieces may stand several times.
+pub(crate) fn net_in(alloc: Global, text: &str) -> Result<Net, Or<Unread>> {
     let bytes = bytes_of(alloc, text)?;
     match std::str::from_utf8(&bytes) {
         Ok(text) => net_of(alloc, text),
@@ -64,16 +64,16 @@ fn put_flat_of(alloc: Global, net: &Net, out: &mut Vec<u8>) -> Result<(), Or<Unr
     requires { WellFormed net.now }
 {
     match flatten(alloc, net) {
-        Ok(flat) => Ok(put_parts(out, &flat)?),
+        Ok(flat) => Ok(put_parts(out, flat.widths.len(), flat.cells.as_slice())?),
         Err(Or::Memory) => Err(Or::Memory),
         Err(Or::Fault(_)) => Ok(put(out, "too large")?),
     }
 }
 
-fn put_parts(out: &mut Vec<u8>, flat: &Flat) -> Result<(), NoMemory> {
-    put_number(out, "", flat.widths.len().min(1_000_000) as u32)?;
+/// Writes how many wires there are, and the cells where they are few.
+pub(crate) fn put_parts(out: &mut Vec<u8>, wires: usize, cells: &[Cell]) -> Result<(), NoMemory> {
+    put_number(out, "", wires.min(1_000_000) as u32)?;
     put(out, " wires")?;
-    let cells = flat.cells.as_slice();
     if cells.len() > FEW {
         return Ok(());
     }
@@ -102,7 +102,8 @@ fn put_cell(out: &mut Vec<u8>, cell: &Cell) -> Result<(), NoMemory> {
     }
 }
 
-fn put_wires(out: &mut Vec<u8>, wires: &[WireId]) -> Result<(), NoMemory> {
+/// Writes the numbers of wires.
+pub(crate) fn put_wires(out: &mut Vec<u8>, wires: &[WireId]) -> Result<(), NoMemory> {
     for wire in wires {
         put_number(out, " ", wire.number)?;
     }

@@ -1,10 +1,12 @@
-//! Rows of graphs and of small nets: the order that each has, or the cycle.
+//! Rows of graphs and of small nets: the order that each has, or the cycle. Flat nets of nets, and
+//! the nets that are left where equal wires are shared.
 #![tactic(auto)]
 
 mod flat;
 mod formed;
 mod graphs;
 mod nets;
+mod shared;
 mod slow;
 
 use chw_base::Or;
@@ -13,6 +15,7 @@ use formed::put_formed;
 use graphs::{put_chain, put_graph};
 use nets::put_found;
 use row_tables::{Unread, print_rows};
+use shared::put_shared;
 use std::alloc::Global;
 use std::io;
 
@@ -30,6 +33,7 @@ fn answer(alloc: Global, call: &str, text: &str, out: &mut Vec<u8>) -> Result<()
         "formed" => put_formed(alloc, text, out),
         "flatten" => put_flat(alloc, text, out),
         "found" => put_flat_found(alloc, text, out),
+        "share" => put_shared(alloc, text, out),
         _ => Err(Or::Fault(Unread)),
     }
 }
