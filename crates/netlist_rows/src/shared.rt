@@ -13,8 +13,8 @@ use netlist::{Flat, Module, Net};
 use row_tables::{Unread, put};
 use std::alloc::Global;
 
-/// Writes the shared net of a net: how many wires it has, its cells, and behind `;` the wires of its
-/// outputs. Or it writes that the net has a loop.
+/// Writes the shared net of a net: how many wires it has, its cells, and behind `;` the wires of
+/// its outputs. Or it writes that the net has a loop.
 pub(crate) fn put_shared(alloc: Global, text: &str, out: &mut Vec<u8>) -> Result<(), Or<Unread>> {
     let net = net_in(alloc, text)?;
     match well_formed(alloc, &net) {
