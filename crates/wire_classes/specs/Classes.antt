@@ -13,7 +13,9 @@ pub record AreClasses (flat : Flat) (c : Classes) : Type 0 where
   pub same : (v w a : ℕ) → slice_get c.of v ≡ Some a → slice_get c.of w ≡ Some a → Same flat v w
   pub one : (v w a b : ℕ) → Same flat v w → slice_get c.of v ≡ Some a → slice_get c.of w ≡ Some b
       → a ≡ b
-  pub are_known : (w : ℕ) → slice_get c.known w ≡ Some true → (bits : List Bool) × IsKnown flat w bits
-  pub each_known : (w : ℕ) (bits : List Bool) → IsKnown flat w bits → slice_get c.known w ≡ Some true
+  pub are_known : (w : ℕ) → slice_get c.known w ≡ Some true
+      → (bits : List Bool) × IsKnown flat w bits
+  pub each_known : (w : ℕ) (bits : List Bool) → IsKnown flat w bits
+      → slice_get c.known w ≡ Some true
   pub known_bits : (w : ℕ) (bits : List Bool) → IsKnown flat w bits → slice_get c.bits w ≡ Some bits
   pub within : (w a : ℕ) → slice_get c.of w ≡ Some a → a < length flat.widths
