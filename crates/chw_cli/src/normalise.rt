@@ -22,9 +22,9 @@ use chw_norm::laws::last_states_are_typed;
 use chw_norm::run;
 use chw_terms::{Made, Program, Scene};
 use judge::{StateFault, judge_state, state_line};
-use looks::LookCount;
 use net_means::net_fits::laws::runs_begin_with_top;
 use norm_lines::put_lines;
+use rules::AllRules;
 use std::alloc::Global;
 
 /// The lines of the run of a description's program by so many steps at most, or why there are none.
@@ -38,9 +38,9 @@ pub(crate) fn normalised(
     ensures refused { IfErr result (RefusesNormalise description.now.tree budget) }
 {
     let mut trace = Vec::new(alloc);
-    let mut looks = LookCount::new();
+    let mut rules = AllRules::new();
     let program = description.checked.program();
-    let made = run(alloc, program, budget, &mut trace, &mut looks)?;
+    let made = run(alloc, program, budget, &mut trace, &mut rules)?;
     check_last(alloc, program, made.list())?;
     let mut bytes = Vec::new(alloc);
     put_lines(&mut bytes, trace.as_slice(), made.list())?;

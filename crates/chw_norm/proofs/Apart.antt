@@ -25,7 +25,7 @@ use Rattle.rewriting.specs.Origins.{made_of}
 use Rattle.rewriting.specs.Runs.{Step}
 use Rattle.rewriting.specs.Spots.{Spot}
 use Rattle.rewriting.specs.Steps.{origins_in, Where}
-use Rattle.rule_trials.specs.Trials.{built}
+use Rattle.trials.specs.Trials.{built}
 use Rattle.chw_norm.specs.GoingOn.{MoreSteps, places_of}
 use Rattle.chw_norm.specs.Running.{IsWithinLimits, ShallowSteps, no_step, step_and}
 use Rattle.chw_norm.proofs.Changed.{all_shallow, length_kept, set_there}

@@ -16,10 +16,10 @@ use Rattle.rewriting.specs.Runs.{IsOpening, StepsTo}
 use Rattle.rewriting.specs.Steps.{IsFirst, origins_in}
 use Rattle.rule_types.specs.States.{IsTypedState}
 use Rattle.made_states.specs.Laws.{AnyStepKeepsState}
-use Rattle.rule_trials.specs.Trials.{built}
+use Rattle.trials.specs.Trials.{built}
 use Rattle.opening.specs.Laws.{OpeningIsTyped}
 use Rattle.norm_lines.specs.Places.{where_of}
-use Rattle.chw_norm.specs.declared.place.Found.{Found}
+use Rattle.step_search.specs.declared.place.Found.{Found}
 use Rattle.norm_lines.specs.declared.place.StepAt.{StepAt}
 use Rattle.chw_norm.specs.Bounds.{AreBounds}
 use Rattle.chw_norm.specs.Running.{AreShallow}

@@ -10,7 +10,7 @@ use Rattle.chw_terms.specs.declared.scene.Made.{Made}
 use Rattle.chw_terms.specs.Depth.{depth}
 use Rattle.chw_terms.specs.TermTree.{TermTree}
 use Rattle.chw_norm.specs.Bounds.{AreBounds, IsBound}
-use Rattle.rule_trials.specs.Trials.{with_new}
+use Rattle.trials.specs.Trials.{with_new}
 use Rattle.chw_norm.specs.Running.{AreShallow, HasDeep}
 use Rattle.chw_norm.specs.Underway.{depth_of, with_bound}
 

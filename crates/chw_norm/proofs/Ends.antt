@@ -12,9 +12,9 @@ use Rattle.chw_terms.specs.TermTree.{TermTree}
 use Rattle.chw_typing.specs.Programs.{IsTyped}
 use Rattle.rewriting.specs.Runs.{IsOpening, opened, Step, StepsTo, top_of}
 use Rattle.rewriting.specs.Steps.{HasNoStep, IsFirst, Where}
-use Rattle.rule_trials.specs.Trials.{built}
-use Rattle.chw_norm.specs.FoundSteps.{FindsNext, IsNext}
-use Rattle.chw_norm.specs.declared.place.Found.{Found}
+use Rattle.trials.specs.Trials.{built}
+use Rattle.step_search.specs.FoundSteps.{FindsNext, IsNext}
+use Rattle.step_search.specs.declared.place.Found.{Found}
 use Rattle.norm_lines.specs.declared.place.StepAt.{StepAt}
 use Rattle.chw_norm.specs.Running.{FillsTable, HasDeep, IsLeft, IsWithinLimits, no_step, Runs}
 use Rattle.chw_norm.specs.Running.{ShallowRun, Traces, done, spent, full, deep, no_memory}

@@ -9,12 +9,13 @@ use Rattle.norm_lines.specs.declared.place.StepAt.{StepAt}
 use Rattle.norm_lines.specs.Places.{where_of}
 use Rattle.rewriting.specs.Runs.{Step, StepsTo}
 use Rattle.rewriting.specs.Steps.{IsBefore, Where}
-use Rattle.rule_trials.specs.Trials.{built}
+use Rattle.trials.specs.Trials.{built}
 use Rattle.rule_types.specs.States.{IsTypedState}
 use Rattle.chw_norm.specs.GoingOn.{EndsAt, places_of, SuitsAt}
 use Rattle.chw_norm.specs.Running.{ShallowRun, ShallowSteps, Traces, no_step, step_and}
-use Rattle.chw_norm.specs.Seen.{ComesBefore, IsSeen, LooksFrom, SearchesLead, then_one}
-use Rattle.chw_norm.proofs.Counts.{grows_once}
+use Rattle.step_search.specs.Seen.{ComesBefore, IsSeen, LooksFrom}
+use Rattle.chw_norm.specs.Searches.{SearchesLead, then_one}
+use Rattle.step_search.proofs.Counts.{grows_once}
 
 -- what is promised of steps of typed states
 pub record StateLaws : Type 0 where

@@ -8,21 +8,22 @@ use Rattle.chw_terms.specs.declared.program.Program.{Program}
 use Rattle.chw_terms.specs.declared.scene.Made.{Made}
 use Rattle.norm_lines.specs.declared.place.StepAt.{StepAt}
 use Rattle.rewriting.specs.Runs.{Step}
-use Rattle.rule_trials.specs.Trials.{built}
+use Rattle.trials.specs.Trials.{built}
 use Rattle.rule_types.specs.States.{IsTypedState}
-use Rattle.chw_norm.specs.Finding.{StandsAt, Suits}
+use Rattle.step_search.specs.Finding.{StandsAt, Suits}
 use Rattle.chw_norm.specs.GoingOn.{HasRunOn, places_of, RanSomewhere, WentOn}
 use Rattle.chw_norm.specs.Running.{IsWithinLimits, Runs, ShallowSteps, no_memory}
-use Rattle.chw_norm.specs.Seen.{LooksFrom, RunLooks}
+use Rattle.step_search.specs.Seen.{LooksFrom}
+use Rattle.chw_norm.specs.Searches.{RunLooks}
 use Rattle.chw_norm.specs.Underway.{Advances, IsBetweenSteps, IsUnderway, step_of}
-use Rattle.chw_norm.specs.declared.finder.Finder.{Finder}
-use Rattle.chw_norm.specs.declared.place.Found.{Found}
+use Rattle.step_search.specs.declared.finder.Finder.{Finder}
+use Rattle.step_search.specs.declared.place.Found.{Found}
 use Rattle.chw_norm.specs.declared.progress.Progress.{Progress}
 use Rattle.chw_norm.proofs.Further.{ends_somewhere, run_joined, searches_further, StateLaws}
 use Rattle.chw_norm.proofs.Further.{suits_further, traces_joined}
 use Rattle.chw_norm.proofs.Ends.{goes_on}
 use Rattle.chw_norm.proofs.LookedRuns.{HasLooked, looked_on, looked_to_end}
-use Rattle.chw_norm.proofs.Stands.{suits_next}
+use Rattle.step_search.proofs.Stands.{suits_next}
 
 -- the searches by the steps so far may take as many looks as were taken
 pub record HasRoom (p : Program) (old new : List StepAt) (made : List Made) (finder : Finder)

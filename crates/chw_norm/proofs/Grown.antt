@@ -10,11 +10,11 @@ use Rattle.chw_base.specs.declared.outcome.Or.TheVariants.{Memory, Fault}
 use Rattle.chw_types.specs.Polynomials.{ended}
 use Rattle.chw_terms.specs.declared.scene.Made.{Made}
 use Rattle.chw_terms.specs.Depth.{depth}
-use Rattle.rule_trials.specs.Trials.{built, with_new}
-use Rattle.chw_norm.specs.declared.place.Found.{Found}
+use Rattle.trials.specs.Trials.{built, with_new}
+use Rattle.step_search.specs.declared.place.Found.{Found}
 use Rattle.norm_lines.specs.declared.place.StepAt.{StepAt}
 use Rattle.chw_norm.specs.Bounds.{AreBounds}
-use Rattle.chw_norm.specs.FoundSteps.{IsNext}
+use Rattle.step_search.specs.FoundSteps.{IsNext}
 use Rattle.chw_norm.specs.Underway.{GrowEnds, HasSpine, IsBetweenSteps, IsGrown, StepEnds}
 use Rattle.chw_norm.specs.declared.progress.Progress.{Progress}
 use Rattle.chw_norm.specs.declared.running.RunFault.{RunFault}

@@ -14,17 +14,17 @@ use Rattle.chw_typing.specs.Paths.{with_part}
 use Rattle.rewriting.specs.Instances.{HasInstance}
 use Rattle.rewriting.specs.Origins.{made_of}
 use Rattle.rewriting.specs.Steps.{origins_in}
-use Rattle.rule_trials.specs.Trials.{built, with_new, ChangesTo}
-use Rattle.rule_trials.specs.declared.trial.Change.{Change}
-use Rattle.rule_trials.specs.declared.trial.Change.TheVariants.{Put, Join}
+use Rattle.trials.specs.Trials.{built, with_new, ChangesTo}
+use Rattle.trials.specs.declared.trial.Change.{Change}
+use Rattle.trials.specs.declared.trial.Change.TheVariants.{Put, Join}
 use Rattle.made_table.specs.Held.{IsPartSwapped}
 use Rattle.moved_in_place.specs.Joined.{IsJoined}
 use Rattle.moved_in_place.specs.Laws.{JoinedIsNoDeeper, WithPartNoDeeper, SwappedBack}
 use Rattle.norm_lines.specs.declared.place.StepAt.{StepAt}
 use Rattle.chw_norm.specs.Bounds.{IsBound}
-use Rattle.chw_norm.specs.FoundSteps.{IsNext}
+use Rattle.step_search.specs.FoundSteps.{IsNext}
 use Rattle.chw_norm.specs.Underway.{IsFlatThere, IsMadeThere, IsPutAt}
-use Rattle.chw_norm.specs.declared.place.Found.{Found}
+use Rattle.step_search.specs.declared.place.Found.{Found}
 use Rattle.chw_norm.specs.declared.progress.Progress.{Progress}
 use Rattle.chw_norm.proofs.Changed.{set_there, still_there}
 use Rattle.chw_norm.proofs.Places.{SpineLaws, place_is_spine}

@@ -10,7 +10,7 @@ use Rattle.rewriting.specs.Runs.{Step}
 use Rattle.chw_norm.specs.GoingOn.{EndsAt, HasRunOn, MoreSteps, RanSomewhere, WentOn}
 use Rattle.chw_norm.specs.Running.{no_step}
 use Rattle.chw_norm.specs.Underway.{IsBetweenSteps}
-use Rattle.chw_norm.specs.declared.finder.Finder.{Finder}
+use Rattle.step_search.specs.declared.finder.Finder.{Finder}
 use Rattle.chw_norm.specs.declared.progress.Progress.{Progress}
 
 -- where none is added, the place stays

@@ -10,18 +10,19 @@ use Rattle.chw_terms.specs.declared.scene.Made.{Made}
 use Rattle.chw_terms.specs.TermTree.{TermTree}
 use Rattle.chw_typing.specs.Programs.{IsTyped}
 use Rattle.rewriting.specs.Runs.{IsOpening, opened, Step, StepsTo, top_of}
-use Rattle.rule_trials.specs.Trials.{built}
+use Rattle.trials.specs.Trials.{built}
 use Rattle.norm_lines.specs.declared.place.StepAt.{StepAt}
-use Rattle.chw_norm.specs.Finding.{Moves, StandsAt, Suits, SuitsNextState}
+use Rattle.step_search.specs.Finding.{Moves, StandsAt, Suits, SuitsNextState}
 use Rattle.chw_norm.specs.Running.{Traces}
-use Rattle.chw_norm.specs.Seen.{IsSeen, LooksFrom, RunLooks, SearchesLead, no_search, then_one}
+use Rattle.step_search.specs.Seen.{IsSeen, LooksFrom}
+use Rattle.chw_norm.specs.Searches.{RunLooks, SearchesLead, no_search, then_one}
 use Rattle.chw_norm.specs.Underway.{Advances, IsBetweenSteps, step_of, StepEnds}
-use Rattle.chw_norm.specs.declared.finder.Finder.{Finder}
-use Rattle.chw_norm.specs.declared.place.Found.{Found}
+use Rattle.step_search.specs.declared.finder.Finder.{Finder}
+use Rattle.step_search.specs.declared.place.Found.{Found}
 use Rattle.chw_norm.specs.declared.progress.Progress.{Progress}
 use Rattle.chw_norm.specs.declared.running.RunFault.{RunFault}
 use Rattle.chw_norm.specs.declared.running.RunFault.TheVariants.{Depth, Full, Spent}
-use Rattle.chw_norm.proofs.Counts.{stays}
+use Rattle.step_search.proofs.Counts.{stays}
 use Rattle.chw_norm.proofs.Steps.{traced_behind}
 
 -- the searches by the steps that are traced so far

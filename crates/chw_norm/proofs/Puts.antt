@@ -6,11 +6,11 @@ use Rattle.std.specs.List.{slice_get}
 use Rattle.chw_base.specs.declared.limits.TheConstants.{MADE_DEFINITIONS, MADE_DEPTH}
 use Rattle.made_states.specs.Laws.{AnyStepKeepsState}
 use Rattle.rewriting.specs.Runs.{StepsTo}
-use Rattle.rule_trials.specs.Trials.{built, with_new}
-use Rattle.chw_norm.specs.declared.place.Found.{Found}
+use Rattle.trials.specs.Trials.{built, with_new}
+use Rattle.step_search.specs.declared.place.Found.{Found}
 use Rattle.norm_lines.specs.declared.place.StepAt.{StepAt}
 use Rattle.chw_norm.specs.Bounds.{AreBounds, IsBound}
-use Rattle.chw_norm.specs.FoundSteps.{IsNext}
+use Rattle.step_search.specs.FoundSteps.{IsNext}
 use Rattle.chw_norm.specs.Running.{AreShallow, HasDeep}
 use Rattle.chw_norm.specs.Underway.{Advances, depth_of, IsBetweenSteps, IsGrown, IsPutAt, step_of}
 use Rattle.chw_norm.specs.declared.progress.Progress.{Progress}

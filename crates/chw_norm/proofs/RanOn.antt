@@ -26,18 +26,18 @@ use Rattle.rewriting.specs.Origins.{made_of, origins_of, setting_at}
 use Rattle.rewriting.specs.SceneLaws.{SettingOfScene}
 use Rattle.rewriting.specs.Spots.{HasLets, Spot, spot, spot_of}
 use Rattle.rewriting.specs.Steps.{origins_in}
-use Rattle.rule_trials.specs.Trials.{built, HasSomeType}
+use Rattle.trials.specs.Trials.{built, HasSomeType}
 use Rattle.rule_types.specs.Laws.{AreTypedOrigins}
 use Rattle.rule_types.specs.States.{IsTypedState, StatesHaveTypedOrigins}
 use Rattle.term_types.specs.Answers.{IsReady}
 use Rattle.term_frames.specs.Signatures.{IsSignature}
 use Rattle.chw_norm.specs.Bounds.{AreBounds, IsBound}
-use Rattle.chw_norm.specs.FoundSteps.{LeadsToTyped}
-use Rattle.chw_norm.specs.Finding.{Suits}
+use Rattle.step_search.specs.FoundSteps.{LeadsToTyped}
+use Rattle.step_search.specs.Finding.{Suits}
 use Rattle.chw_norm.specs.GoingOn.{HasRunOn, IsAtTop, IsTopOf, MoreSteps}
 use Rattle.chw_norm.specs.Running.{AreShallow, IsWithinLimits}
 use Rattle.chw_norm.specs.Underway.{IsBetweenSteps}
-use Rattle.chw_norm.specs.declared.finder.Finder.{Finder}
+use Rattle.step_search.specs.declared.finder.Finder.{Finder}
 use Rattle.chw_norm.specs.declared.progress.Progress.{Progress}
 use Rattle.chw_norm.proofs.Apart.{ApartLaws, more_in_top, within_further}
 use Rattle.chw_norm.proofs.Changed.{bounds_kept, set_there}

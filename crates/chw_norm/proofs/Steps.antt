@@ -12,10 +12,10 @@ use Rattle.chw_terms.specs.TermTree.{TermTree}
 use Rattle.chw_typing.specs.Paths.{with_part}
 use Rattle.rewriting.specs.Runs.{Step, StepsTo}
 use Rattle.rewriting.specs.Steps.{Where}
-use Rattle.rule_trials.specs.Trials.{built, with_new}
-use Rattle.chw_norm.specs.FoundSteps.{IsNext}
+use Rattle.trials.specs.Trials.{built, with_new}
+use Rattle.step_search.specs.FoundSteps.{IsNext}
 use Rattle.norm_lines.specs.Places.{where_of}
-use Rattle.chw_norm.specs.declared.place.Found.{Found}
+use Rattle.step_search.specs.declared.place.Found.{Found}
 use Rattle.norm_lines.specs.declared.place.StepAt.{StepAt}
 use Rattle.chw_norm.specs.Running.{FillsTable, IsWithinLimits, ShallowSteps, no_step, step_and}
 use Rattle.chw_norm.specs.Running.{Traces}

@@ -13,9 +13,9 @@ use Rattle.rewriting.specs.Runs.{Step}
 use Rattle.rewriting.specs.Named.{mode_of, UnderLambdas}
 use Rattle.rewriting.specs.Spots.{spot, spot_of}
 use Rattle.rewriting.specs.Steps.{HasStepBy, Where}
-use Rattle.rule_trials.specs.Trials.{built}
+use Rattle.trials.specs.Trials.{built}
 use Rattle.step_order.specs.Sought.{IsSought}
-use Rattle.chw_norm.specs.declared.finder.Finder.{Finder}
+use Rattle.step_search.specs.declared.finder.Finder.{Finder}
 use Rattle.chw_norm.specs.declared.progress.Progress.{Progress}
 use Rattle.chw_norm.specs.Running.{ShallowSteps, Traces}
 use Rattle.chw_norm.specs.Underway.{IsBetweenSteps}

@@ -1,15 +1,7 @@
-pub mod Begins
 pub mod Bounds
-pub mod Examples
-pub mod Finding
-pub mod First
-pub mod FoundSteps
 pub mod GoingOn
-pub mod Lambdas
 pub mod Laws
-pub mod Passed
 pub mod Rules
 pub mod Running
-pub mod Seen
-pub mod SeenPaths
+pub mod Searches
 pub mod Underway

@@ -1,2 +1,2 @@
 -- The rules that a run tries, in their order.
-pub use Rattle.rule_trials.specs.Trials.{built}
+pub use Rattle.trials.specs.Trials.{built}

@@ -19,11 +19,11 @@ use Rattle.rewriting.specs.Origins.{Origins}
 use Rattle.rewriting.specs.Runs.{Step, StepsTo}
 use Rattle.rewriting.specs.Spots.{Spot}
 use Rattle.rule_types.specs.States.{IsTypedState}
-use Rattle.rule_trials.specs.Trials.{built, with_new}
-use Rattle.rule_trials.specs.declared.trial.Change.{Change}
-use Rattle.rule_trials.specs.declared.trial.Change.TheVariants.{Put, Join}
+use Rattle.trials.specs.Trials.{built, with_new}
+use Rattle.trials.specs.declared.trial.Change.{Change}
+use Rattle.trials.specs.declared.trial.Change.TheVariants.{Put, Join}
 use Rattle.norm_lines.specs.Places.{where_of}
-use Rattle.chw_norm.specs.declared.place.Found.{Found}
+use Rattle.step_search.specs.declared.place.Found.{Found}
 use Rattle.norm_lines.specs.declared.place.StepAt.{StepAt}
 use Rattle.chw_norm.specs.Bounds.{AreBounds, IsBound}
 use Rattle.chw_norm.specs.Running.{AreShallow, FillsTable, HasDeep, IsWithinLimits, ShallowRun}

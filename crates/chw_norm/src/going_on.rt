@@ -3,13 +3,12 @@ ghost use Rattle.std.specs.Prelude.{◌≡◌, ◌≤◌, ◌+◌, ◌++◌, Lis
 ghost use Rattle.chw_base.specs.declared.limits.TheConstants.{MADE_DEPTH};
 ghost use Rattle.norm_lines.specs.Places.{where_of};
 ghost use Rattle.norm_lines.specs.declared.place.StepAt.{StepAt};
-ghost use Rattle.chw_norm.specs.Finding.{Suits};
+ghost use Rattle.step_search.specs.Finding.{Suits};
 ghost use Rattle.chw_norm.specs.GoingOn.{EndsAt, GoOnEnds, IsAtTop, RunEnds};
 ghost use Rattle.chw_norm.specs.Running.{IsWithinLimits};
 ghost use Rattle.chw_norm.specs.Underway.{IsBetweenSteps};
 
 use crate::bodies::exact_bound;
-use crate::finder::Finder;
 use crate::progress::Progress;
 use crate::top::{Top, top_of};
 use chw_base::limits::MADE_DEPTH;
@@ -19,13 +18,14 @@ use chw_typing::named_laws::data_types_in_order;
 use chw_typing::part_laws::{spines_are_parts, spines_below_spines, spines_of_parts};
 use letrec_runs::run_sides;
 use letrec_steps::laws::{places_below_tops, searches_from_tops, tops_after_steps};
-use looks::Looks;
 use made_states::laws::states_stay_typed;
 use moved_in_place::laws::swapped_back;
 use norm_lines::StepAt;
 use rewriting::scene_laws::settings_of_scenes;
 use rule_types::laws::steps_keep;
 use std::alloc::Global;
+use step_search::Finder;
+use trials::Rules;
 
 // A copy of the path to a step.
 fn path_of(at: &StepAt) -> Result<Vec<u32>, NoMemory>
@@ -66,24 +66,24 @@ fn left_after(left: u32, made: usize) -> u32
 
 /// Makes further first steps where the search stands near the letrec below the leading lambdas of its made definition, as many as may
 /// still be made, and appends them to the trace. So many may be made afterwards. The search stands then at the place of the last one.
-pub(crate) fn go_on<L: Looks>(
+pub(crate) fn go_on<R: Rules>(
     alloc: Global,
     run: &mut Progress,
     finder: &mut Finder,
     left: u32,
     trace: &mut Vec<StepAt>,
-    looks: &mut L,
+    rules: &mut R,
 ) -> Result<u32, NoMemory>
     requires between { IsBetweenSteps run.old }
     requires within { IsWithinLimits run.old.made }
     requires suits { Suits run.old.program.now run.old.made finder.old }
-    ensures { GoOnEnds run.old run.new finder.old finder.new trace.old.items trace.new.items left (L.looks looks.old) (L.looks looks.new) result }
+    ensures { GoOnEnds run.old run.new finder.old finder.new trace.old.items trace.new.items left (R.looks rules.old) (R.looks rules.new) result }
 {
     let Some(top) = top_near(alloc, run, finder)? else {
         return Ok(left);
     };
     let before = trace.len();
-    run_at(alloc, run, finder.made, &top, left, trace, looks)?;
+    run_at(alloc, run, finder.made, &top, left, trace, rules)?;
     stand_at_last(finder, trace.as_slice(), before)?;
     Ok(left_after(left, trace.len() - before))
 }
@@ -111,28 +111,28 @@ fn top_near(alloc: Global, run: &Progress, finder: &Finder) -> Result<Option<Top
 }
 
 // Makes first steps in the letrec there.
-fn run_at<L: Looks>(
+fn run_at<R: Rules>(
     alloc: Global,
     run: &mut Progress,
     made: MadeId,
     top: &Top,
     left: u32,
     trace: &mut Vec<StepAt>,
-    looks: &mut L,
+    rules: &mut R,
 ) -> Result<(), NoMemory>
     requires between { IsBetweenSteps run.old }
     requires within { IsWithinLimits run.old.made }
     requires top { IsAtTop run.old made.number top.now.path.items top.now.place }
-    ensures { RunEnds run.old run.new trace.old.items trace.new.items left (L.looks looks.old) (L.looks looks.new) result }
+    ensures { RunEnds run.old run.new trace.old.items trace.new.items left (R.looks rules.old) (R.looks rules.new) result }
 {
     let mut stand_in = Term::var(alloc, VarIx { number: 0 });
-    let ran = run_apart(alloc, run, made, top, left, &mut stand_in, trace, looks);
+    let ran = run_apart(alloc, run, made, top, left, &mut stand_in, trace, rules);
     drop(stand_in);
     ran
 }
 
 // The same, with a term that stands there meanwhile. The letrec is taken out of the body and put back.
-fn run_apart<L: Looks>(
+fn run_apart<R: Rules>(
     alloc: Global,
     run: &mut Progress,
     made: MadeId,
@@ -140,12 +140,12 @@ fn run_apart<L: Looks>(
     left: u32,
     part: &mut Term,
     trace: &mut Vec<StepAt>,
-    looks: &mut L,
+    rules: &mut R,
 ) -> Result<(), NoMemory>
     requires between { IsBetweenSteps run.old }
     requires within { IsWithinLimits run.old.made }
     requires top { IsAtTop run.old made.number top.now.path.items top.now.place }
-    ensures { RunEnds run.old run.new trace.old.items trace.new.items left (L.looks looks.old) (L.looks looks.new) result }
+    ensures { RunEnds run.old run.new trace.old.items trace.new.items left (R.looks rules.old) (R.looks rules.new) result }
 {
     data_types_in_order();
     places_below_tops();
@@ -176,7 +176,7 @@ fn run_apart<L: Looks>(
         left,
         most,
         trace,
-        looks,
+        rules,
     );
     let Scene {
         program: _,

@@ -1,8 +1,7 @@
 //! Laws of runs, each as the contract of a call that does nothing.
-ghost use Rattle.chw_norm.specs.Finding.{SuitsNextState};
 ghost use Rattle.chw_norm.specs.Laws.{LastStatesAreTyped, NothingRefusesANormalRun, OneLastState};
 
-use made_states::laws::{any_step_stays_behind, states_stay_typed};
+use made_states::laws::states_stay_typed;
 use opening::laws::opening_is_typed;
 use rewriting::rule_laws::one_first;
 
@@ -26,11 +25,4 @@ pub fn last_states_are_typed()
 {
     opening_is_typed();
     states_stay_typed();
-}
-
-/// A search that stands at the place of a step of a typed state suits the state to which the step leads.
-pub fn search_suits_next_state()
-    ensures { SuitsNextState }
-{
-    any_step_stays_behind();
 }

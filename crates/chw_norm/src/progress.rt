@@ -5,31 +5,29 @@ ghost use Rattle.chw_terms.specs.Tidy.{IsTidy};
 ghost use Rattle.chw_typing.specs.Programs.{IsTyped};
 ghost use Rattle.rewriting.specs.Runs.{IsOpening};
 ghost use Rattle.made_table.specs.Held.{HoldsNone};
-ghost use Rattle.rule_trials.specs.Trials.{built};
-ghost use Rattle.chw_norm.specs.Finding.{Moves, Suits};
-ghost use Rattle.chw_norm.specs.FoundSteps.{FindsNext, IsNext};
-ghost use Rattle.chw_norm.specs.Seen.{LooksFrom};
+ghost use Rattle.trials.specs.Trials.{built};
+ghost use Rattle.step_search.specs.Finding.{Moves, Suits};
+ghost use Rattle.step_search.specs.FoundSteps.{FindsNext, IsNext};
+ghost use Rattle.step_search.specs.Seen.{LooksFrom};
 ghost use Rattle.chw_norm.specs.Underway.{IsBetweenSteps, StepEnds, GrowEnds, HasSpine, IsFlatThere, IsMadeThere, IsPutAt};
 
 use crate::bodies::{bound_with, depths, exact_over_limit};
-use crate::finder::Finder;
-use crate::place::Found;
 use crate::running::RunFault;
 use active_parts::SpareTypes;
 use chw_base::limits::MADE_DEPTH;
 use chw_base::{NoMemory, Or, VarIx};
 use chw_terms::{Made, Program, Scene, Term, depth};
 use chw_typing::part_laws::{spines_are_parts, spines_below_spines, spines_of_parts};
-use looks::Looks;
 use made_states::laws::states_stay_typed;
 use made_table::Table;
 use moved_in_place::join;
 use moved_in_place::laws::{joined_is_no_deeper, swapped_back, with_part_no_deeper};
 use norm_lines::StepAt;
 use opening::laws::opening_is_typed;
-use rule_trials::Change;
 use std::alloc::Global;
+use step_search::{Finder, Found};
 use term_types::Signature;
+use trials::{Change, Rules};
 
 /// What a run holds between two steps.
 #[derive(Drop)]
@@ -64,24 +62,24 @@ impl<'p> Progress<'p> {
     }
 
     /// The first step that there is, by a search that suits the state.
-    pub(crate) fn next<L: Looks>(
+    pub(crate) fn next<R: Rules>(
         &self,
         alloc: Global,
         finder: &mut Finder,
         spare: &mut SpareTypes,
-        looks: &mut L,
+        rules: &mut R,
     ) -> Result<Option<Found>, NoMemory>
         requires between { IsBetweenSteps self.now }
         requires suits { Suits self.now.program.now self.now.made finder.old }
         ensures first { IfOk result (FindsNext built self.now.program.now self.now.made) }
         ensures moves { Moves result finder.old finder.new }
-        ensures looks { LooksFrom built self.now.program.now self.now.made finder.old.made.number finder.old.path.items (L.looks looks.old) (L.looks looks.new) }
+        ensures looks { LooksFrom built self.now.program.now self.now.made finder.old.made.number finder.old.path.items (R.looks rules.old) (R.looks rules.new) }
     {
         let scene = Scene {
             program: self.program,
             made: self.made.list(),
         };
-        let found = finder.next(alloc, &self.made, &scene, &self.signature, spare, looks);
+        let found = finder.next(alloc, &self.made, &scene, &self.signature, spare, rules);
         let Scene {
             program: _,
             made: _,

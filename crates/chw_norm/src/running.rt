@@ -1,22 +1,22 @@
 //! A run: step by step, until no step is left or the run is refused.
 ghost use Rattle.chw_terms.specs.Tidy.{IsTidy};
 ghost use Rattle.chw_typing.specs.Programs.{IsTyped};
-ghost use Rattle.rule_trials.specs.Trials.{built};
+ghost use Rattle.trials.specs.Trials.{built};
 ghost use Rattle.chw_norm.specs.Running.{Runs};
-ghost use Rattle.chw_norm.specs.Seen.{RunLooks};
+ghost use Rattle.chw_norm.specs.Searches.{RunLooks};
 
-use crate::finder::Finder;
 use crate::going_on::go_on;
-use crate::laws::search_suits_next_state;
 use crate::progress::Progress;
 use active_parts::SpareTypes;
 use chw_base::Or;
 use chw_terms::Program;
-use looks::Looks;
 use made_states::laws::{any_step_stays_behind, states_stay_typed};
 use made_table::Table;
 use norm_lines::StepAt;
 use std::alloc::Global;
+use step_search::Finder;
+use step_search::laws::search_suits_next_state;
+use trials::Rules;
 
 /// Why a run has no last state.
 #[derive(Clone, Copy, Debug, PartialEq, Eq)]
@@ -38,17 +38,17 @@ pub enum RunFault {
 /// Each search begins at the place of the step before, the first one at the root of the first made definition. At each place at which it
 /// looks, each of the twenty-one rules is one look at most.
 /// Where a number would pass 32 bits, the answer is want of memory.
-pub fn run<L: Looks>(
+pub fn run<R: Rules>(
     alloc: Global,
     program: &Program,
     budget: u32,
     trace: &mut Vec<StepAt>,
-    looks: &mut L,
+    rules: &mut R,
 ) -> Result<Table, Or<RunFault>>
     requires tidy { IsTidy program.now }
     requires typed { IsTyped program.now }
     ensures runs { Runs built program.now budget trace.old.items trace.new.items result }
-    ensures looks { RunLooks built program.now trace.old.items trace.new.items (L.looks looks.old) (L.looks looks.new) }
+    ensures looks { RunLooks built program.now trace.old.items trace.new.items (R.looks rules.old) (R.looks rules.new) }
 {
     search_suits_next_state();
     any_step_stays_behind();
@@ -58,13 +58,13 @@ pub fn run<L: Looks>(
     let mut spare = SpareTypes::new(alloc);
     let mut left = budget;
     while left > 0 {
-        let Some(found) = run.next(alloc, &mut finder, &mut spare, looks)? else {
+        let Some(found) = run.next(alloc, &mut finder, &mut spare, rules)? else {
             return Ok(run.made);
         };
         run.advance(alloc, found, trace)?;
-        left = go_on(alloc, &mut run, &mut finder, left - 1, trace, looks)?;
+        left = go_on(alloc, &mut run, &mut finder, left - 1, trace, rules)?;
     }
-    match run.next(alloc, &mut finder, &mut spare, looks)? {
+    match run.next(alloc, &mut finder, &mut spare, rules)? {
         None => Ok(run.made),
         Some(_) => Err(Or::Fault(RunFault::Spent { steps: budget })),
     }

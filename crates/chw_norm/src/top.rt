@@ -2,7 +2,7 @@
 ghost use Rattle.std.specs.Prelude.{[], reverse, IfOk, IfSome};
 ghost use Rattle.chw_typing.specs.Scopes.{Setting};
 ghost use Rattle.rewriting.specs.Named.{mode_of};
-ghost use Rattle.chw_norm.specs.FoundSteps.{LeadsToTyped};
+ghost use Rattle.step_search.specs.FoundSteps.{LeadsToTyped};
 ghost use Rattle.chw_norm.specs.GoingOn.{IsEntered, IsTopOf};
 
 use active_parts::{enter, mode_of};

@@ -14,7 +14,7 @@ use Rattle.rewriting.specs.Origins.{Origins, setting_at}
 use Rattle.rewriting.specs.Shapes.{IsLet}
 use Rattle.rewriting.specs.Spots.{Spot, spot_of}
 use Rattle.rule_parts.proofs.Instances.{made_is_instance}
-use Rattle.rule_trials.specs.Trials.{built, HasSomeType}
+use Rattle.trials.specs.Trials.{built, HasSomeType}
 use Rattle.rule_types.specs.Laws.{AreTypedOrigins}
 use Rattle.flow_lets.specs.Flat.{JoinsAt}
 use Rattle.moved_in_place.proofs.JoinedDepths.{instance_no_deeper}

@@ -14,7 +14,7 @@ use Rattle.kept_letrecs.proofs.Resting.{resting}
 use Rattle.kept_letrecs.specs.Resting.{IsOnLetrecs, IsAtRest}
 use Rattle.letrec_steps.proofs.Below.{first_on_is_first}
 use Rattle.letrec_steps.specs.Local.{IsFirstBelow, HasNoInstance}
-use Rattle.rule_trials.specs.Trials.{built}
+use Rattle.trials.specs.Trials.{built}
 
 -- of the rules on letrecs the one that joins them has the smallest number
 none_before_flat : (s : Rule) → IsOnLetrecs s → number_of s < number_of Flat → ⊥

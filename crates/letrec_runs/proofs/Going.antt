@@ -26,7 +26,7 @@ use Rattle.kept_letrecs.specs.Resting.{IsAtRest}
 use Rattle.letrec_steps.proofs.Below.{side_is_first_below}
 use Rattle.letrec_steps.proofs.Sides.{binding_between, side_is_put, quiet_front}
 use Rattle.letrec_steps.specs.Local.{side_spot, IsTypedHere, AreQuietBefore, IsFirstOn, IsFirstBelow}
-use Rattle.rule_trials.specs.Trials.{built}
+use Rattle.trials.specs.Trials.{built}
 use Rattle.norm_lines.specs.declared.place.StepAt.{StepAt}
 use Rattle.letrec_runs.specs.Runs.{Leads}
 use Rattle.letrec_runs.specs.Traced.{Traces, TracesJoin}

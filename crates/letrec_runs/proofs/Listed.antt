@@ -12,7 +12,7 @@ use Rattle.letrec_steps.specs.Local.{IsFirstBelow}
 use Rattle.letrec_steps.specs.Many.{LocalStep, StepsBelow, none_made, made_then, in_top}
 use Rattle.norm_lines.specs.Places.{where_of}
 use Rattle.norm_lines.specs.declared.place.StepAt.{StepAt}
-use Rattle.rule_trials.specs.Trials.{built}
+use Rattle.trials.specs.Trials.{built}
 use Rattle.letrec_runs.specs.Runs.{Leads}
 use Rattle.letrec_runs.specs.Sides.{AreNoDeeper}
 use Rattle.letrec_runs.specs.Traced.{Traces, TracesJoin}

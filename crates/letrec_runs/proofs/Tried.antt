@@ -11,10 +11,10 @@ use Rattle.rewriting.specs.Spots.{Spot}
 use Rattle.rewriting.specs.Steps.{origins_in}
 use Rattle.kept_letrecs.specs.Resting.{KeepsVariables}
 use Rattle.letrec_steps.specs.Local.{IsFirstOn}
-use Rattle.rule_trials.specs.declared.trial.Change.{Change}
-use Rattle.rule_trials.specs.declared.trial.Change.TheVariants.{Put}
-use Rattle.rule_trials.specs.declared.trial.Trial.{Trial}
-use Rattle.rule_trials.specs.Trials.{built, ChangesTo, IsTrial}
+use Rattle.trials.specs.declared.trial.Change.{Change}
+use Rattle.trials.specs.declared.trial.Change.TheVariants.{Put}
+use Rattle.trials.specs.declared.trial.Trial.{Trial}
+use Rattle.trials.specs.Trials.{built, ChangesTo, IsTrial}
 use Rattle.letrec_runs.specs.Rush.{IsSideStep}
 
 -- what a trial puts is what its rule makes

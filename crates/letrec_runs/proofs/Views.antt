@@ -26,7 +26,7 @@ use Rattle.kept_letrecs.specs.Resting.{KeepsVariables, IsAtRest}
 use Rattle.letrec_steps.proofs.Sides.{binding_between}
 use Rattle.letrec_steps.specs.Local.{side_spot, IsTypedHere, AreQuietBefore, IsFirstOn}
 use Rattle.open_letrec.specs.Opened.{Opened, whole, with_side, joined_one}
-use Rattle.rule_trials.specs.Trials.{built, HasSomeType}
+use Rattle.trials.specs.Trials.{built, HasSomeType}
 use Rattle.norm_lines.specs.declared.place.StepAt.{StepAt}
 use Rattle.letrec_runs.specs.Runs.{Leads}
 use Rattle.letrec_runs.specs.Traced.{Traces, TracesJoin}

@@ -6,7 +6,7 @@ use Rattle.rewriting.specs.Spots.{Spot}
 use Rattle.letrec_steps.specs.Many.{LocalStep, StepsBelow}
 use Rattle.norm_lines.specs.Places.{where_of}
 use Rattle.norm_lines.specs.declared.place.StepAt.{StepAt}
-use Rattle.rule_trials.specs.Trials.{built}
+use Rattle.trials.specs.Trials.{built}
 use Rattle.letrec_runs.specs.Sides.{AreNoDeeper, places_in}
 
 -- so many steps lead from one term to another, each the first at the term before it and below that,

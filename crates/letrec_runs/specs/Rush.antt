@@ -20,7 +20,7 @@ use Rattle.kept_letrecs.specs.Resting.{KeepsVariables, IsAtRest}
 use Rattle.letrec_steps.specs.Local.{IsTypedHere, IsFirstOn}
 use Rattle.open_letrec.specs.Opened.{Opened, whole, with_side, joined_one}
 use Rattle.norm_lines.specs.declared.place.StepAt.{StepAt}
-use Rattle.rule_trials.specs.Trials.{built}
+use Rattle.trials.specs.Trials.{built}
 use Rattle.letrec_runs.specs.declared.rush.Rush.{Rush}
 use Rattle.letrec_runs.specs.Runs.{Leads}
 

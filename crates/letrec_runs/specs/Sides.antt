@@ -6,7 +6,7 @@ use Rattle.chw_typing.specs.Paths.{with_part}
 use Rattle.rewriting.specs.Origins.{Origins}
 use Rattle.rewriting.specs.Spots.{Spot}
 use Rattle.rewriting.specs.Steps.{Where}
-use Rattle.rule_trials.specs.Trials.{built}
+use Rattle.trials.specs.Trials.{built}
 use Rattle.norm_lines.specs.Places.{where_of}
 use Rattle.norm_lines.specs.declared.place.StepAt.{StepAt}
 use Rattle.letrec_steps.specs.Many.{LocalStep, StepsBelow, in_top}

@@ -9,7 +9,7 @@ ghost use Rattle.rewriting.specs.Spots.{spot_of, HasLets};
 ghost use Rattle.rule_types.specs.Laws.{AreTypedOrigins};
 ghost use Rattle.term_types.specs.Answers.{IsReady};
 ghost use Rattle.term_frames.specs.Signatures.{IsSignature};
-ghost use Rattle.rule_trials.specs.Trials.{HasSomeType};
+ghost use Rattle.trials.specs.Trials.{HasSomeType};
 ghost use Rattle.letrec_steps.specs.Local.{IsTypedHere};
 ghost use Rattle.open_letrec.specs.Opened.{whole};
 ghost use Rattle.letrec_runs.specs.Runs.{Runs};
@@ -22,7 +22,6 @@ use crate::trace::{Top, trace_one};
 use chw_base::{MadeId, NoMemory, VarIx};
 use chw_terms::{Place, Rule, Scene, Term};
 use flow_lets::joins;
-use looks::Looks;
 use made_table::Table;
 use moved_in_place::join;
 use norm_lines::StepAt;
@@ -31,9 +30,10 @@ use rewriting::scene_laws::settings_of_scenes;
 use std::alloc::Global;
 use std::mem;
 use term_types::Signature;
+use trials::Rules;
 
 // Steps in a letrec that is taken apart, as long as they may be made.
-fn run_on<L: Looks>(
+fn run_on<R: Rules>(
     alloc: Global,
     top: Top<'_>,
     table: &Table,
@@ -44,7 +44,7 @@ fn run_on<L: Looks>(
     most: u32,
     rush: Rush,
     trace: &mut Vec<StepAt>,
-    looks: &mut L,
+    rules: &mut R,
 ) -> Result<OpenLetrec, NoMemory>
     requires same { scene.now.made.now ≡ table.now }
     requires order { HasNoCycle scene.now.program.now.datas }
@@ -53,12 +53,12 @@ fn run_on<L: Looks>(
     requires lets { HasLets place.now.mode }
     requires rests { IsResting (origins_of scene.now) (spot_of place.now) most rush.apart }
     requires stands { rush.place ≡ place_in place.now rush.apart }
-    ensures { (y : TermTree) × Runs (origins_of scene.now) (spot_of place.now) left most top.entry.made.number top.entry.path.now (whole rush.apart) y trace.old.items trace.new.items (L.looks looks.old) (L.looks looks.new) 1 × IfOk result (λ o. whole o ≡ y) }
+    ensures { (y : TermTree) × Runs (origins_of scene.now) (spot_of place.now) left most top.entry.made.number top.entry.path.now (whole rush.apart) y trace.old.items trace.new.items (R.looks rules.old) (R.looks rules.new) 1 × IfOk result (λ o. whole o ≡ y) }
 {
     let mut rush = rush;
     for _ in 0..left / 2 {
         let (next, goes_on) = advance(
-            alloc, top, table, scene, signature, place, most, rush, trace, looks,
+            alloc, top, table, scene, signature, place, most, rush, trace, rules,
         )?;
         rush = next;
         if !goes_on {
@@ -69,7 +69,7 @@ fn run_on<L: Looks>(
 }
 
 // The same of a letrec at rest, which is taken apart and put together.
-fn run_taken<L: Looks>(
+fn run_taken<R: Rules>(
     alloc: Global,
     top: Top<'_>,
     table: &Table,
@@ -80,7 +80,7 @@ fn run_taken<L: Looks>(
     most: u32,
     term: Term,
     trace: &mut Vec<StepAt>,
-    looks: &mut L,
+    rules: &mut R,
 ) -> Result<Term, NoMemory>
     requires same { scene.now.made.now ≡ table.now }
     requires order { HasNoCycle scene.now.program.now.datas }
@@ -90,19 +90,19 @@ fn run_taken<L: Looks>(
     requires typed { IsTypedHere (origins_of scene.now) (spot_of place.now) term }
     requires shallow { depth term ≤ most }
     requires rests { IsRestingLet scene.now.program.now.datas place.now.mode term }
-    ensures { (y : TermTree) × Runs (origins_of scene.now) (spot_of place.now) left most top.entry.made.number top.entry.path.now term y trace.old.items trace.new.items (L.looks looks.old) (L.looks looks.new) 1 × IfOk result (λ t. t ≡ y) }
+    ensures { (y : TermTree) × Runs (origins_of scene.now) (spot_of place.now) left most top.entry.made.number top.entry.path.now term y trace.old.items trace.new.items (R.looks rules.old) (R.looks rules.new) 1 × IfOk result (λ t. t ≡ y) }
 {
     let (group, body) = take_let(term);
     let rush = Rush::begin(alloc, place, group, body)?;
     let apart = run_on(
-        alloc, top, table, scene, signature, place, left, most, rush, trace, looks,
+        alloc, top, table, scene, signature, place, left, most, rush, trace, rules,
     )?;
     let (group, body) = apart.close()?;
     Term::letrec(alloc, group, body)
 }
 
 // The same of any term: of another one nothing is made.
-fn run_in<L: Looks>(
+fn run_in<R: Rules>(
     alloc: Global,
     top: Top<'_>,
     table: &Table,
@@ -113,7 +113,7 @@ fn run_in<L: Looks>(
     left: u32,
     most: u32,
     trace: &mut Vec<StepAt>,
-    looks: &mut L,
+    rules: &mut R,
 ) -> Result<(), NoMemory>
     requires same { scene.now.made.now ≡ table.now }
     requires order { HasNoCycle scene.now.program.now.datas }
@@ -122,14 +122,14 @@ fn run_in<L: Looks>(
     requires lets { HasLets place.now.mode }
     requires typed { IsTypedHere (origins_of scene.now) (spot_of place.now) term.old }
     requires shallow { depth term.old ≤ most }
-    ensures { (y : TermTree) × Runs (origins_of scene.now) (spot_of place.now) left most top.entry.made.number top.entry.path.now term.old y trace.old.items trace.new.items (L.looks looks.old) (L.looks looks.new) 1 × OnOk result (term.new ≡ y) }
+    ensures { (y : TermTree) × Runs (origins_of scene.now) (spot_of place.now) left most top.entry.made.number top.entry.path.now term.old y trace.old.items trace.new.items (R.looks rules.old) (R.looks rules.new) 1 × OnOk result (term.new ≡ y) }
 {
     if !is_let_at_rest(alloc, scene.program.datas.as_slice(), place.mode, term)? {
         return Ok(());
     }
     let apart = mem::replace(term, Term::var(alloc, VarIx { number: 0 }));
     let new = run_taken(
-        alloc, top, table, scene, signature, place, left, most, apart, trace, looks,
+        alloc, top, table, scene, signature, place, left, most, apart, trace, rules,
     )?;
     let stood = mem::replace(term, new);
     drop(stood);
@@ -149,7 +149,7 @@ fn run_in<L: Looks>(
 /// The scene's made definitions are those of the table, its origins are typed, no data type leads back to itself, and the signature is
 /// that of the scene's program. The term has a type at the place, which is that of a value or a circuit, and is not deeper than the limit.
 /// Where a number would pass 32 bits, the answer is want of memory. Where memory is wanting, any term may stand there.
-pub fn run_sides<L: Looks>(
+pub fn run_sides<R: Rules>(
     alloc: Global,
     table: &Table,
     scene: &Scene,
@@ -161,7 +161,7 @@ pub fn run_sides<L: Looks>(
     left: u32,
     most: u32,
     trace: &mut Vec<StepAt>,
-    looks: &mut L,
+    rules: &mut R,
 ) -> Result<(), NoMemory>
     requires same { scene.now.made.now ≡ table.now }
     requires order { HasNoCycle scene.now.program.now.datas }
@@ -171,7 +171,7 @@ pub fn run_sides<L: Looks>(
     requires origins { AreTypedOrigins (origins_of scene.now) }
     requires lets { HasLets place.now.mode }
     requires shallow { depth term.old ≤ most }
-    ensures { (y : TermTree) × AreMade (origins_of scene.now) (spot_of place.now) made.number path.now term.old y left most trace.old.items trace.new.items (L.looks looks.old) (L.looks looks.new) × OnOk result (term.new ≡ y) }
+    ensures { (y : TermTree) × AreMade (origins_of scene.now) (spot_of place.now) made.number path.now term.old y left most trace.old.items trace.new.items (R.looks rules.old) (R.looks rules.new) × OnOk result (term.new ≡ y) }
 {
     settings_of_scenes();
     if left == 0 {
@@ -197,6 +197,6 @@ pub fn run_sides<L: Looks>(
         left - 1,
         most,
         trace,
-        looks,
+        rules,
     )
 }

@@ -22,13 +22,13 @@ use active_parts::enter_group;
 use chw_base::{NoMemory, narrow};
 use chw_terms::{Binding, Mode, Place, Rule, Scene, Term};
 use chw_types::Data;
-use looks::Looks;
 use made_table::Table;
 use norm_lines::StepAt;
 use open_letrec::OpenLetrec;
 use rewriting::scene_laws::settings_of_scenes;
 use std::alloc::Global;
 use term_types::Signature;
+use trials::Rules;
 
 // A letrec that is taken apart, and the place of its right sides.
 #[derive(Drop)]
@@ -205,7 +205,7 @@ fn change(
 }
 
 // One step more at the current right side, if one may be made, and another one where a letrec joins.
-fn act<L: Looks>(
+fn act<R: Rules>(
     alloc: Global,
     top: Top<'_>,
     table: &Table,
@@ -215,7 +215,7 @@ fn act<L: Looks>(
     most: u32,
     rush: Rush,
     trace: &mut Vec<StepAt>,
-    looks: &mut L,
+    rules: &mut R,
 ) -> Result<(Rush, bool), NoMemory>
     requires same { scene.now.made.now ≡ table.now }
     requires order { HasNoCycle scene.now.program.now.datas }
@@ -227,7 +227,7 @@ fn act<L: Looks>(
     requires stands { rush.place ≡ place_in outer.now rush.apart }
     ensures goes { IfOk result (Goes (origins_of scene.now) (spot_of outer.now) most top.entry.made.number top.entry.path.now outer.now rush.apart trace.old.items trace.new.items) }
     ensures none { OnErr result (trace.new.items ≡ trace.old.items) }
-    ensures looks { L.looks looks.new ≤ L.looks looks.old + 21 }
+    ensures looks { R.looks rules.new ≤ R.looks rules.old + 21 }
 {
     settings_of_scenes();
     let Rush { mut apart, place } = rush;
@@ -241,7 +241,7 @@ fn act<L: Looks>(
         &side,
         &rush.place,
         most,
-        looks,
+        rules,
     )?;
     let Some(made) = found else {
         let rush = rush.with(side)?;
@@ -251,7 +251,7 @@ fn act<L: Looks>(
 }
 
 // Quiet right sides are settled, and then a step is made, if one may be made; and whether one was.
-pub(crate) fn advance<L: Looks>(
+pub(crate) fn advance<R: Rules>(
     alloc: Global,
     top: Top<'_>,
     table: &Table,
@@ -261,7 +261,7 @@ pub(crate) fn advance<L: Looks>(
     most: u32,
     rush: Rush,
     trace: &mut Vec<StepAt>,
-    looks: &mut L,
+    rules: &mut R,
 ) -> Result<(Rush, bool), NoMemory>
     requires same { scene.now.made.now ≡ table.now }
     requires order { HasNoCycle scene.now.program.now.datas }
@@ -272,7 +272,7 @@ pub(crate) fn advance<L: Looks>(
     requires stands { rush.place ≡ place_in outer.now rush.apart }
     ensures goes { IfOk result (Goes (origins_of scene.now) (spot_of outer.now) most top.entry.made.number top.entry.path.now outer.now rush.apart trace.old.items trace.new.items) }
     ensures none { OnErr result (trace.new.items ≡ trace.old.items) }
-    ensures looks { L.looks looks.new ≤ L.looks looks.old + 21 }
+    ensures looks { R.looks rules.new ≤ R.looks rules.old + 21 }
 {
     let Rush { apart, place } = rush;
     let apart = settle_all(apart)?;
@@ -281,6 +281,6 @@ pub(crate) fn advance<L: Looks>(
         return Ok((rush, false));
     }
     act(
-        alloc, top, table, scene, signature, outer, most, rush, trace, looks,
+        alloc, top, table, scene, signature, outer, most, rush, trace, rules,
     )
 }

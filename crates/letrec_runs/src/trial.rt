@@ -9,18 +9,17 @@ ghost use Rattle.rewriting.specs.Origins.{origins_of};
 ghost use Rattle.rewriting.specs.Spots.{spot_of};
 ghost use Rattle.term_types.specs.Answers.{IsReady};
 ghost use Rattle.term_frames.specs.Signatures.{IsSignature};
-ghost use Rattle.rule_trials.specs.Trials.{HasSomeType};
-ghost use Rattle.rule_trials.specs.declared.trial.Change.TheVariants.{Put};
+ghost use Rattle.trials.specs.Trials.{HasSomeType};
+ghost use Rattle.trials.specs.declared.trial.Change.TheVariants.{Put};
 ghost use Rattle.letrec_runs.specs.Rush.{IsSideStep};
 
 use crate::keeping::keeps;
 use chw_base::NoMemory;
 use chw_terms::{Place, Rule, Scene, Term, depth};
-use looks::Looks;
 use made_table::Table;
-use rule_trials::{Change, Trial, first_rule};
 use std::alloc::Global;
 use term_types::Signature;
+use trials::{Change, Rules, Trial};
 
 // A rule, and what it makes.
 #[derive(Drop)]
@@ -74,7 +73,7 @@ fn may_be_put(alloc: Global, most: u32, old: &Term, new: &Term) -> Result<bool, 
 }
 
 // The first rule with an instance on a right side, and what it makes, where that may be put there.
-pub(crate) fn try_side<L: Looks>(
+pub(crate) fn try_side<R: Rules>(
     alloc: Global,
     table: &Table,
     scene: &Scene,
@@ -82,7 +81,7 @@ pub(crate) fn try_side<L: Looks>(
     side: &Term,
     place: &Place,
     most: u32,
-    looks: &mut L,
+    rules: &mut R,
 ) -> Result<Option<Made>, NoMemory>
     requires same { scene.now.made.now ≡ table.now }
     requires order { HasNoCycle scene.now.program.now.datas }
@@ -90,9 +89,9 @@ pub(crate) fn try_side<L: Looks>(
     requires table { IsSignature scene.now.program.now signature.now }
     requires typed { HasSomeType (setting_in scene.now) (reverse place.now.vars) side.now }
     ensures step { IfOk result (λ found. IfSome found (λ it. IsSideStep (origins_of scene.now) (spot_of place.now) most side.now it.rule it.new)) }
-    ensures looks { L.looks looks.new ≤ L.looks looks.old + 21 }
+    ensures looks { R.looks rules.new ≤ R.looks rules.old + 21 }
 {
-    let Some(trial) = first_rule(alloc, table, scene, signature, side, place, looks)? else {
+    let Some(trial) = rules.first_rule(alloc, table, scene, signature, side, place)? else {
         return Ok(None);
     };
     let Some(made) = put_of(trial) else {

@@ -1,60 +1,37 @@
 //! The names of rules and of modes in rows.
-ghost use Rattle.std.specs.Prelude.{◌⊎◌, IfOk, IfSome};
-ghost use Rattle.rules_flow.specs.Rules.{IsOfFlow};
-ghost use Rattle.rules_work.specs.Rules.{IsOfWork};
+ghost use Rattle.std.specs.Prelude.{◌≡◌, IfOk};
+ghost use Rattle.chw_terms.specs.declared.rule.Rule.TheVariants.{Spec};
 
 use chw_base::Or;
 use chw_terms::{Mode, Rule};
 use row_tables::Unread;
 
-/// The rule of flow of this name.
-pub(crate) fn flow_named(name: &str) -> Option<Rule>
-    ensures { IfSome result IsOfFlow }
-{
-    match name {
-        "TYBETA" => Some(Rule::TyBeta),
-        "BETA" => Some(Rule::Beta),
-        "APPLET" => Some(Rule::AppLet),
-        "APPCASE" => Some(Rule::AppCase),
-        "CASECON" => Some(Rule::CaseCon),
-        "CASELET" => Some(Rule::CaseLet),
-        "CASECASE" => Some(Rule::CaseCase),
-        "PROJ" => Some(Rule::Proj),
-        "PRIMLET" => Some(Rule::PrimLet),
-        "PRIMCASE" => Some(Rule::PrimCase),
-        "FLAT" => Some(Rule::Flat),
-        _ => None,
-    }
-}
-
-// The rule of this name that does work.
-fn work_named(name: &str) -> Option<Rule>
-    ensures { IfSome result IsOfWork }
-{
-    match name {
-        "DEAD" => Some(Rule::Dead),
-        "INLINE" => Some(Rule::Inline),
-        "UNFOLD" => Some(Rule::Unfold),
-        "UNROLL" => Some(Rule::Unroll),
-        "ELEM" => Some(Rule::Elem),
-        "DELTA" => Some(Rule::Delta),
-        "APPURE" => Some(Rule::ApPure),
-        "ETA" => Some(Rule::Eta),
-        "ANF" => Some(Rule::Anf),
-        _ => None,
-    }
-}
-
-/// The rule of this name.
+/// The rule of this name, which is none that makes definitions.
 pub(crate) fn rule_named(name: &str) -> Result<Rule, Or<Unread>>
-    ensures { IfOk result (λ rule. IsOfFlow rule ⊎ IsOfWork rule) }
+    ensures { IfOk result (λ rule. rule ≡ Spec → ⊥) }
 {
-    if let Some(rule) = flow_named(name) {
-        return Ok(rule);
-    }
-    match work_named(name) {
-        Some(rule) => Ok(rule),
-        None => Err(Or::Fault(Unread)),
+    match name {
+        "TYBETA" => Ok(Rule::TyBeta),
+        "BETA" => Ok(Rule::Beta),
+        "APPLET" => Ok(Rule::AppLet),
+        "APPCASE" => Ok(Rule::AppCase),
+        "CASECON" => Ok(Rule::CaseCon),
+        "CASELET" => Ok(Rule::CaseLet),
+        "CASECASE" => Ok(Rule::CaseCase),
+        "PROJ" => Ok(Rule::Proj),
+        "PRIMLET" => Ok(Rule::PrimLet),
+        "PRIMCASE" => Ok(Rule::PrimCase),
+        "FLAT" => Ok(Rule::Flat),
+        "DEAD" => Ok(Rule::Dead),
+        "INLINE" => Ok(Rule::Inline),
+        "UNFOLD" => Ok(Rule::Unfold),
+        "UNROLL" => Ok(Rule::Unroll),
+        "ELEM" => Ok(Rule::Elem),
+        "DELTA" => Ok(Rule::Delta),
+        "APPURE" => Ok(Rule::ApPure),
+        "ETA" => Ok(Rule::Eta),
+        "ANF" => Ok(Rule::Anf),
+        _ => Err(Or::Fault(Unread)),
     }
 }
 

@@ -1,16 +1,16 @@
 //! A rule that is tried so many times, to be timed.
-ghost use Rattle.std.specs.Prelude.{[], reverse};
+ghost use Rattle.std.specs.Prelude.{◌≡◌, [], reverse};
+ghost use Rattle.chw_terms.specs.declared.rule.Rule.TheVariants.{Spec};
 ghost use Rattle.chw_types.specs.References.{HasNoCycle};
 ghost use Rattle.chw_typing.specs.Programs.{IsSound, setting_of};
 ghost use Rattle.chw_typing.specs.Scopes.{setting_in};
 ghost use Rattle.rewriting.specs.Origins.{origins_of};
 ghost use Rattle.rewriting.specs.Spots.{spot_of};
 ghost use Rattle.rule_parts.specs.Cores.{HasTypeAt};
-ghost use Rattle.rules_flow.specs.Rules.{IsOfFlow};
 ghost use Rattle.term_types.specs.Answers.{IsReady};
 ghost use Rattle.term_frames.specs.Signatures.{IsSignature};
 
-use crate::names::flow_named;
+use crate::names::rule_named;
 use crate::programs::{DESCRIPTION, program_of};
 use crate::sums::sums;
 use chw_base::{NoMemory, Or};
@@ -18,10 +18,9 @@ use chw_terms::{GapBuffer, Mode, Place, Program, Rule, Scene, Term};
 use chw_typing::named_laws::data_types_in_order;
 use looks::LookCount;
 use row_tables::{Unread, put_number};
-use rules_flow::try_typed;
+use rules::{is_typed, try_typed};
 use std::alloc::Global;
 use term_types::Signature;
-use typed_places::is_typed;
 
 // How often the rule has no instance on a typed term, of so many times.
 fn count_typed(
@@ -33,7 +32,7 @@ fn count_typed(
     term: &Term,
     place: &Place,
 ) -> Result<u32, NoMemory>
-    requires rule { IsOfFlow rule }
+    requires other { rule ≡ Spec → ⊥ }
     requires order { HasNoCycle scene.now.program.now.datas }
     requires ready { IsReady (setting_in scene.now) [] (reverse place.now.vars) }
     requires table { IsSignature scene.now.program.now signature.now }
@@ -61,7 +60,7 @@ fn count_at(
     term: &Term,
     place: &Place,
 ) -> Result<u32, NoMemory>
-    requires rule { IsOfFlow rule }
+    requires other { rule ≡ Spec → ⊥ }
     requires order { HasNoCycle scene.now.program.now.datas }
     requires ready { IsReady (setting_in scene.now) [] (reverse place.now.vars) }
     requires table { IsSignature scene.now.program.now signature.now }
@@ -82,7 +81,7 @@ fn count_closed(
     signature: &Signature,
     term: &Term,
 ) -> Result<u32, NoMemory>
-    requires rule { IsOfFlow rule }
+    requires other { rule ≡ Spec → ⊥ }
     requires order { HasNoCycle scene.now.program.now.datas }
     requires sound { IsSound (setting_in scene.now) }
     requires table { IsSignature scene.now.program.now signature.now }
@@ -105,7 +104,7 @@ fn count_by(
     scene: &Scene,
     signature: &Signature,
 ) -> Result<u32, NoMemory>
-    requires rule { IsOfFlow rule }
+    requires other { rule ≡ Spec → ⊥ }
     requires order { HasNoCycle scene.now.program.now.datas }
     requires sound { IsSound (setting_in scene.now) }
     requires table { IsSignature scene.now.program.now signature.now }
@@ -118,7 +117,7 @@ fn count_by(
 
 // The same in a scene.
 fn count_in(alloc: Global, rule: Rule, times: u32, scene: &Scene) -> Result<u32, NoMemory>
-    requires rule { IsOfFlow rule }
+    requires other { rule ≡ Spec → ⊥ }
     requires order { HasNoCycle scene.now.program.now.datas }
     requires sound { IsSound (setting_in scene.now) }
 {
@@ -130,7 +129,7 @@ fn count_in(alloc: Global, rule: Rule, times: u32, scene: &Scene) -> Result<u32,
 
 // The same in the scene of a program.
 fn count_of(alloc: Global, rule: Rule, times: u32, program: &Program) -> Result<u32, NoMemory>
-    requires rule { IsOfFlow rule }
+    requires other { rule ≡ Spec → ⊥ }
     requires order { HasNoCycle program.now.datas }
     requires sound { IsSound (setting_of program.now) }
 {
@@ -143,15 +142,13 @@ fn count_of(alloc: Global, rule: Rule, times: u32, program: &Program) -> Result<
     count
 }
 
-/// Writes how often the rule of flow of a name has no instance on a term of 10,000 nodes, of so
+/// Writes how often the rule of a name has no instance on a term of 10,000 nodes, of so
 /// many times.
 pub(crate) fn put_trials(alloc: Global, text: &str, out: &mut Vec<u8>) -> Result<(), Or<Unread>> {
     let Some((name, times)) = text.split_once(' ') else {
         return Err(Or::Fault(Unread));
     };
-    let Some(rule) = flow_named(name) else {
-        return Err(Or::Fault(Unread));
-    };
+    let rule = rule_named(name)?;
     let Ok(times) = times.parse::<u32>() else {
         return Err(Or::Fault(Unread));
     };

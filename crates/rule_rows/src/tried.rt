@@ -1,12 +1,11 @@
 //! What a rule makes of a row's term, beside what the row says.
-ghost use Rattle.std.specs.Prelude.{◌⊎◌, [], reverse};
+ghost use Rattle.std.specs.Prelude.{◌≡◌, [], reverse};
 ghost use Rattle.chw_types.specs.References.{HasNoCycle};
 ghost use Rattle.chw_terms.specs.Tidy.{IsTidy};
+ghost use Rattle.chw_terms.specs.declared.rule.Rule.TheVariants.{Spec};
 ghost use Rattle.chw_typing.specs.Programs.{IsSound, setting_of};
 ghost use Rattle.chw_typing.specs.Scopes.{setting_in};
 ghost use Rattle.term_types.specs.Answers.{IsReady};
-ghost use Rattle.rules_flow.specs.Rules.{IsOfFlow};
-ghost use Rattle.rules_work.specs.Rules.{IsOfWork};
 
 use crate::scopes::{VARIABLES, below_lambdas, variables_of};
 use chw_base::{NoMemory, Or};
@@ -15,6 +14,7 @@ use chw_typing::named_laws::data_types_in_order;
 use looks::LookCount;
 use row_notation::put_term;
 use row_tables::{Unread, put};
+use rules::try_rule;
 use std::alloc::Global;
 
 // The body of the definition of this name.
@@ -35,23 +35,12 @@ fn tried(
     term: &Term,
     place: &Place,
 ) -> Result<Option<Term>, NoMemory>
-    requires rule { IsOfFlow rule ⊎ IsOfWork rule }
+    requires other { rule ≡ Spec → ⊥ }
     requires order { HasNoCycle scene.now.program.now.datas }
     requires ready { IsReady (setting_in scene.now) [] (reverse place.now.vars) }
 {
     let mut looks = LookCount::new();
-    match rule {
-        Rule::Dead
-        | Rule::Inline
-        | Rule::Unfold
-        | Rule::Unroll
-        | Rule::Elem
-        | Rule::Delta
-        | Rule::ApPure
-        | Rule::Eta
-        | Rule::Anf => rules_work::try_rule(alloc, rule, scene, term, place, &mut looks),
-        _ => rules_flow::try_rule(alloc, rule, scene, term, place, &mut looks),
-    }
+    try_rule(alloc, rule, scene, term, place, &mut looks)
 }
 
 fn text_of(alloc: Global, term: &Term) -> Result<Vec<u8>, NoMemory> {
@@ -112,7 +101,7 @@ fn put_at(
     place: &Place,
     out: &mut Vec<u8>,
 ) -> Result<(), NoMemory>
-    requires rule { IsOfFlow rule ⊎ IsOfWork rule }
+    requires other { rule ≡ Spec → ⊥ }
     requires order { HasNoCycle scene.now.program.now.datas }
     requires ready { IsReady (setting_in scene.now) [] (reverse place.now.vars) }
 {
@@ -133,7 +122,7 @@ fn put_in(
     is_result: bool,
     out: &mut Vec<u8>,
 ) -> Result<(), Or<Unread>>
-    requires rule { IsOfFlow rule ⊎ IsOfWork rule }
+    requires other { rule ≡ Spec → ⊥ }
     requires order { HasNoCycle scene.now.program.now.datas }
     requires sound { IsSound (setting_in scene.now) }
 {
@@ -160,7 +149,7 @@ pub(crate) fn put_compared(
     is_result: bool,
     out: &mut Vec<u8>,
 ) -> Result<(), Or<Unread>>
-    requires rule { IsOfFlow rule ⊎ IsOfWork rule }
+    requires other { rule ≡ Spec → ⊥ }
     requires tidy { IsTidy program.now }
     requires sound { IsSound (setting_of program.now) }
 {

@@ -38,7 +38,8 @@ use Rattle.specialise.specs.Closed.{closed}
 use Rattle.specialise.specs.declared.trial.Special.{Special}
 use Rattle.specialise.specs.declared.numbers.Seed.{Seed}
 use Rattle.specialise.specs.Seeds.{IsNumbered, IsOfCall, HasLambdas, made_of_seed}
-use Rattle.specialise.specs.Special.{with_new, IsSpecial, AnswersSpecial}
+use Rattle.trials.specs.Trials.{with_new}
+use Rattle.specialise.specs.Special.{IsSpecial, AnswersSpecial}
 use Rattle.specialise.proofs.Closed.{closed_at_once}
 
 -- a number, and what there is afterwards

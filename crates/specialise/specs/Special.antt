@@ -1,5 +1,5 @@
 -- What the rule of made definitions gives.
-use Rattle.std.specs.Prelude.{List, [], ◌∷◌, ◌++◌, Option, None, Some, IfSome, MatchOption}
+use Rattle.std.specs.Prelude.{List, Option, IfSome, MatchOption}
 use Rattle.chw_terms.specs.declared.program.Program.{Program}
 use Rattle.chw_terms.specs.declared.rule.Rule.TheVariants.{Spec}
 use Rattle.chw_terms.specs.declared.scene.Made.{Made}
@@ -9,12 +9,8 @@ use Rattle.made_table.specs.Held.{HoldsNone}
 use Rattle.rewriting.specs.Instances.{HasInstance}
 use Rattle.rewriting.specs.Runs.{After}
 use Rattle.rewriting.specs.Steps.{origins_in}
+use Rattle.trials.specs.Trials.{with_new}
 use Rattle.specialise.specs.declared.trial.Special.{Special}
-
--- the made definitions, with this one at the end where there is one
-abbrev pub with_new : List Made → Option Made → List Made
-with_new made None = made
-with_new made (Some it) = made ++ it ∷ []
 
 -- the rule's instance, and what is made: a definition whose origin none had
 pub record IsSpecial (p : Program) (made : List Made) (at : Spot) (e : TermTree) (s : Special)

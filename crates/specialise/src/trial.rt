@@ -252,7 +252,7 @@ fn special_prim(
 /// In values and circuits the call of a definition becomes a made definition on its free variables. In circuits a lifted function with a
 /// lambda for each parameter becomes a made definition; the other arguments stay behind.
 ///
-/// The scene's made definitions are those of the table. The rest is as at `rules_work::try_typed`: one look is counted, also where memory
+/// The scene's made definitions are those of the table. The rest is as at `rules::try_typed`: one look is counted, also where memory
 /// is wanting.
 pub fn try_special<L: Looks>(
     alloc: Global,

@@ -9,8 +9,8 @@ use crate::compiled::fault::CompileFault;
 use chw_base::Or;
 use chw_norm::run;
 use chw_terms::Program;
-use looks::LookCount;
 use made_table::Table;
+use rules::AllRules;
 use std::alloc::Global;
 
 /// The made definitions of the state in which a run ends, and how many steps it has.
@@ -32,8 +32,8 @@ pub(crate) fn last_state(
     ensures fault { IfFault result (IsCompileFault program.now budget) }
 {
     let mut trace = Vec::new(alloc);
-    let mut looks = LookCount::new();
-    match run(alloc, program, budget, &mut trace, &mut looks) {
+    let mut rules = AllRules::new();
+    match run(alloc, program, budget, &mut trace, &mut rules) {
         Ok(made) => Ok(LastState {
             made,
             steps: trace.len() as u32,

@@ -1,6 +1,6 @@
 use Rattle.std.proofs.Common.{◌≡◌, ◌-◌, ℕ, subst, arith}
 use Rattle.std.proofs.lemmas.Result.{err_from_is_err_and}
-use Rattle.chw_norm.specs.Finding.{StandsAt}
+use Rattle.step_search.specs.Finding.{StandsAt}
 use Rattle.chw_norm.specs.Underway.{IsUnderway}
 use Rattle.chw_norm.proofs.Ends.{begins, ends_at_once, ends_done, ends_refused, ends_spent}
 use Rattle.chw_norm.proofs.Ends.{ends_unready, first_found, none_found}
@@ -23,7 +23,7 @@ returns-in_err-run g c =
     record {
       runs = rw (p.1, p.2) (ends_at_once c.args.program.now c.args.budget c.args.trace.now.items
           c.requires.typed);
-      looks = never_looked c.args.program.now c.args.trace.now.items (g.L.Looks.looks c.args.looks.now) c.requires.typed;
+      looks = never_looked c.args.program.now c.args.trace.now.items (g.R.Looks.looks c.args.rules.now) c.requires.typed;
     }
 
 pub loop-left-init : goal.loop-left-init
@@ -34,7 +34,7 @@ loop-left-init g c = record {
       c.in_ok-run.ensures.program c.in_ok-run.ensures.opens c.in_ok-run.ensures.between;
   suits = c.open-finder.ensures.suits c.in_ok-run.run'.program.now c.in_ok-run.run'.made;
   room = room_exact (looked_at_opening c.args.program.now c.args.trace.now.items c.in_ok-run.run'.made
-      c.open-finder.result (g.L.Looks.looks c.args.looks.now) c.in_ok-run.ensures.opens c.open-finder.ensures.first
+      c.open-finder.result (g.R.Looks.looks c.args.rules.now) c.in_ok-run.ensures.opens c.open-finder.ensures.first
       c.open-finder.ensures.root);
 }
 
@@ -55,8 +55,8 @@ returns-in_err-found g c =
           h.count c.loop-left.run h.underway (omega (arith, h.sum)));
       looks = looked_at_end c.args.program.now c.args.budget c.args.trace.now.items
           c.loop-left.trace.items c.loop-left.left c.loop-left.run c.loop-left.finder
-          (g.L.Looks.looks c.args.looks.now) (g.L.Looks.looks c.loop-left.looks)
-          (g.L.Looks.looks c.next.new.looks) h c.next.ensures.looks;
+          (g.R.Looks.looks c.args.rules.now) (g.R.Looks.looks c.loop-left.rules)
+          (g.R.Looks.looks c.next.new.rules) h c.next.ensures.looks;
     }
 
 pub returns-in_default : goal.returns-in_default
@@ -70,8 +70,8 @@ returns-in_default g c =
           c.in_default.is);
       looks = looked_at_end c.args.program.now c.args.budget c.args.trace.now.items
           c.loop-left.trace.items c.loop-left.left r c.loop-left.finder
-          (g.L.Looks.looks c.args.looks.now) (g.L.Looks.looks c.loop-left.looks)
-          (g.L.Looks.looks c.next.new.looks) h c.next.ensures.looks;
+          (g.R.Looks.looks c.args.rules.now) (g.R.Looks.looks c.loop-left.rules)
+          (g.R.Looks.looks c.next.new.rules) h c.next.ensures.looks;
     }
 
 pub advance-requires-clause-between : goal.advance-requires-clause-between
@@ -97,10 +97,10 @@ returns-in_err-advance g c =
           c.in_err-advance.ensures);
       looks = looked_refused c.args.program.now c.args.trace.now.items c.loop-left.trace.items
           c.advance.new.trace.items r c.advance.new.self c.in-Some.found f
-          c.next.new.finder (g.L.Looks.looks c.args.looks.now) h.room.sum
-          (g.L.Looks.looks c.next.new.looks) c.in_err-advance.field-0.0 h.underway.program h.room.looked
+          c.next.new.finder (g.R.Looks.looks c.args.rules.now) h.room.sum
+          (g.R.Looks.looks c.next.new.rules) c.in_err-advance.field-0.0 h.underway.program h.room.looked
           (looks_from_room r.program.now r.made f.made.number f.path.items
-          (g.L.Looks.looks c.loop-left.looks) h.room.sum (g.L.Looks.looks c.next.new.looks)
+          (g.R.Looks.looks c.loop-left.rules) h.room.sum (g.R.Looks.looks c.next.new.rules)
           h.room.enough c.next.ensures.looks)
           (moved_there c.in_ok-found.field-0 c.in-Some.found f c.next.new.finder
           c.in_ok-found.ensures.moves c.in-Some.is) c.in_err-advance.ensures;
@@ -132,15 +132,15 @@ returns-in_err-left g c =
     c.in-Some.found c.loop-left.finder c.next.new.finder c.in_ok-found.ensures.moves c.in-Some.is in
     let old = c.args.trace.now.items in
     let mid = c.advance.new.trace.items in
-    let before : ℕ = g.L.Looks.looks c.args.looks.now in
-    let next : ℕ = g.L.Looks.looks c.next.new.looks in
+    let before : ℕ = g.R.Looks.looks c.args.rules.now in
+    let next : ℕ = g.R.Looks.looks c.next.new.rules in
     let way = way_with_step laws c.args.program.now c.args.budget old c.loop-left.trace.items mid
     c.loop-left.left c.loop-left.run c.advance.new.self c.in-Some.found c.loop-left.finder
-    c.next.new.finder before (g.L.Looks.looks c.loop-left.looks) next c.loop-left.invariant
+    c.next.new.finder before (g.R.Looks.looks c.loop-left.rules) next c.loop-left.invariant
     (omega (arith, c.loop-left-test.true)) c.next.ensures.looks e.0 e.1 e.2 stands in
     let ends = wanting_further laws c.args.program.now c.args.budget old mid
     c.go_on.new.trace.items (c.loop-left.left - 1) c.advance.new.self c.next.new.finder before next
-    (g.L.Looks.looks c.go_on.new.looks) way c.in_err-left.ensures in
+    (g.R.Looks.looks c.go_on.new.rules) way c.in_err-left.ensures in
     record { runs = rw (p.1, p.2) ends.0; looks = ends.1 }
 
 pub loop-left-preserved : goal.loop-left-preserved
@@ -154,15 +154,15 @@ loop-left-preserved g c =
     c.in-Some.found c.loop-left.finder c.next.new.finder c.in_ok-found.ensures.moves c.in-Some.is in
     let old = c.args.trace.now.items in
     let mid = c.advance.new.trace.items in
-    let before : ℕ = g.L.Looks.looks c.args.looks.now in
-    let next : ℕ = g.L.Looks.looks c.next.new.looks in
+    let before : ℕ = g.R.Looks.looks c.args.rules.now in
+    let next : ℕ = g.R.Looks.looks c.next.new.rules in
     let way = way_with_step laws c.args.program.now c.args.budget old c.loop-left.trace.items mid
     c.loop-left.left c.loop-left.run c.advance.new.self c.in-Some.found c.loop-left.finder
-    c.next.new.finder before (g.L.Looks.looks c.loop-left.looks) next c.loop-left.invariant
+    c.next.new.finder before (g.R.Looks.looks c.loop-left.rules) next c.loop-left.invariant
     (omega (arith, c.loop-left-test.true)) c.next.ensures.looks e.0 e.1 e.2 stands in
     way_further laws c.args.program.now c.args.budget old mid c.go_on.new.trace.items
     (c.loop-left.left - 1) _ c.advance.new.self c.go_on.new.run
-    c.next.new.finder c.go_on.new.finder before next (g.L.Looks.looks c.go_on.new.looks) way
+    c.next.new.finder c.go_on.new.finder before next (g.R.Looks.looks c.go_on.new.rules) way
     c.in_ok-left.ensures
 
 pub next-requires-2 : goal.next-requires-2
@@ -182,8 +182,8 @@ returns-in_err-next g c =
           h.count c.loop-left.run h.underway (omega (arith, h.sum)));
       looks = looked_at_end c.args.program.now c.args.budget c.args.trace.now.items
           c.loop-left.trace.items c.loop-left.left c.loop-left.run c.loop-left.finder
-          (g.L.Looks.looks c.args.looks.now) (g.L.Looks.looks c.loop-left.looks)
-          (g.L.Looks.looks c.next-2.new.looks) h c.next-2.ensures.looks;
+          (g.R.Looks.looks c.args.rules.now) (g.R.Looks.looks c.loop-left.rules)
+          (g.R.Looks.looks c.next-2.new.rules) h c.next-2.ensures.looks;
     }
 
 pub returns-in-None : goal.returns-in-None
@@ -197,8 +197,8 @@ returns-in-None g c =
           c.in-None.is);
       looks = looked_at_end c.args.program.now c.args.budget c.args.trace.now.items
           c.loop-left.trace.items c.loop-left.left r c.loop-left.finder
-          (g.L.Looks.looks c.args.looks.now) (g.L.Looks.looks c.loop-left.looks)
-          (g.L.Looks.looks c.next-2.new.looks) h c.next-2.ensures.looks;
+          (g.R.Looks.looks c.args.rules.now) (g.R.Looks.looks c.loop-left.rules)
+          (g.R.Looks.looks c.next-2.new.rules) h c.next-2.ensures.looks;
     }
 
 pub returns-in-Some-2 : goal.returns-in-Some-2
@@ -215,7 +215,7 @@ returns-in-Some-2 g c =
           (first_found r.program.now r.made c.in_ok-next.field-0 f c.in_ok-next.ensures.first
           c.in-Some-2.is).is_first;
       looks = looked_at_end c.args.program.now c.args.budget old c.loop-left.trace.items
-          c.loop-left.left r c.loop-left.finder (g.L.Looks.looks c.args.looks.now)
-          (g.L.Looks.looks c.loop-left.looks) (g.L.Looks.looks c.next-2.new.looks) h
+          c.loop-left.left r c.loop-left.finder (g.R.Looks.looks c.args.rules.now)
+          (g.R.Looks.looks c.loop-left.rules) (g.R.Looks.looks c.next-2.new.rules) h
           c.next-2.ensures.looks;
     }

@@ -6,11 +6,11 @@ use Rattle.chw_terms.specs.TermTree.{lam}
 use Rattle.chw_terms.specs.TermView.{tree_of, applied}
 use Rattle.active_parts.specs.Grounds.{with_variables}
 use Rattle.active_parts.proofs.Scoped.{more_in_scope}
-use Rattle.chw_norm.specs.FoundSteps.{LeadsToTyped}
+use Rattle.step_search.specs.FoundSteps.{LeadsToTyped}
 use Rattle.chw_norm.specs.GoingOn.{IsEntered}
-use Rattle.chw_norm.proofs.Lambdas.{no_function_type, no_lambda_term}
+use Rattle.step_search.proofs.Lambdas.{no_function_type, no_lambda_term}
 use Rattle.chw_norm.proofs.Topmost.{entered_further, entered_here, if_ok_more}
-use Rattle.chw_norm.proofs.Under.{leads_under, no_function, this_lambda}
+use Rattle.step_search.proofs.Under.{leads_under, no_function, this_lambda}
 use Rattle.chw_norm.proofs.top.+enter_top.Goals as goal
 
 pub returns-in_default : goal.returns-in_default

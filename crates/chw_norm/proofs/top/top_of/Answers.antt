@@ -1,6 +1,6 @@
 use Rattle.std.proofs.Common.{◌≡◌, ◌∙◌, [], ap, refl, reverse, sym, subst, true}
 use Rattle.rewriting.specs.Named.{mode_of}
-use Rattle.chw_norm.specs.FoundSteps.{LeadsToTyped}
+use Rattle.step_search.specs.FoundSteps.{LeadsToTyped}
 use Rattle.chw_norm.specs.GoingOn.{IsEntered}
 use Rattle.chw_norm.proofs.Topmost.{top_there}
 use Rattle.chw_norm.proofs.top.top_of.Goals as goal

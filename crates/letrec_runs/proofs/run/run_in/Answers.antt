@@ -11,7 +11,7 @@ returns-in_err-is_let_at_rest g c =
     let p = err_from_is_err_and c.from_residual.result c.from_residual.ensures.1 in (
       c.args.term.now,
       runs_none (origins_of c.args.scene.now) (spot_of c.args.place.now) c.args.left c.args.most c.args.top.made.number c.args.top.path.now 1 c.args.term.now c.args.trace.now.items c.args.trace.now.items
-          (g.L.Looks.looks c.args.looks.now) (g.L.Looks.looks c.args.looks.now) refl refl,
+          (g.R.Looks.looks c.args.rules.now) (g.R.Looks.looks c.args.rules.now) refl refl,
       rw p.1 tt,
     )
 
@@ -19,7 +19,7 @@ pub returns-then-not-branch : goal.returns-then-not-branch
 returns-then-not-branch g c = (
   c.args.term.now,
   runs_none (origins_of c.args.scene.now) (spot_of c.args.place.now) c.args.left c.args.most c.args.top.made.number c.args.top.path.now 1 c.args.term.now c.args.trace.now.items c.args.trace.now.items
-      (g.L.Looks.looks c.args.looks.now) (g.L.Looks.looks c.args.looks.now) refl refl,
+      (g.R.Looks.looks c.args.rules.now) (g.R.Looks.looks c.args.rules.now) refl refl,
   refl,
 )
 

@@ -10,7 +10,7 @@ use Rattle.letrec_runs.proofs.run.run_on.Goals as goal
 pub loop-init : goal.loop-init
 loop-init g c = record {
   runs = runs_none (origins_of c.args.scene.now) (spot_of c.args.place.now) 0 c.args.most c.args.top.made.number c.args.top.path.now 0 (whole c.args.rush.apart) c.args.trace.now.items
-      c.args.trace.now.items (g.L.Looks.looks c.args.looks.now) (g.L.Looks.looks c.args.looks.now) refl refl;
+      c.args.trace.now.items (g.R.Looks.looks c.args.rules.now) (g.R.Looks.looks c.args.rules.now) refl refl;
   rests = c.requires.rests;
   stands = c.requires.stands;
 }
@@ -28,7 +28,7 @@ returns-in_err-next g c =
     let o = origins_of c.args.scene.now in (
       whole c.loop.rush.apart,
       runs_still o (spot_of c.args.place.now) c.args.most c.args.top.made.number c.args.top.path.now (2 * c.loop.counter) c.args.left (whole c.args.rush.apart) (whole c.loop.rush.apart)
-          c.args.trace.now.items c.loop.trace.items c.advance.new.trace.items (g.L.Looks.looks c.args.looks.now) (g.L.Looks.looks c.loop.looks) (g.L.Looks.looks c.advance.new.looks)
+          c.args.trace.now.items c.loop.trace.items c.advance.new.trace.items (g.R.Looks.looks c.args.rules.now) (g.R.Looks.looks c.loop.rules) (g.R.Looks.looks c.advance.new.rules)
           c.loop.invariant.runs c.in_err-next.ensures.none c.advance.ensures.looks (omega (arith, c.loop-test.true)),
       rw p.1 tt,
     )
@@ -40,7 +40,7 @@ returns-then-not-goes_on g c =
     let r : Rush × Bool = (c.in_ok-next.next, c.in_ok-next.goes_on) in (
       whole r.0.apart,
       runs_last o c.args.place.now c.args.most c.args.top.made.number c.args.top.path.now c.loop.counter c.args.left (whole c.args.rush.apart) c.loop.rush.apart
-          c.args.trace.now.items c.loop.trace.items c.advance.new.trace.items (g.L.Looks.looks c.args.looks.now) (g.L.Looks.looks c.loop.looks) (g.L.Looks.looks c.advance.new.looks)
+          c.args.trace.now.items c.loop.trace.items c.advance.new.trace.items (g.R.Looks.looks c.args.rules.now) (g.R.Looks.looks c.loop.rules) (g.R.Looks.looks c.advance.new.rules)
           r c.loop.invariant.runs c.in_ok-next.ensures.goes c.advance.ensures.looks (omega (arith, c.loop-test.true)),
       refl,
     )
@@ -51,7 +51,7 @@ loop-preserved g c =
     let r : Rush × Bool = (c.in_ok-next.next, c.in_ok-next.goes_on) in
     record {
       runs = runs_on o c.args.place.now c.args.most c.args.top.made.number c.args.top.path.now c.loop.counter (whole c.args.rush.apart) c.loop.rush.apart
-          c.args.trace.now.items c.loop.trace.items c.advance.new.trace.items (g.L.Looks.looks c.args.looks.now) (g.L.Looks.looks c.loop.looks) (g.L.Looks.looks c.advance.new.looks)
+          c.args.trace.now.items c.loop.trace.items c.advance.new.trace.items (g.R.Looks.looks c.args.rules.now) (g.R.Looks.looks c.loop.rules) (g.R.Looks.looks c.advance.new.rules)
           r c.loop.invariant.runs c.in_ok-next.ensures.goes c.advance.ensures.looks c.if-not-goes_on.false;
       rests = c.in_ok-next.ensures.goes.rests;
       stands = c.in_ok-next.ensures.goes.stands;
@@ -62,7 +62,7 @@ returns g c =
     let o = origins_of c.args.scene.now in (
       whole c.loop.rush.apart,
       runs_still o (spot_of c.args.place.now) c.args.most c.args.top.made.number c.args.top.path.now (2 * c.loop.counter) c.args.left (whole c.args.rush.apart) (whole c.loop.rush.apart)
-          c.args.trace.now.items c.loop.trace.items c.loop.trace.items (g.L.Looks.looks c.args.looks.now) (g.L.Looks.looks c.loop.looks) (g.L.Looks.looks c.loop.looks)
+          c.args.trace.now.items c.loop.trace.items c.loop.trace.items (g.R.Looks.looks c.args.rules.now) (g.R.Looks.looks c.loop.rules) (g.R.Looks.looks c.loop.rules)
           c.loop.invariant.runs refl (omega arith) (omega (arith, c.loop.auto.counter-end)),
       refl,
     )

@@ -11,7 +11,7 @@ abbrev pub invariant-loop : goal.invariant-loop
 invariant-loop g l = record {
   runs :
       Runs (origins_of l.scene) (spot_of l.place) (2 * l.counter) l.most l.top.made.number l.top.path.now (whole l.fn.rush.apart) (whole l.rush.apart)
-      l.fn.trace.items l.trace.items (g.L.Looks.looks l.fn.looks) (g.L.Looks.looks l.looks) 0;
+      l.fn.trace.items l.trace.items (g.R.Looks.looks l.fn.rules) (g.R.Looks.looks l.rules) 0;
   rests : IsResting (origins_of l.scene) (spot_of l.place) l.most l.rush.apart;
   stands : l.rush.place ≡ place_in l.place l.rush.apart;
 }

@@ -14,7 +14,7 @@ pub returns-then-left-eq0 : goal.returns-then-left-eq0
 returns-then-left-eq0 g c = (
   c.args.term.now,
   made_nothing (origins_of c.args.scene.now) (spot_of c.args.place.now) c.args.left c.args.most c.args.made.number c.args.path.now c.args.term.now c.args.trace.now.items c.args.trace.now.items
-      (g.L.Looks.looks c.args.looks.now) (g.L.Looks.looks c.args.looks.now) refl refl,
+      (g.R.Looks.looks c.args.rules.now) (g.R.Looks.looks c.args.rules.now) refl refl,
   refl,
 )
 
@@ -22,7 +22,7 @@ pub returns-then-not-is_let : goal.returns-then-not-is_let
 returns-then-not-is_let g c = (
   c.args.term.now,
   made_nothing (origins_of c.args.scene.now) (spot_of c.args.place.now) c.args.left c.args.most c.args.made.number c.args.path.now c.args.term.now c.args.trace.now.items c.args.trace.now.items
-      (g.L.Looks.looks c.args.looks.now) (g.L.Looks.looks c.args.looks.now) refl refl,
+      (g.R.Looks.looks c.args.rules.now) (g.R.Looks.looks c.args.rules.now) refl refl,
   refl,
 )
 
@@ -30,7 +30,7 @@ pub returns-then-not-joins : goal.returns-then-not-joins
 returns-then-not-joins g c = (
   c.args.term.now,
   made_nothing (origins_of c.args.scene.now) (spot_of c.args.place.now) c.args.left c.args.most c.args.made.number c.args.path.now c.args.term.now c.args.trace.now.items c.args.trace.now.items
-      (g.L.Looks.looks c.args.looks.now) (g.L.Looks.looks c.args.looks.now) refl refl,
+      (g.R.Looks.looks c.args.rules.now) (g.R.Looks.looks c.args.rules.now) refl refl,
   refl,
 )
 
@@ -40,7 +40,7 @@ returns-in_err-trace_one g c =
     let p = err_from_is_err_and c.from_residual.result c.from_residual.ensures.1 in (
       c.args.term.now,
       made_nothing (origins_of c.args.scene.now) (spot_of c.args.place.now) c.args.left c.args.most c.args.made.number c.args.path.now c.args.term.now c.args.trace.now.items c.trace_one.new.trace.items
-          (g.L.Looks.looks c.args.looks.now) (g.L.Looks.looks c.args.looks.now) c.in_err-trace_one.ensures.err refl,
+          (g.R.Looks.looks c.args.rules.now) (g.R.Looks.looks c.args.rules.now) c.in_err-trace_one.ensures.err refl,
       rw p.1 tt,
     )
 
@@ -55,7 +55,7 @@ returns-in_err-join g c =
     (c.is_let.ensures.0 c.if-not-is_let.false) ((c.joins.ensures o).0 c.if-not-joins.false) c.in_ok-trace_one.ensures.ok in (
       b.new,
       made_once o at c.args.left c.args.most c.args.made.number c.args.path.now c.args.term.now b.new c.args.trace.now.items c.trace_one.new.trace.items
-          (g.L.Looks.looks c.args.looks.now) (g.L.Looks.looks c.args.looks.now) b.leads (omega (arith, c.if-left-eq0.false)) refl,
+          (g.R.Looks.looks c.args.rules.now) (g.R.Looks.looks c.args.rules.now) b.leads (omega (arith, c.if-left-eq0.false)) refl,
       rw p.1 tt,
     )
 
@@ -88,7 +88,7 @@ returns g c =
     let a = c.run_in.ensures in (
       a.0,
       made_first o at (c.args.left - 1) c.args.left c.args.most c.args.made.number c.args.path.now c.args.term.now c.join.new.term a.0 c.args.trace.now.items c.trace_one.new.trace.items c.run_in.new.trace.items
-          (g.L.Looks.looks c.args.looks.now) (g.L.Looks.looks c.run_in.new.looks)
+          (g.R.Looks.looks c.args.rules.now) (g.R.Looks.looks c.run_in.new.rules)
           (subst (λ x. Leads o at c.args.most c.args.made.number c.args.path.now c.args.term.now x c.args.trace.now.items c.trace_one.new.trace.items 1) (sym same) b.leads) a.1 (omega (arith, c.if-left-eq0.false)),
       a.2,
     )

@@ -1,7 +1,7 @@
 use Rattle.std.proofs.Common.{MatchOption, subst}
 use Rattle.rewriting.specs.Origins.{origins_of}
 use Rattle.rewriting.specs.Spots.{spot_of}
-use Rattle.rule_trials.specs.Trials.{built, HasNoInstance, IsTrial}
+use Rattle.trials.specs.Trials.{built, HasNoInstance, IsTrial}
 use Rattle.letrec_runs.proofs.Tried.{side_step}
 use Rattle.letrec_runs.proofs.trial.try_side.Goals as goal
 

@@ -1,8 +1,8 @@
 use Rattle.std.proofs.Common.{refl, sym, subst, IfOk}
-use Rattle.rule_trials.specs.Trials.{built}
-use Rattle.chw_norm.specs.Finding.{Suits}
-use Rattle.chw_norm.specs.FoundSteps.{FindsNext}
-use Rattle.chw_norm.specs.Seen.{LooksFrom}
+use Rattle.trials.specs.Trials.{built}
+use Rattle.step_search.specs.Finding.{Suits}
+use Rattle.step_search.specs.FoundSteps.{FindsNext}
+use Rattle.step_search.specs.Seen.{LooksFrom}
 use Rattle.chw_norm.proofs.Between.{scene_is_typed}
 use Rattle.chw_norm.proofs.progress.Progress.next.Goals as goal
 
@@ -26,6 +26,6 @@ returns g c =
       moves = c.next-found.ensures.moves;
       looks =
           subst (λ ms. LooksFrom built p ms finder.made.number finder.path.items
-          (g.L.Looks.looks c.args.looks.now) (g.L.Looks.looks c.next-found.new.looks))
+          (g.R.Looks.looks c.args.rules.now) (g.R.Looks.looks c.next-found.new.rules))
           c.list.ensures c.next-found.ensures.looks;
     }

@@ -1,3 +1,0 @@
-mod Looked
-mod Order
-mod Tried

@@ -1,2 +1,0 @@
-pub mod WhereJoined
-pub mod Rules

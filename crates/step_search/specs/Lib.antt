@@ -1,0 +1,9 @@
+pub mod Begins
+pub mod Examples
+pub mod Finding
+pub mod First
+pub mod FoundSteps
+pub mod Lambdas
+pub mod Passed
+pub mod Seen
+pub mod SeenPaths
