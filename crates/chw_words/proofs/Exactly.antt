@@ -1,4 +1,4 @@
--- The words that are a command are those of the form that `clap` reads as it.
+-- The words, without flags, that are a command are those of the form that `clap` reads as it.
 use Rattle.std.proofs.Common.{◌≡◌, ◌∙◌, sym, refl, ap₂, ℕ, List, [], ◌∷◌, Some, codes, inl, inr, subst}
 use Rattle.std.specs.List.{All}
 use Rattle.std.specs.Str.{IsUtf8}
@@ -7,8 +7,9 @@ use Rattle.std.proofs.lemmas.Option.{same_Some}
 use Rattle.clap.specs.Walk.{Row, Text, first_of, rows_after}
 use Rattle.clap.specs.Simple.{subcommand_of}
 use Rattle.clap.specs.Faults.{fault_of}
-use Rattle.chw_words.specs.Commands.{AreWithBudget, IsCommand, IsFile, check, emit, make, normalise, run, simulate}
+use Rattle.chw_words.specs.Commands.{AreWithBudget, IsFile}
 use Rattle.chw_words.specs.Parsing.{AreBudgeted, BudgetIs, IsMatched, chw_app}
+use Rattle.chw_words.specs.Splitting.{IsUnflagged, check, emit, make, normalise, run, simulate}
 use Rattle.chw_words.specs.declared.command.Command.{Command}
 use Rattle.chw_words.specs.declared.command.Command.TheVariants.{Run}
 use Rattle.chw_words.proofs.Shapes.{Form, check_shape, emit_shape, make_shape, run_shape, simulate_shape, start}
@@ -24,14 +25,14 @@ use Rattle.chw_words.proofs.Commands.{IsOneOf, begins, check_fault, check_matche
 use Rattle.chw_words.proofs.OneCommand.{check_only, emit_only, make_only, normalise_only, one_matched, run_only, simulate_only}
 use Rattle.chw_words.proofs.Passes.{passes}
 
--- words are one command at most
-pub one_command : (words : List Text) (a b : Command) → IsCommand words a → IsCommand words b → a ≡ b
-one_command words a b x y = one_matched (subcommand_of chw_app words) a b (passes words a x).matched (passes words b y).matched
+-- words without flags are one command at most
+pub one_unflagged : (words : List Text) (a b : Command) → IsUnflagged words a → IsUnflagged words b → a ≡ b
+one_unflagged words a b x y = one_matched (subcommand_of chw_app words) a b (passes words a x).matched (passes words b y).matched
 
 -- the words after this one make up the command, where they have the form, are texts, have no fault, and are read as it
 abbrev Makes : List Text → Command → Text → Type 0
 Makes words c name = Form words → All IsUtf8 words → fault_of chw_app (name ∷ words) ≡ [] → IsMatched (subcommand_of chw_app (name ∷ words)) c
-    → IsCommand (name ∷ words) c
+    → IsUnflagged (name ∷ words) c
 
 under : (name : Text) (words : List Text) (rows : List Row) (c : Command) → subcommand_of chw_app (name ∷ words) ≡ Some (name, rows)
     → IsMatched (subcommand_of chw_app (name ∷ words)) c → IsMatched (Some (name, rows)) c
@@ -54,14 +55,14 @@ emit_command words c form texts faultless matched =
     let rows = rows_after emit_shape.rules [] words in
     let found = emit_only rows c (under (codes "emit") words rows c (emit_matched words) matched) in
     let had = budgeted words (found.0) (found.1) form texts (sym (emit_fault words) ∙ faultless) (found.2) in
-    subst (λ x. IsCommand (codes "emit" ∷ words) x) (sym (found.3)) (emit words (found.0) (found.1) (had.0) (had.1))
+    subst (λ x. IsUnflagged (codes "emit" ∷ words) x) (sym (found.3)) (emit words (found.0) (found.1) (had.0) (had.1))
 
 normalise_command : (words : List Text) (c : Command) → Makes words c (codes "normalise")
 normalise_command words c form texts faultless matched =
     let rows = rows_after emit_shape.rules [] words in
     let found = normalise_only rows c (under (codes "normalise") words rows c (normalise_matched words) matched) in
     let had = budgeted words (found.0) (found.1) form texts (sym (normalise_fault words) ∙ faultless) (found.2) in
-    subst (λ x. IsCommand (codes "normalise" ∷ words) x) (sym (found.3)) (normalise words (found.0) (found.1) (had.0) (had.1))
+    subst (λ x. IsUnflagged (codes "normalise" ∷ words) x) (sym (found.3)) (normalise words (found.0) (found.1) (had.0) (had.1))
 
 -- the same of two files
 abbrev AreSimulated : List Text → ℕ → Text → Text → Type 0
@@ -90,7 +91,7 @@ simulate_command words c form texts faultless matched =
     let rows = rows_after simulate_shape.rules [] words in
     let found = simulate_only rows c (under (codes "simulate") words rows c (simulate_matched words) matched) in
     let had = simulated words (found.0) (found.1) (found.2) form texts (sym (simulate_fault words) ∙ faultless) (found.3) (found.4) in
-    subst (λ x. IsCommand (codes "simulate" ∷ words) x) (sym (found.5))
+    subst (λ x. IsUnflagged (codes "simulate" ∷ words) x) (sym (found.5))
     (simulate words (found.0) (found.1) (found.2) (had.0) (had.1) (had.2))
 
 check_command : (words : List Text) (c : Command) → Makes words c (codes "check")
@@ -99,8 +100,8 @@ check_command words c form texts faultless matched =
     let found = check_only rows c (under (codes "check") words rows c (check_matched words) matched) in
     let one = one_words check_shape (codes "file") check_takes words (found.0) form (sym (check_fault words) ∙ faultless) (found.1) in
     let text : IsUtf8 (found.0) = All-head IsUtf8 (found.0) [] (subst (All IsUtf8) (one.1) texts) in
-    subst (λ ws. IsCommand (codes "check" ∷ ws) c) (sym (one.1))
-    (subst (λ x. IsCommand (codes "check" ∷ found.0 ∷ []) x) (sym (found.2)) (check (found.0) (record { text = text; no_option = one.0 })))
+    subst (λ ws. IsUnflagged (codes "check" ∷ ws) c) (sym (one.1))
+    (subst (λ x. IsUnflagged (codes "check" ∷ found.0 ∷ []) x) (sym (found.2)) (check (found.0) (record { text = text; no_option = one.0 })))
 
 run_command : (words : List Text) (c : Command) → Makes words c (codes "run")
 run_command words c form texts faultless matched =
@@ -115,8 +116,8 @@ run_command words c form texts faultless matched =
     let read = run_read f g (shape.2) (shape.3) in
     let first : found.0 ≡ f = same_Some _ _ (sym (found.2) ∙ read.1) in
     let second : found.1 ≡ g = same_Some _ _ (sym (found.3) ∙ read.2) in
-    subst (λ ws. IsCommand (codes "run" ∷ ws) c) (sym (shape.4))
-    (subst (λ x. IsCommand (codes "run" ∷ f ∷ g ∷ []) x) (sym (found.4 ∙ ap₂ (λ f g. Run f g) first second))
+    subst (λ ws. IsUnflagged (codes "run" ∷ ws) c) (sym (shape.4))
+    (subst (λ x. IsUnflagged (codes "run" ∷ f ∷ g ∷ []) x) (sym (found.4 ∙ ap₂ (λ f g. Run f g) first second))
     (run f g (record { text = All-head IsUtf8 f (g ∷ []) all; no_option = shape.2 })
     (record { text = All-head IsUtf8 g [] (All-tail IsUtf8 f (g ∷ []) all); no_option = shape.3 })))
 
@@ -126,8 +127,8 @@ make_command words c form texts faultless matched =
     let found = make_only rows c (under (codes "make") words rows c (make_matched words) matched) in
     let h = found.1 in
     let one = one_words make_shape (codes "taps") make_takes words h.word form (sym (make_fault words) ∙ faultless) h.is_word in
-    subst (λ ws. IsCommand (codes "make" ∷ ws) c) (sym (one.1))
-    (subst (λ x. IsCommand (codes "make" ∷ h.word ∷ []) x) (sym (found.2)) (make h.word (found.0) h.are_taps))
+    subst (λ ws. IsUnflagged (codes "make" ∷ ws) c) (sym (one.1))
+    (subst (λ x. IsUnflagged (codes "make" ∷ h.word ∷ []) x) (sym (found.2)) (make h.word (found.0) h.are_taps))
 
 -- where the first word is a command's, the words are one
 by_name : (word : Text) (words : List Text) (c : Command) → IsOneOf command_words word → Makes words c word
@@ -141,7 +142,7 @@ by_name word words c (inr (inr (inr (inr (inr (inr is)))))) = absurd is
 
 -- words of the form in which `clap` finds no fault are the command that it reads
 pub is_command : (words : List Text) (c : Command) → Form words → All IsUtf8 words → fault_of chw_app words ≡ [] → IsMatched (subcommand_of chw_app words) c
-    → IsCommand words c
+    → IsUnflagged words c
 is_command [] c form texts faultless matched = absurd (none_fails faultless)
 is_command (word ∷ words) c form texts faultless matched =
     let b = begins word words form faultless in

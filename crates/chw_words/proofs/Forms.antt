@@ -1,10 +1,11 @@
 -- The test of the words' form, as a fact of each word.
-use Rattle.std.proofs.Common.{◌≡◌, ◌∙◌, sym, refl, ap, ℕ, ◌+◌, ◌≤◌, Bool, true, false, not, cond, ◌&&◌, ◌||◌, List, [], ◌∷◌, ◌++◌, codes, inl, inr, ◌⊎◌, subst, ⊎_elim, take, drop, arith}
+use Rattle.std.proofs.Common.{◌≡◌, ◌∙◌, sym, refl, ap, ap₂, map, ℕ, ◌+◌, ◌≤◌, Bool, true, false, not, cond, ◌&&◌, ◌||◌, List, [], ◌∷◌, ◌++◌, codes, inl, inr, ◌⊎◌, subst, ⊎_elim, take, drop, arith}
 use Rattle.std.specs.Prelude.{count_by, nat_le, nat_eq}
 use Rattle.std.specs.List.{AllByRecursion, list_all, starts_with}
 use Rattle.std.specs.Str.{bytes_eq}
 use Rattle.std.proofs.lemmas.Bool.{and_parts, le-leb, leb-true}
 use Rattle.std.proofs.lemmas.List.{take-append-drop}
+use Rattle.std.proofs.lemmas.List.Folds.{list_all-map}
 use Rattle.std.proofs.lemmas.List.Sums.{sum_by-cons}
 use Rattle.std.proofs.lemmas.Slice.Eq.{bytes_eq-Decides}
 use Rattle.chw_words.specs.Commands.{is_option}
@@ -102,3 +103,24 @@ pub form_test : (words : List (List ℕ)) → Form words → has_form words ≡ 
 form_test words h =
     let parts = form_count words h in
     ap (λ b. b && list_all may_stand words) (le-leb (option_count words) 1 parts.0) ∙ parts.1
+
+-- ---- the words as texts
+
+count_of_texts : {X : Type 0} (p : List ℕ → Bool) (text : X → List ℕ) (xs : List X) → count_by p (map text xs) ≡ count_by (λ x. p (text x)) xs
+count_of_texts p text [] = refl
+count_of_texts p text (x ∷ xs) =
+    sum_by-cons (λ w. cond (p w) 1 0) (text x) (map text xs)
+    ∙ ap (λ n. cond (p (text x)) 1 0 + n) (count_of_texts p text xs)
+    ∙ sym (sum_by-cons (λ y. cond (p (text y)) 1 0) x xs)
+
+-- the test of texts is that of their words
+pub has_form_of_texts : {X : Type 0} (text : X → List ℕ) (xs : List X)
+    → (nat_le (count_by (λ x. is_option (text x)) xs) 1 && list_all (λ x. may_stand (text x)) xs) ≡ has_form (map text xs)
+has_form_of_texts text xs =
+    ap₂ (λ n b. nat_le n 1 && b) (sym (count_of_texts is_option text xs)) (sym (list_all-map may_stand text xs))
+
+-- so they are where few of them are options
+pub few_options : {X : Type 0} (text : X → List ℕ) (xs : List X) (b : Bool) → count_by (λ x. is_option (text x)) xs ≤ 1
+    → b ≡ list_all (λ x. may_stand (text x)) xs → b ≡ has_form (map text xs)
+few_options text xs b few is =
+    is ∙ sym (ap (λ it. it && list_all (λ x. may_stand (text x)) xs) (le-leb (count_by (λ x. is_option (text x)) xs) 1 few)) ∙ has_form_of_texts text xs

@@ -4,6 +4,7 @@ pub mod Commands
 pub mod EmitWords
 pub mod Exactly
 pub mod Forms
+pub mod Lifting
 pub mod MakeWords
 pub mod Matched
 pub mod OneCommand
@@ -13,4 +14,5 @@ pub mod Passes
 pub mod RunWords
 pub mod Shapes
 pub mod SimulateWords
+pub mod Splitting
 pub mod Walks

@@ -7,6 +7,7 @@ use Rattle.clap.specs.Walk.{Row, Text, first_of}
 use Rattle.chw_words.specs.Parsing.{AreBudgeted, BudgetIs, HaveTaps, IsMatched, check, emit, make, normalise, run, simulate}
 use Rattle.chw_words.specs.declared.budget.TheConstants.{DEFAULT_BUDGET}
 use Rattle.chw_words.specs.declared.command.Command.{Command}
+use Rattle.chw_words.specs.declared.command.SimForm.TheVariants.{Lines}
 use Rattle.chw_words.specs.declared.command.Command.TheVariants.{Emit, Simulate, Check, Normalise, Run, Make}
 
 -- ---- the command, as a function of what is matched
@@ -25,7 +26,7 @@ abbrev command_in : Option (Text × List Row) → Command
 command_in None = Make 0
 command_in (Some p) =
     if bytes_eq p.0 (codes "emit") then Emit (text_in (codes "file") p.1) (budget_in p.1)
-    else (if bytes_eq p.0 (codes "simulate") then Simulate (text_in (codes "file") p.1) (text_in (codes "stimulus") p.1) (budget_in p.1)
+    else (if bytes_eq p.0 (codes "simulate") then Simulate (text_in (codes "file") p.1) (text_in (codes "stimulus") p.1) (budget_in p.1) Lines
     else (if bytes_eq p.0 (codes "check") then Check (text_in (codes "file") p.1)
     else (if bytes_eq p.0 (codes "normalise") then Normalise (text_in (codes "file") p.1) (budget_in p.1)
     else (if bytes_eq p.0 (codes "run") then Run (text_in (codes "verilog") p.1) (text_in (codes "stimulus") p.1)
@@ -44,8 +45,8 @@ budget_in_is rows file n b = budget_value_is (first_of (codes "budget") rows) n 
 command_in_is : (m : Option (Text × List Row)) (c : Command) → IsMatched m c → command_in m ≡ c
 command_in_is _ _ (emit rows file n b) = ap₂ (λ x y. Emit x y) (text_is (codes "file") rows file b.is_file) (budget_in_is rows file n b)
 command_in_is _ _ (simulate rows file stimulus n b s) =
-    ap₂ (λ x y. Simulate x (text_in (codes "stimulus") rows) y) (text_is (codes "file") rows file b.is_file) (budget_in_is rows file n b)
-    ∙ ap (λ x. Simulate file x n) (text_is (codes "stimulus") rows stimulus s)
+    ap₂ (λ x y. Simulate x (text_in (codes "stimulus") rows) y Lines) (text_is (codes "file") rows file b.is_file) (budget_in_is rows file n b)
+    ∙ ap (λ x. Simulate file x n Lines) (text_is (codes "stimulus") rows stimulus s)
 command_in_is _ _ (check rows file f) = ap (λ x. Check x) (text_is (codes "file") rows file f)
 command_in_is _ _ (normalise rows file n b) = ap₂ (λ x y. Normalise x y) (text_is (codes "file") rows file b.is_file) (budget_in_is rows file n b)
 command_in_is _ _ (run rows verilog stimulus v s) =
@@ -60,7 +61,7 @@ one_matched m a b x y = sym (command_in_is m a x) ∙ command_in_is m b y
 
 abbrev Have : Command → List Row → Type 0
 Have (Emit file budget) rows = AreBudgeted rows file budget
-Have (Simulate file stimulus budget) rows = AreBudgeted rows file budget × (first_of (codes "stimulus") rows ≡ Some stimulus)
+Have (Simulate file stimulus budget form) rows = AreBudgeted rows file budget × (first_of (codes "stimulus") rows ≡ Some stimulus)
 Have (Check file) rows = first_of (codes "file") rows ≡ Some file
 Have (Normalise file budget) rows = AreBudgeted rows file budget
 Have (Run verilog stimulus) rows = (first_of (codes "verilog") rows ≡ Some verilog) × (first_of (codes "stimulus") rows ≡ Some stimulus)
@@ -88,7 +89,7 @@ emit_only rows c m =
 
 pub simulate_only : (rows : List Row) (c : Command) → IsMatched (Some (codes "simulate", rows)) c
     → (file : Text) × (stimulus : Text) × (budget : ℕ) × AreBudgeted rows file budget × (first_of (codes "stimulus") rows ≡ Some stimulus)
-    × (c ≡ Simulate file stimulus budget)
+    × (c ≡ Simulate file stimulus budget Lines)
 simulate_only rows c m =
     let have = have_found (codes "simulate") rows c m in (
       text_in (codes "file") rows,

@@ -1,4 +1,4 @@
--- The words of a command pass the test, and `clap` reads them as it.
+-- The words of a command, without flags, pass the test, and `clap` reads them as it.
 use Rattle.std.proofs.Common.{◌≡◌, ◌∙◌, sym, refl, ℕ, List, [], ◌∷◌, Some, codes, inl, subst}
 use Rattle.std.specs.Char.{encode_utf8}
 use Rattle.std.specs.List.{All}
@@ -7,10 +7,11 @@ use Rattle.std.proofs.lemmas.List.Elements.{All-cons, All-nil}
 use Rattle.clap.specs.Walk.{Row, Text, rows_after}
 use Rattle.clap.specs.Simple.{subcommand_of}
 use Rattle.clap.specs.Faults.{fault_of}
-use Rattle.chw_words.specs.Commands.{IsCommand, check, emit, make, normalise, run, simulate}
+use Rattle.chw_words.specs.Splitting.{IsUnflagged, check, emit, make, normalise, run, simulate}
 use Rattle.chw_words.specs.Parsing.{AreBudgeted, BudgetIs, IsMatched, chw_app, check as check_matched, emit as emit_matched, make as make_matched, normalise as normalise_matched, run as run_matched, simulate as simulate_matched}
 use Rattle.chw_words.specs.declared.command.Command.{Command}
 use Rattle.chw_words.specs.declared.command.Command.TheVariants.{Emit, Simulate, Check, Normalise, Run, Make}
+use Rattle.chw_words.specs.declared.command.SimForm.TheVariants.{Lines}
 use Rattle.chw_words.proofs.Shapes.{Form, IsPlain, check_shape, emit_shape, make_shape, run_shape, simulate_shape, start}
 use Rattle.chw_words.proofs.BudgetWords.{Read, plain_form, plain_number, read_form, text_number, with_budget, word_texts}
 use Rattle.chw_words.proofs.EmitWords.{emit_read}
@@ -57,16 +58,16 @@ normalise_passes words file budget r p =
     (normalise_matched (rows_after emit_shape.rules [] words) file budget (b.1))
 
 simulate_passes : (words : List Text) (file stimulus : Text) (budget : ℕ) → Read words (file ∷ stimulus ∷ []) budget → IsPlain file → IsPlain stimulus
-    → Passes (codes "simulate" ∷ words) (Simulate file stimulus budget)
+    → Passes (codes "simulate" ∷ words) (Simulate file stimulus budget Lines)
 simulate_passes words file stimulus budget r p q =
     let read = simulate_read words (file ∷ stimulus ∷ []) file stimulus (r.0) (r.1) refl p q in
     let b : AreBudgeted (rows_after simulate_shape.rules [] words) file budget =
     record { is_file = read.file; is_budget = subst (λ o. BudgetIs o budget) (sym read.budget) (r.2) } in
-    passes_by (codes "simulate") words (Simulate file stimulus budget) (rows_after simulate_shape.rules [] words)
+    passes_by (codes "simulate") words (Simulate file stimulus budget Lines) (rows_after simulate_shape.rules [] words)
     (inl (refl, read_form words (file ∷ stimulus ∷ []) (r.0) (r.1) (p, (q, tt)))) (simulate_fault words ∙ read.faultless) (simulate_subcommand words)
     (simulate_matched (rows_after simulate_shape.rules [] words) file stimulus budget b read.stimulus)
 
-pub passes : (words : List Text) (command : Command) → IsCommand words command → Passes words command
+pub passes : (words : List Text) (command : Command) → IsUnflagged words command → Passes words command
 passes _ _ (emit words file budget f w) = emit_passes words file budget (with_budget words (file ∷ []) budget w) f.no_option
 passes _ _ (normalise words file budget f w) = normalise_passes words file budget (with_budget words (file ∷ []) budget w) f.no_option
 passes _ _ (simulate words file stimulus budget f g w) =
@@ -119,7 +120,7 @@ one_text x t = All-cons IsUtf8 x [] t (All-nil IsUtf8)
 two_texts : (x y : Text) → IsUtf8 x → IsUtf8 y → All IsUtf8 (x ∷ y ∷ [])
 two_texts x y t u = All-cons IsUtf8 x (y ∷ []) t (one_text y u)
 
-pub are_texts : (words : List Text) (command : Command) → IsCommand words command → All IsUtf8 words
+pub are_texts : (words : List Text) (command : Command) → IsUnflagged words command → All IsUtf8 words
 are_texts _ _ (emit words file budget f w) =
     let r = with_budget words (file ∷ []) budget w in
     All-cons IsUtf8 (codes "emit") words emit_text (word_texts words (file ∷ []) (r.0) budget (r.1) (r.2) (one_text file f.text))

@@ -2,9 +2,11 @@
 use Rattle.std.specs.Prelude.{◌≡◌, ◌≤◌, ℕ, Bool, false, ◌==◌, List, [], ◌∷◌, ◌++◌, length, codes}
 use Rattle.std.specs.Str.{IsUtf8}
 use Rattle.std.specs.Str.Parse.{IsNumeral, digits_value}
+use Rattle.chw_words.specs.Flags.{HasFlags, IsSimForm, simulate_flags}
 use Rattle.chw_words.specs.declared.command.Command.{Command}
 use Rattle.chw_words.specs.declared.command.Command.TheVariants.{Emit, Simulate, Check}
 use Rattle.chw_words.specs.declared.command.Command.TheVariants.{Normalise, Run, Make}
+use Rattle.chw_words.specs.declared.command.SimForm.{SimForm}
 use Rattle.chw_words.specs.declared.budget.TheConstants.{BUDGET_DIGITS, DEFAULT_BUDGET, MOST_BUDGET}
 use Rattle.chw_words.specs.declared.taps.TheConstants.{MOST_TAPS, TAP_DIGITS}
 
@@ -57,10 +59,11 @@ pub data IsCommand : List (List ℕ) → Command → Type 0 where
   emit : (words : List (List ℕ)) (file : List ℕ) (budget : ℕ) → IsFile file
       → AreWithBudget words (file ∷ []) budget
       → IsCommand (codes "emit" ∷ words) (Emit file budget)
-  -- `simulate FILE STIM`, with a budget
-  simulate : (words : List (List ℕ)) (file stimulus : List ℕ) (budget : ℕ) → IsFile file
-      → IsFile stimulus → AreWithBudget words (file ∷ stimulus ∷ []) budget
-      → IsCommand (codes "simulate" ∷ words) (Simulate file stimulus budget)
+  -- `simulate FILE STIM`, with a budget, and with the flags of a form
+  simulate : (words rest found : List (List ℕ)) (file stimulus : List ℕ) (budget : ℕ)
+      (form : SimForm) → HasFlags simulate_flags words rest found → IsSimForm found form
+      → IsFile file → IsFile stimulus → AreWithBudget rest (file ∷ stimulus ∷ []) budget
+      → IsCommand (codes "simulate" ∷ words) (Simulate file stimulus budget form)
   -- `check FILE`
   check : (file : List ℕ) → IsFile file → IsCommand (codes "check" ∷ file ∷ []) (Check file)
   -- `normalise FILE`, with a budget

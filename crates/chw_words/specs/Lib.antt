@@ -1,3 +1,5 @@
 pub mod Commands
+pub mod Flags
 pub mod Form
 pub mod Parsing
+pub mod Splitting

@@ -9,6 +9,7 @@ use Rattle.chw_words.specs.Commands.{IsBudget, IsTaps}
 use Rattle.chw_words.specs.declared.command.Command.{Command}
 use Rattle.chw_words.specs.declared.command.Command.TheVariants.{Emit, Simulate, Check}
 use Rattle.chw_words.specs.declared.command.Command.TheVariants.{Normalise, Run, Make}
+use Rattle.chw_words.specs.declared.command.SimForm.TheVariants.{Lines}
 use Rattle.chw_words.specs.declared.budget.TheConstants.{DEFAULT_BUDGET}
 
 -- a word that stands for this, at its place among the words
@@ -83,13 +84,14 @@ pub record HaveTaps (rows : List Row) (taps : ℕ) : Type 0 where
   pub is_word : first_of (codes "taps") rows ≡ Some word
   pub are_taps : IsTaps word taps
 
--- the subcommand that was matched, with its rows, is this command
+-- the subcommand that was matched, with its rows, is this command, in the form that no flag asks
+-- for
 pub data IsMatched : Option (Text × List Row) → Command → Type 0 where
   emit : (rows : List Row) (file : Text) (budget : ℕ) → AreBudgeted rows file budget
       → IsMatched (Some (codes "emit", rows)) (Emit file budget)
   simulate : (rows : List Row) (file stimulus : Text) (budget : ℕ) → AreBudgeted rows file budget
       → first_of (codes "stimulus") rows ≡ Some stimulus
-      → IsMatched (Some (codes "simulate", rows)) (Simulate file stimulus budget)
+      → IsMatched (Some (codes "simulate", rows)) (Simulate file stimulus budget Lines)
   normalise : (rows : List Row) (file : Text) (budget : ℕ) → AreBudgeted rows file budget
       → IsMatched (Some (codes "normalise", rows)) (Normalise file budget)
   check : (rows : List Row) (file : Text) → first_of (codes "file") rows ≡ Some file

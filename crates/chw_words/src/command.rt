@@ -3,6 +3,15 @@
 use chw_base::Name;
 use thiserror::Error;
 
+/// In which form a simulation is written.
+#[derive(Clone, Copy, Debug, PartialEq, Eq)]
+pub enum SimForm {
+    /// The outputs at each event, one line for each.
+    Lines,
+    /// The waves of clocks, resets, inputs and outputs.
+    Waves,
+}
+
 /// A command of the program.
 #[derive(Debug, Drop)]
 pub enum Command {
@@ -11,11 +20,13 @@ pub enum Command {
         file: Name,
         budget: u32,
     },
-    /// To simulate the description in a file by a stimulus, with at most so many rewrites, and to write its outputs at each event.
+    /// To simulate the description in a file by a stimulus, with at most so many rewrites, and to
+    /// write what comes of it in this form.
     Simulate {
         file: Name,
         stimulus: Name,
         budget: u32,
+        form: SimForm,
     },
     /// To write the canonical text of the description in a file.
     Check {

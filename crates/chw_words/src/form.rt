@@ -36,25 +36,27 @@ fn is_budget_option(word: &[u8]) -> bool
 }
 
 // How many words begin with `-`.
-fn option_count(words: &[Name]) -> usize
-    ensures { result ≡ count_by begins_with_minus words.now }
+fn option_count(words: &[&str]) -> usize
+    ensures { result ≡ count_by (λ s. begins_with_minus s.now) words.now }
 {
     words
         .iter()
-        .filter(|word| is_option(word.as_slice()))
+        .filter(|word| is_option(word.as_bytes()))
         .count()
 }
 
 // Whether no word begins with `-` but a budget's.
-fn are_budget_options(words: &[Name]) -> bool
-    ensures { result ≡ list_all (λ word. not (begins_with_minus word) || is_budget_word word) words.now }
+fn are_budget_options(words: &[&str]) -> bool
+    ensures { result
+        ≡ list_all (λ s. not (begins_with_minus s.now) || is_budget_word s.now) words.now }
 {
-    words.iter().all(|word| !is_option(word.as_slice()) || is_budget_option(word.as_slice()))
+    words.iter().all(|word| !is_option(word.as_bytes()) || is_budget_option(word.as_bytes()))
 }
 
 /// Whether at most one word begins with `-`, and only a budget's.
-pub(crate) fn has_form(words: &[Name]) -> bool
-    ensures { result ≡ words_have_form words.now }
+#[tactic(auto, using(crate::proofs::Forms::has_form_of_texts))]
+pub(crate) fn has_form(words: &[&str]) -> bool
+    ensures { result ≡ words_have_form (map (λ s. s.now) words.now) }
 {
     option_count(words) <= 1 && are_budget_options(words)
 }

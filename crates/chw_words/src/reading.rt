@@ -1,5 +1,5 @@
 //! The command that the words are.
-ghost use Rattle.std.specs.Prelude.{◌≡◌, ℕ, false, IfOk, MatchOption, codes, option_map};
+ghost use Rattle.std.specs.Prelude.{◌≡◌, ℕ, false, IfOk, MatchOption, codes, map, option_map};
 ghost use Rattle.chw_base.specs.Outcome.{IfFault, OfFault};
 ghost use Rattle.clap.specs.Matches.{found_of};
 ghost use Rattle.clap.specs.Walk.{Text, rows_of};
@@ -7,10 +7,14 @@ ghost use Rattle.clap.specs.Words.{app_of, kind_of, rule_of, subcommand_rows_of}
 ghost use Rattle.clap.specs.declared.builder.command.Command.TheViews.{out-Command as fields_of};
 ghost use Rattle.clap.specs.declared.error.kind.ErrorKind.TheVariants.{OutOfMemory};
 ghost use Rattle.chw_words.specs.Commands.{AreNoCommand, IsCommand};
+ghost use Rattle.chw_words.specs.Form.{AreTexts};
 ghost use Rattle.chw_words.specs.Parsing.{AreBudgeted, BudgetIs, IsMatched, IsNoneMatched, budget_rule, budgeted_app, check_app, chw_app, compiling_app, descriptions_app, make_app, matched_under, run_app, simulate_app, word_rule};
+ghost use Rattle.chw_words.specs.Splitting.{AreNoneUnflagged, IsFormed, IsUnflagged, IsUnformed};
+ghost use Rattle.chw_words.specs.Splitting.{in_form};
 
 use crate::budget::{DEFAULT_BUDGET, read_budget};
-use crate::command::{Command, WordsFault};
+use crate::command::{Command, SimForm, WordsFault};
+use crate::flags::{Split, sim_form, split_flags};
 use crate::form::{has_form, texts};
 use crate::taps::read_taps;
 use chw_base::{Name, NoMemory, Or};
@@ -177,6 +181,7 @@ fn simulate(alloc: Global, matches: &ArgMatches) -> Result<Command, Or<WordsFaul
         file,
         stimulus: name(alloc, events)?,
         budget,
+        form: SimForm::Lines,
     })
 }
 
@@ -252,6 +257,71 @@ fn reading(alloc: Global, matches: &ArgMatches) -> Result<Command, Or<WordsFault
     }
 }
 
+// The command that the words are, none of which is a flag.
+fn read_unflagged(alloc: Global, words: &[&str]) -> Result<Command, Or<WordsFault>>
+    requires { AreTexts (map (λ s. s.now) words.now) }
+    ensures command { IfOk result (IsUnflagged (map (λ s. s.now) words.now)) }
+    ensures fault { IfFault result (λ _. AreNoneUnflagged (map (λ s. s.now) words.now)) }
+{
+    if !has_form(words) {
+        return Err(Or::Fault(WordsFault));
+    }
+    match parser(alloc)?.try_get_matches_from(words) {
+        Ok(matches) => reading(alloc, &matches),
+        Err(error) => Err(refusal(&error)),
+    }
+}
+
+// The command in this form, where it has forms.
+fn in_form(command: Command, form: SimForm) -> Command
+    ensures { result ≡ in_form form command }
+{
+    match command {
+        Command::Simulate {
+            file,
+            stimulus,
+            budget,
+            form: _,
+        } => Command::Simulate {
+            file,
+            stimulus,
+            budget,
+            form,
+        },
+        other => other,
+    }
+}
+
+// The command that words are that were taken apart.
+fn read_split(alloc: Global, split: &Split<'_>) -> Result<Command, Or<WordsFault>>
+    requires { AreTexts (map (λ s. s.now) split.now.rest.items) }
+    ensures command { IfOk result (IsFormed (map (λ s. s.now) split.now.rest.items)
+        (map (λ s. s.now) split.now.found.items)) }
+    ensures fault { IfFault result (λ _. IsUnformed (map (λ s. s.now) split.now.rest.items)
+        (map (λ s. s.now) split.now.found.items)) }
+{
+    let Some(form) = sim_form(split.found.as_slice()) else {
+        return Err(Or::Fault(WordsFault));
+    };
+    let command = read_unflagged(alloc, split.rest.as_slice())?;
+    Ok(in_form(command, form))
+}
+
+// The command that the words are, of which the first names it.
+fn read_texts(alloc: Global, words: &[&str]) -> Result<Command, Or<WordsFault>>
+    requires { AreTexts (map (λ s. s.now) words.now) }
+    ensures command { IfOk result (IsCommand (map (λ s. s.now) words.now)) }
+    ensures fault { IfFault result (λ _. AreNoCommand (map (λ s. s.now) words.now)) }
+{
+    let Some((command, others)) = words.split_first() else {
+        return Err(Or::Fault(WordsFault));
+    };
+    let split = split_flags(alloc, *command, others)?;
+    let outcome = read_split(alloc, &split);
+    drop(split);
+    outcome
+}
+
 /// The command that the words are. They don't hold the program's own name.
 ///
 /// `WordsFault` comes where the words are no command.
@@ -262,11 +332,5 @@ pub fn read_words(alloc: Global, words: &[Name]) -> Result<Command, Or<WordsFaul
     let Some(texts) = texts(alloc, words)? else {
         return Err(Or::Fault(WordsFault));
     };
-    if !has_form(words) {
-        return Err(Or::Fault(WordsFault));
-    }
-    match parser(alloc)?.try_get_matches_from(texts.as_slice()) {
-        Ok(matches) => reading(alloc, &matches),
-        Err(error) => Err(refusal(&error)),
-    }
+    read_texts(alloc, texts.as_slice())
 }

@@ -1,0 +1,103 @@
+//! The flags among the words of a command.
+ghost use Rattle.std.specs.Prelude.{◌≡◌, ℕ, false, List, ◌∷◌, ◌++◌, map, codes};
+ghost use Rattle.std.specs.Prelude.{IfOk, OnOk, MatchOption};
+ghost use Rattle.std.specs.Str.{bytes_eq};
+ghost use Rattle.chw_words.specs.Flags.{IsSimForm, is_flag as is_flag_of};
+ghost use Rattle.chw_words.specs.Splitting.{flags_of, found_from, rest_from};
+ghost use Rattle.chw_words.specs.declared.command.SimForm.{SimForm};
+
+use crate::command::SimForm;
+use chw_base::NoMemory;
+use std::alloc::Global;
+
+/// Words without their flags, and the flags.
+#[derive(Drop)]
+pub(crate) struct Split<'a> {
+    pub(crate) rest: Vec<&'a str>,
+    pub(crate) found: Vec<&'a str>,
+    // Whether the last word of the rest is a `--budget` that wants a value.
+    behind: bool,
+}
+
+// Whether the word is a flag of the command of this name.
+fn is_flag(command: &str, word: &str) -> bool
+    ensures { result ≡ is_flag_of (flags_of command.now) word.now }
+{
+    command.as_bytes() == "simulate".as_bytes() && word.as_bytes() == "--vcd".as_bytes()
+}
+
+// Whether a value is wanted behind the word.
+fn wants_value(word: &str) -> bool
+    ensures { result ≡ bytes_eq word.now (codes "--budget") }
+{
+    word.as_bytes() == "--budget".as_bytes()
+}
+
+impl<'a> Split<'a> {
+    // Takes the next word.
+    fn put(&mut self, command: &str, word: &'a str) -> Result<(), NoMemory>
+        ensures rest { OnOk result ((words : List (List ℕ))
+            → map (λ s. s.now) self.new.rest.items
+            ++ rest_from (flags_of command.now) self.new.behind words
+            ≡ map (λ s. s.now) self.old.rest.items
+            ++ rest_from (flags_of command.now) self.old.behind (word.now ∷ words)) }
+        ensures found { OnOk result ((words : List (List ℕ))
+            → map (λ s. s.now) self.new.found.items
+            ++ found_from (flags_of command.now) self.new.behind words
+            ≡ map (λ s. s.now) self.old.found.items
+            ++ found_from (flags_of command.now) self.old.behind (word.now ∷ words)) }
+    {
+        if self.behind {
+            self.behind = false;
+            self.rest.push(word)?;
+            return Ok(());
+        }
+        if is_flag(command, word) {
+            self.found.push(word)?;
+            return Ok(());
+        }
+        self.behind = wants_value(word);
+        self.rest.push(word)?;
+        Ok(())
+    }
+}
+
+/// The word of a command and those behind it, taken apart.
+pub(crate) fn split_flags<'a>(
+    alloc: Global,
+    command: &'a str,
+    words: &[&'a str],
+) -> Result<Split<'a>, NoMemory>
+    ensures rest { IfOk result (λ it. map (λ s. s.now) it.rest.items
+        ≡ command.now ∷ rest_from (flags_of command.now) false (map (λ s. s.now) words.now)) }
+    ensures found { IfOk result (λ it. map (λ s. s.now) it.found.items
+        ≡ found_from (flags_of command.now) false (map (λ s. s.now) words.now)) }
+{
+    let mut rest = Vec::new(alloc);
+    rest.push(command)?;
+    let mut split = Split {
+        rest,
+        found: Vec::new(alloc),
+        behind: false,
+    };
+    for word in words {
+        split.put(command, *word)?;
+    }
+    Ok(split)
+}
+
+/// The form of a simulation for which flags ask, where they ask for one.
+pub(crate) fn sim_form(found: &[&str]) -> Option<SimForm>
+    ensures { MatchOption result
+        ((form : SimForm) → IsSimForm (map (λ s. s.now) found.now) form → ⊥)
+        (IsSimForm (map (λ s. s.now) found.now)) }
+{
+    let Some((first, others)) = found.split_first() else {
+        return Some(SimForm::Lines);
+    };
+    if others.is_empty() && is_flag("simulate", first) {
+        Some(SimForm::Waves)
+    } else {
+        None
+    }
+}
