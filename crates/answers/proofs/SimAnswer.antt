@@ -4,6 +4,7 @@ pub mod Meant
 pub mod Once
 pub mod Pairs
 pub mod Parameters
+pub mod ReadBack
 pub mod Refusals
 pub mod Strangers
 pub mod Tops

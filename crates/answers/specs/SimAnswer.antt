@@ -1,4 +1,5 @@
 pub mod Laws
 pub mod Places
+pub mod ReadBack
 pub mod Simulation
 pub mod Types

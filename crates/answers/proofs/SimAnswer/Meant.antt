@@ -15,14 +15,16 @@ use Rattle.chw_meaning.specs.Values.{History}
 use Rattle.chw_meaning.proofs.Once.{same_some}
 use Rattle.layout_laws.specs.ZeroThere.{ZeroExists}
 use Rattle.net_means.specs.Outputs.{NetMeans}
-use Rattle.net_run.specs.Runs.{IsRun, OutputsAt}
+use Rattle.net_run.specs.Runs.{OutputsAt}
 use Rattle.net_run.specs.Runs.OutputsAt.{none, more}
 use Rattle.netlist.specs.NetValue.{NetValue, ReadValues}
 use Rattle.netlist.specs.NetValue.ReadValues.{read_none, read_and}
 use Rattle.netlist.specs.Sound.{Sound}
 use Rattle.netlist.specs.declared.net.Flat.{Flat}
+use Rattle.chw_words.specs.declared.command.SimForm.{SimForm}
 use Rattle.answers.specs.SimAnswer.Laws.{OutputsAreMeant}
 use Rattle.answers.specs.SimAnswer.Simulation.{AreMeant, HasInputs, HasValues, IsMeant, IsSimulation, IsStimulus, MeantAt, meant_at_none, meant_at_more}
+use Rattle.answers.specs.SimAnswer.Types.{ShowsRun}
 use Rattle.answers.proofs.SimAnswer.Histories.{history_fits, stimulus_fits}
 
 -- a wire has one value at a history
@@ -82,14 +84,15 @@ module _ (one : OneValue) (zeros : ZeroExists) (p : Program) (flat : Flat) (soun
   of_stimulus tidy text events outputs s shown =
       run_meant tidy flat.ports s.types s.has [] events outputs tt (stimulus_fits text flat.ports events s.read) tt s.values shown
 
-  -- the lines of a run on a stimulus of values are those of what the program means
-  pub simulated : IsTidy p → (text : List ℕ) (events : List Event) (lines : List ℕ) → IsStimulus p text flat.ports events → IsRun flat events lines → IsSimulation p text lines
-  simulated tidy text events lines s run = record {
+  -- the lines of a run on a stimulus of values are, in each form, those of what the program means
+  pub simulated : IsTidy p → (form : SimForm) (text : List ℕ) (events : List Event) (lines : List ℕ) → IsStimulus p text flat.ports events → ShowsRun form flat events lines
+      → IsSimulation p form text lines
+  simulated tidy form text events lines s run = record {
     ports = flat.ports;
     events = events;
     stimulus = s;
     outputs = run.outputs;
-    meant = of_stimulus tidy text events run.outputs s run.shown;
+    meant = of_stimulus tidy text events run.outputs s run.are_outputs;
     lines_are = run.text_is;
   }
 

@@ -11,10 +11,9 @@ use Rattle.chw_meaning.specs.Laws.{OneMeaning, OnePorts}
 use Rattle.chw_meaning.specs.Means.{IsPortAt}
 use Rattle.chw_meaning.specs.Values.{History}
 use Rattle.chw_meaning.proofs.Once.{same_some}
-use Rattle.stimulus.specs.Output.{Lines}
 use Rattle.stimulus.specs.Stimulus.{Stim}
 use Rattle.answers.specs.SimAnswer.Laws.{OneSimulation}
-use Rattle.answers.specs.SimAnswer.Simulation.{AreMeant, IsMeant, MeantAt, meant_at_none, meant_at_more}
+use Rattle.answers.specs.SimAnswer.Simulation.{AreMeant, IsMeant, MeantAt, meant_at_none, meant_at_more, shown}
 use Rattle.answers.proofs.SimAnswer.Tops.{port_at_once, top_once}
 
 abbrev pub OneStimulus : Type 0
@@ -50,10 +49,11 @@ module _ (means_once : OneMeaning) (encodes_once : OneEncoding) (p : Program) wh
       ap₂ (λ z zs. z ∷ zs) (outputs_once many (event ∷ past) a b x y) (all_once many (event ∷ past) events as' bs xs ys)
 
 pub one_simulation : OnePorts → OneMeaning → OneEncoding → OneStimulus → OneSimulation
-one_simulation ports_once means_once encodes_once once p text a b x y =
+one_simulation ports_once means_once encodes_once once p form text a b x y =
     let ports : y.ports ≡ x.ports = ports_once p y.ports x.ports y.stimulus.has.are_ports x.stimulus.has.are_ports in
     let events : y.events ≡ x.events = once text x.ports y.events x.events (subst (λ ps. Stim text ps y.events) ports y.stimulus.read) x.stimulus.read in
     let meant : MeantAt p (length x.ports.outputs) [] x.events y.outputs =
     subst (λ es. MeantAt p (length x.ports.outputs) [] es y.outputs) events (subst (λ (ps : Ports). MeantAt p (length ps.outputs) [] y.events y.outputs) ports y.meant) in
     let outputs : x.outputs ≡ y.outputs = all_once means_once encodes_once p (length x.ports.outputs) [] x.events x.outputs y.outputs x.meant meant in
-    x.lines_are ∙ ap (Lines x.ports x.events) outputs ∙ ap (λ es. Lines x.ports es y.outputs) (sym events) ∙ ap (λ ps. Lines ps y.events y.outputs) (sym ports) ∙ sym y.lines_are
+    x.lines_are ∙ ap (shown form x.ports x.events) outputs ∙ ap (λ es. shown form x.ports es y.outputs) (sym events) ∙ ap (λ ps. shown form ps y.events y.outputs) (sym ports)
+    ∙ sym y.lines_are

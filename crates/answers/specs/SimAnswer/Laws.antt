@@ -4,18 +4,25 @@ use Rattle.chw_clock.specs.declared.event.Event.{Event}
 use Rattle.chw_clock.specs.declared.event.Ports.{Ports}
 use Rattle.chw_terms.specs.Tidy.{IsTidy}
 use Rattle.chw_terms.specs.declared.program.Program.{Program}
+use Rattle.chw_terms.specs.declared.scene.Made.{Made}
+use Rattle.chw_typing.specs.Programs.{IsTyped}
 use Rattle.chw_meaning.specs.Means.{Fit}
 use Rattle.net_means.specs.Outputs.{NetMeans}
 use Rattle.net_run.specs.Runs.{OutputsAt}
 use Rattle.netlist.specs.Sound.{Sound}
 use Rattle.netlist.specs.declared.net.Flat.{Flat}
+use Rattle.chw_words.specs.declared.command.SimForm.{SimForm}
+use Rattle.chw_words.specs.declared.command.SimForm.TheVariants.{Waves}
+use Rattle.answers.specs.Compilation.Compiling.{EndsIn}
 use Rattle.answers.specs.SimAnswer.Simulation.{IsSimFault, IsSimulation, IsStimulus, MeantAt}
+use Rattle.answers.specs.SimAnswer.ReadBack.{IsWaveOf}
 use Rattle.answers.specs.declared.sim_answer.fault.SimFault.{SimFault}
 
--- a program and a text have at most one simulation
+-- a program and a text have at most one simulation in a form
 abbrev pub OneSimulation : Type 0
 OneSimulation =
-    (p : Program) (text a b : List ℕ) → IsSimulation p text a → IsSimulation p text b → a ≡ b
+    (p : Program) (form : SimForm) (text a b : List ℕ)
+    → IsSimulation p form text a → IsSimulation p form text b → a ≡ b
 
 -- a program means one list of outputs at events, behind a past
 abbrev pub OneMeant : Type 0
@@ -50,3 +57,10 @@ OutputsAreMeant =
     (outputs : List (List (List Bool)))
     → IsTidy p → Sound flat → NetMeans p flat → IsStimulus p text flat.ports events
     → OutputsAt flat [] events outputs → MeantAt p (length flat.ports.outputs) [] events outputs
+
+-- the waves of a program whose run ends are read back as those of what it means
+abbrev pub WavesAreRead : Type 0
+WavesAreRead =
+    (p : Program) (budget : ℕ) (state : List Made) (text lines : List ℕ)
+    → IsTidy p → IsTyped p → EndsIn p budget state → IsSimulation p Waves text lines
+    → IsWaveOf p text lines

@@ -14,10 +14,13 @@ use Rattle.chw_layout.specs.Measured.{HasWidth}
 use Rattle.data_forms.specs.Forms.{IsEncoding}
 use Rattle.chw_meaning.specs.Means.{HasPorts, Means}
 use Rattle.chw_meaning.specs.Values.{History}
+use Rattle.chw_words.specs.declared.command.SimForm.{SimForm}
+use Rattle.chw_words.specs.declared.command.SimForm.TheVariants as sim_form
 use Rattle.stimulus.specs.Output.{Lines}
 use Rattle.stimulus.specs.Stimulus.{IsStimFault, Stim, event_of}
 use Rattle.stimulus.specs.Texts.{lines_of}
 use Rattle.stimulus.specs.declared.fault.StimFault.{StimFault}
+use Rattle.waves.specs.Vcd.{Vcd}
 use Rattle.answers.specs.declared.sim_answer.fault.SimFault.{SimFault}
 use Rattle.answers.specs.declared.sim_answer.fault.SimFault.TheVariants.{Stimulus, Value}
 
@@ -79,15 +82,20 @@ pub data MeantAt (p : Program) (many : ℕ)
       → MeantAt p many (event ∷ past) events others
       → MeantAt p many past (event ∷ events) (outputs ∷ others)
 
--- the lines are those of the events of the text, each with the bits of what the program means at
--- the outputs there
-pub record IsSimulation (p : Program) (text lines : List ℕ) : Type 0 where
+-- events, each with the outputs there, in this form: as lines, or as waves
+abbrev pub shown : SimForm → Ports → List Event → List (List (List Bool)) → List ℕ
+shown sim_form.Lines ports events outputs = Lines ports events outputs
+shown sim_form.Waves ports events outputs = Vcd ports events outputs
+
+-- the lines are, in this form, those of the events of the text, each with the bits of what the
+-- program means at the outputs there
+pub record IsSimulation (p : Program) (form : SimForm) (text lines : List ℕ) : Type 0 where
   pub ports : Ports
   pub events : List Event
   pub stimulus : IsStimulus p text ports events
   pub outputs : List (List (List Bool))
   pub meant : MeantAt p (length ports.outputs) [] events outputs
-  pub lines_are : lines ≡ Lines ports events outputs
+  pub lines_are : lines ≡ shown form ports events outputs
 
 -- the text is a stimulus for the program's ports, and this is its first line, counted from 1, of
 -- which the inputs aren't encodings of values of their types. A line that stands for many events

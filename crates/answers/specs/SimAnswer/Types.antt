@@ -1,5 +1,5 @@
 -- What the code keeps of the types of a program's inputs, and of the widths of their bits.
-use Rattle.std.specs.Prelude.{◌≡◌, ℕ, Bool, List, ◌++◌, length, take, Some, slice_get}
+use Rattle.std.specs.Prelude.{◌≡◌, ℕ, Bool, List, [], ◌++◌, length, take, Some, slice_get}
 use Rattle.std.specs.List.{AllByRecursion}
 use Rattle.chw_clock.specs.declared.event.Event.{Event}
 use Rattle.chw_clock.specs.declared.event.Ports.{Ports}
@@ -10,7 +10,10 @@ use Rattle.type_ports.specs.declared.ports.Leaf.{Leaf}
 use Rattle.chw_terms.specs.declared.program.Program.{Program}
 use Rattle.chw_layout.specs.Measured.{HasWidth}
 use Rattle.chw_meaning.specs.Means.{HasPorts, LeadsFrom}
-use Rattle.answers.specs.SimAnswer.Simulation.{AllPairs, HasInputs, HasValues, TypesOf}
+use Rattle.chw_words.specs.declared.command.SimForm.{SimForm}
+use Rattle.net_run.specs.Runs.{OutputsAt}
+use Rattle.netlist.specs.declared.net.Flat.{Flat}
+use Rattle.answers.specs.SimAnswer.Simulation.{AllPairs, HasInputs, HasValues, TypesOf, shown}
 
 -- the type has a width
 abbrev pub IsMeasured : List Data → TypeTree → Type 0
@@ -74,3 +77,10 @@ pub record IsFirstStranger (datas : List Data) (types : List TypeTree) (events :
   pub is_event : slice_get events place ≡ Some event
   pub values : AllByRecursion (HasValues datas types) (take place events)
   pub cause : ¬ HasValues datas types event
+
+-- the text has the events in this form, with the outputs of the flat net at each of them
+pub record ShowsRun (form : SimForm) (flat : Flat) (events : List Event) (text : List ℕ)
+    : Type 0 where
+  pub outputs : List (List (List Bool))
+  pub are_outputs : OutputsAt flat [] events outputs
+  pub text_is : text ≡ shown form flat.ports events outputs

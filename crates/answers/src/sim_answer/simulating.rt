@@ -1,12 +1,16 @@
 //! The lines of a program that is simulated by a stimulus.
-ghost use Rattle.std.specs.Prelude.{IfOk, OnOk};
+ghost use Rattle.std.specs.Prelude.{◌≤◌, length, IfOk, OnOk};
+ghost use Rattle.std.specs.List.{AllByRecursion};
 ghost use Rattle.chw_base.specs.Outcome.{IfFault};
+ghost use Rattle.chw_base.specs.declared.limits.TheConstants.{EVENTS};
+ghost use Rattle.chw_clock.specs.Histories.{FitsEvent};
 ghost use Rattle.chw_meaning.specs.Means.{HasPorts};
 ghost use Rattle.chw_terms.specs.Tidy.{IsTidy};
 ghost use Rattle.net_means.specs.Outputs.{NetMeans};
 ghost use Rattle.netlist.specs.Orders.{IsOrder};
 ghost use Rattle.netlist.specs.Sound.{Sound};
 ghost use Rattle.answers.specs.SimAnswer.Simulation.{IsSimFault, IsSimulation, IsStimulus};
+ghost use Rattle.answers.specs.SimAnswer.Types.{ShowsRun};
 ghost use Rattle.stimulus.specs.Stimulus.{Stim};
 
 use crate::sim_answer::fault::SimFault;
@@ -17,8 +21,9 @@ use chw_base::{NoMemory, Or, Seq};
 use chw_clock::{Event, Ports};
 use chw_terms::Program;
 use chw_typing::named_laws::data_types_in_order;
+use chw_words::SimForm;
 use layout_laws::laws::zero_exists;
-use net_run::run;
+use net_run::{run, run_waves};
 use netlist::laws::a_wire_has_one_value;
 use netlist::{Flat, Order};
 use std::alloc::Global;
@@ -89,7 +94,28 @@ pub fn events_of(
     Ok(events)
 }
 
-/// The lines of what a program means at the events of a stimulus, as its flat net has them.
+/// The outputs of a flat net at events, in this form.
+fn run_in(
+    alloc: Global,
+    form: SimForm,
+    flat: &Flat,
+    order: &Order,
+    events: &[Event],
+) -> Result<Vec<u8>, NoMemory>
+    requires sound { Sound flat.now }
+    requires order { IsOrder flat.now order.now.cells }
+    requires fit { AllByRecursion (FitsEvent flat.now.ports) events.now }
+    requires few { length events.now ≤ EVENTS }
+    ensures { IfOk result (λ text. ShowsRun form flat.now events.now text.items) }
+{
+    match form {
+        SimForm::Lines => run(alloc, flat, order, events),
+        SimForm::Waves => run_waves(alloc, flat, order, events),
+    }
+}
+
+/// The lines, in a form, of what a program means at the events of a stimulus, as its flat net has
+/// them.
 ///
 /// A text that is no stimulus for the program's ports is refused by its first line that isn't taken; any other by its first line
 /// with bits that encode no value of their input's type.
@@ -99,16 +125,17 @@ pub fn lines_of(
     flat: &Flat,
     order: &Order,
     text: &[u8],
+    form: SimForm,
 ) -> Result<Vec<u8>, Or<SimFault>>
     requires tidy { IsTidy program.now }
     requires sound { Sound flat.now }
     requires order { IsOrder flat.now order.now.cells }
     requires means { NetMeans program.now flat.now }
-    ensures lines { IfOk result (λ lines. IsSimulation program.now text.now lines.items) }
+    ensures lines { IfOk result (λ lines. IsSimulation program.now form text.now lines.items) }
     ensures fault { IfFault result (IsSimFault program.now text.now) }
 {
     zero_exists();
     a_wire_has_one_value();
     let events = events_of(alloc, program, &flat.ports, text)?;
-    Ok(run(alloc, flat, order, events.as_slice())?)
+    Ok(run_in(alloc, form, flat, order, events.as_slice())?)
 }
