@@ -7,6 +7,7 @@ use Rattle.clap.specs.Walk.{Row, Text, first_of}
 use Rattle.chw_words.specs.Parsing.{AreBudgeted, BudgetIs, HaveTaps, IsMatched, check, emit, make, normalise, run, simulate}
 use Rattle.chw_words.specs.declared.budget.TheConstants.{DEFAULT_BUDGET}
 use Rattle.chw_words.specs.declared.command.Command.{Command}
+use Rattle.chw_words.specs.declared.command.EmitForm.TheVariants.{Verilog}
 use Rattle.chw_words.specs.declared.command.SimForm.TheVariants.{Lines}
 use Rattle.chw_words.specs.declared.command.Command.TheVariants.{Emit, Simulate, Check, Normalise, Run, Make}
 
@@ -25,7 +26,7 @@ budget_in rows = budget_value (first_of (codes "budget") rows)
 abbrev command_in : Option (Text × List Row) → Command
 command_in None = Make 0
 command_in (Some p) =
-    if bytes_eq p.0 (codes "emit") then Emit (text_in (codes "file") p.1) (budget_in p.1)
+    if bytes_eq p.0 (codes "emit") then Emit (text_in (codes "file") p.1) (budget_in p.1) Verilog
     else (if bytes_eq p.0 (codes "simulate") then Simulate (text_in (codes "file") p.1) (text_in (codes "stimulus") p.1) (budget_in p.1) Lines
     else (if bytes_eq p.0 (codes "check") then Check (text_in (codes "file") p.1)
     else (if bytes_eq p.0 (codes "normalise") then Normalise (text_in (codes "file") p.1) (budget_in p.1)
@@ -43,7 +44,7 @@ budget_in_is : (rows : List Row) (file : Text) (n : ℕ) → AreBudgeted rows fi
 budget_in_is rows file n b = budget_value_is (first_of (codes "budget") rows) n b.is_budget
 
 command_in_is : (m : Option (Text × List Row)) (c : Command) → IsMatched m c → command_in m ≡ c
-command_in_is _ _ (emit rows file n b) = ap₂ (λ x y. Emit x y) (text_is (codes "file") rows file b.is_file) (budget_in_is rows file n b)
+command_in_is _ _ (emit rows file n b) = ap₂ (λ x y. Emit x y Verilog) (text_is (codes "file") rows file b.is_file) (budget_in_is rows file n b)
 command_in_is _ _ (simulate rows file stimulus n b s) =
     ap₂ (λ x y. Simulate x (text_in (codes "stimulus") rows) y Lines) (text_is (codes "file") rows file b.is_file) (budget_in_is rows file n b)
     ∙ ap (λ x. Simulate file x n Lines) (text_is (codes "stimulus") rows stimulus s)
@@ -60,7 +61,7 @@ one_matched m a b x y = sym (command_in_is m a x) ∙ command_in_is m b y
 -- ---- what the rows have of the command
 
 abbrev Have : Command → List Row → Type 0
-Have (Emit file budget) rows = AreBudgeted rows file budget
+Have (Emit file budget form) rows = AreBudgeted rows file budget
 Have (Simulate file stimulus budget form) rows = AreBudgeted rows file budget × (first_of (codes "stimulus") rows ≡ Some stimulus)
 Have (Check file) rows = first_of (codes "file") rows ≡ Some file
 Have (Normalise file budget) rows = AreBudgeted rows file budget
@@ -83,7 +84,7 @@ have_found name rows c m =
 -- ---- the command that is matched under a name is the one of that name
 
 pub emit_only : (rows : List Row) (c : Command) → IsMatched (Some (codes "emit", rows)) c
-    → (file : Text) × (budget : ℕ) × AreBudgeted rows file budget × (c ≡ Emit file budget)
+    → (file : Text) × (budget : ℕ) × AreBudgeted rows file budget × (c ≡ Emit file budget Verilog)
 emit_only rows c m =
     (text_in (codes "file") rows, budget_in rows, have_found (codes "emit") rows c m, sym (command_in_is (Some (codes "emit", rows)) c m))
 

@@ -11,6 +11,7 @@ use Rattle.chw_words.specs.Splitting.{IsUnflagged, check, emit, make, normalise,
 use Rattle.chw_words.specs.Parsing.{AreBudgeted, BudgetIs, IsMatched, chw_app, check as check_matched, emit as emit_matched, make as make_matched, normalise as normalise_matched, run as run_matched, simulate as simulate_matched}
 use Rattle.chw_words.specs.declared.command.Command.{Command}
 use Rattle.chw_words.specs.declared.command.Command.TheVariants.{Emit, Simulate, Check, Normalise, Run, Make}
+use Rattle.chw_words.specs.declared.command.EmitForm.TheVariants.{Verilog}
 use Rattle.chw_words.specs.declared.command.SimForm.TheVariants.{Lines}
 use Rattle.chw_words.proofs.Shapes.{Form, IsPlain, check_shape, emit_shape, make_shape, run_shape, simulate_shape, start}
 use Rattle.chw_words.proofs.BudgetWords.{Read, plain_form, plain_number, read_form, text_number, with_budget, word_texts}
@@ -42,10 +43,10 @@ budgeted words file budget r p =
     let read = emit_read words (file ∷ []) file (r.0) (r.1) refl p in
     (read.0, record { is_file = read.1; is_budget = subst (λ o. BudgetIs o budget) (sym (read.2)) (r.2) })
 
-emit_passes : (words : List Text) (file : Text) (budget : ℕ) → Read words (file ∷ []) budget → IsPlain file → Passes (codes "emit" ∷ words) (Emit file budget)
+emit_passes : (words : List Text) (file : Text) (budget : ℕ) → Read words (file ∷ []) budget → IsPlain file → Passes (codes "emit" ∷ words) (Emit file budget Verilog)
 emit_passes words file budget r p =
     let b = budgeted words file budget r p in
-    passes_by (codes "emit") words (Emit file budget) (rows_after emit_shape.rules [] words)
+    passes_by (codes "emit") words (Emit file budget Verilog) (rows_after emit_shape.rules [] words)
     (inl (refl, read_form words (file ∷ []) (r.0) (r.1) (p, tt))) (emit_fault words ∙ b.0) (emit_subcommand words)
     (emit_matched (rows_after emit_shape.rules [] words) file budget (b.1))
 

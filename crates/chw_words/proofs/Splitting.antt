@@ -7,7 +7,7 @@ use Rattle.std.specs.Str.{IsUtf8, bytes_eq}
 use Rattle.std.proofs.lemmas.List.Elements.{All-cons, All-head, All-nil, All-tail}
 use Rattle.std.proofs.lemmas.Slice.Eq.{bytes_eq-Decides}
 use Rattle.clap.specs.Walk.{Text}
-use Rattle.chw_words.specs.Flags.{HasFlags, flag, is_flag, last, none, other, simulate_flags, value}
+use Rattle.chw_words.specs.Flags.{HasFlags, flag, emit_flags, is_flag, last, none, other, simulate_flags, value}
 use Rattle.chw_words.specs.Splitting.{flags_of, found_from, rest_from}
 use Rattle.chw_words.proofs.Forms.{is_or_not}
 
@@ -117,11 +117,20 @@ apart_once flags _ _ _ isnt (other w ws rest found is differs h) =
       once.1 ∙ sym (found_other flags false w ws refl is ∙ ap (λ b. found_from flags b ws) no_budget),
     )
 
+-- what holds of the flags of each command, and of no flags, holds of the flags of any word
+pub of_flags : (command : Text) (P : List Text → Type 0) → P simulate_flags → P emit_flags → P [] → P (flags_of command)
+of_flags command P of_simulate of_emit of_none =
+    let others = if bytes_eq command (codes "emit") then emit_flags else [] in
+    ⊎_elim (λ is. subst (λ b. P (if b then simulate_flags else others)) (sym is) of_simulate)
+    (λ isnt. subst (λ b. P (if b then simulate_flags else others)) (sym isnt)
+    (⊎_elim (λ is. subst (λ b. P (if b then emit_flags else [])) (sym is) of_emit)
+    (λ none_. subst (λ b. P (if b then emit_flags else [])) (sym none_) of_none) (is_or_not (bytes_eq command (codes "emit")))))
+    (is_or_not (bytes_eq command (codes "simulate")))
+
 -- `--budget` is no flag
 pub budget_is_no_flag : (command : Text) → is_flag (flags_of command) budget ≡ false
 budget_is_no_flag command =
-    ⊎_elim (λ is. ap (λ b. is_flag (if b then simulate_flags else []) budget) is)
-    (λ not_it. ap (λ b. is_flag (if b then simulate_flags else []) budget) not_it) (is_or_not (bytes_eq command (codes "simulate")))
+    of_flags command (λ flags. is_flag flags budget ≡ false) refl refl refl
 
 -- where there are no flags, all words are the rest
 pub all_rest : (behind : Bool) (words : List Text) → (rest_from [] behind words ≡ words) × (found_from [] behind words ≡ [])
@@ -164,8 +173,19 @@ vcd_text : IsUtf8 (codes "--vcd")
 unfolding encode_utf8
 vcd_text = (codes "--vcd", (refl, refl))
 
+share_text : IsUtf8 (codes "--share")
+unfolding encode_utf8
+share_text = (codes "--share", (refl, refl))
+
+-- one flag is that one
+pub is_the_flag : (it w : Text) → is_flag (it ∷ []) w ≡ true → w ≡ it
+is_the_flag it w is = (bytes_eq-Decides w it).0 (sym (or_false (bytes_eq w it)) ∙ is)
+
 simulate_flag_text : (w : Text) → is_flag simulate_flags w ≡ true → IsUtf8 w
-simulate_flag_text w is = subst IsUtf8 (sym ((bytes_eq-Decides w (codes "--vcd")).0 (sym (or_false (bytes_eq w (codes "--vcd"))) ∙ is))) vcd_text
+simulate_flag_text w is = subst IsUtf8 (sym (is_the_flag (codes "--vcd") w is)) vcd_text
+
+emit_flag_text : (w : Text) → is_flag emit_flags w ≡ true → IsUtf8 w
+emit_flag_text w is = subst IsUtf8 (sym (is_the_flag (codes "--share") w is)) share_text
 
 no_flag_text : (w : Text) → is_flag [] w ≡ true → IsUtf8 w
 no_flag_text w is = absurd (true≢false (sym is))
@@ -173,6 +193,21 @@ no_flag_text w is = absurd (true≢false (sym is))
 -- the flags of commands are texts
 pub flag_text : (command w : Text) → is_flag (flags_of command) w ≡ true → IsUtf8 w
 flag_text command w =
-    ⊎_elim (λ is. subst (λ b. is_flag (if b then simulate_flags else []) w ≡ true → IsUtf8 w) (sym is) (simulate_flag_text w))
-    (λ not_it. subst (λ b. is_flag (if b then simulate_flags else []) w ≡ true → IsUtf8 w) (sym not_it) (no_flag_text w))
-    (is_or_not (bytes_eq command (codes "simulate")))
+    of_flags command (λ flags. is_flag flags w ≡ true → IsUtf8 w) (simulate_flag_text w) (emit_flag_text w) (no_flag_text w)
+
+-- ---- each flag that is found is one of the flags
+
+-- the first of these words is a flag, if there is one
+abbrev FirstIs : List Text → List Text → Type 0
+FirstIs flags [] = Unit {0}
+FirstIs flags (w ∷ ws) = is_flag flags w ≡ true
+
+first_is : (flags words rest found : List Text) → HasFlags flags words rest found → FirstIs flags found
+first_is flags _ _ _ none = tt
+first_is flags _ _ _ last = tt
+first_is flags _ _ _ (value w ws rest found h) = first_is flags ws rest found h
+first_is flags _ _ _ (flag w ws rest found is h) = is
+first_is flags _ _ _ (other w ws rest found is differs h) = first_is flags ws rest found h
+
+pub first_found : (flags words rest more : List Text) (w : Text) → HasFlags flags words rest (w ∷ more) → is_flag flags w ≡ true
+first_found flags words rest more w h = first_is flags words rest (w ∷ more) h

@@ -2,10 +2,11 @@
 use Rattle.std.specs.Prelude.{◌≡◌, ◌≤◌, ℕ, Bool, false, ◌==◌, List, [], ◌∷◌, ◌++◌, length, codes}
 use Rattle.std.specs.Str.{IsUtf8}
 use Rattle.std.specs.Str.Parse.{IsNumeral, digits_value}
-use Rattle.chw_words.specs.Flags.{HasFlags, IsSimForm, simulate_flags}
+use Rattle.chw_words.specs.Flags.{HasFlags, IsEmitForm, IsSimForm, emit_flags, simulate_flags}
 use Rattle.chw_words.specs.declared.command.Command.{Command}
 use Rattle.chw_words.specs.declared.command.Command.TheVariants.{Emit, Simulate, Check}
 use Rattle.chw_words.specs.declared.command.Command.TheVariants.{Normalise, Run, Make}
+use Rattle.chw_words.specs.declared.command.EmitForm.{EmitForm}
 use Rattle.chw_words.specs.declared.command.SimForm.{SimForm}
 use Rattle.chw_words.specs.declared.budget.TheConstants.{BUDGET_DIGITS, DEFAULT_BUDGET, MOST_BUDGET}
 use Rattle.chw_words.specs.declared.taps.TheConstants.{MOST_TAPS, TAP_DIGITS}
@@ -55,10 +56,11 @@ pub record AreWithBudget (words arguments : List (List ℕ)) (budget : ℕ) : Ty
 
 -- the words are the command
 pub data IsCommand : List (List ℕ) → Command → Type 0 where
-  -- `emit FILE`, with a budget
-  emit : (words : List (List ℕ)) (file : List ℕ) (budget : ℕ) → IsFile file
-      → AreWithBudget words (file ∷ []) budget
-      → IsCommand (codes "emit" ∷ words) (Emit file budget)
+  -- `emit FILE`, with a budget, and with the flags of a form
+  emit : (words rest found : List (List ℕ)) (file : List ℕ) (budget : ℕ) (form : EmitForm)
+      → HasFlags emit_flags words rest found → IsEmitForm found form → IsFile file
+      → AreWithBudget rest (file ∷ []) budget
+      → IsCommand (codes "emit" ∷ words) (Emit file budget form)
   -- `simulate FILE STIM`, with a budget, and with the flags of a form
   simulate : (words rest found : List (List ℕ)) (file stimulus : List ℕ) (budget : ℕ)
       (form : SimForm) → HasFlags simulate_flags words rest found → IsSimForm found form

@@ -1,6 +1,8 @@
 -- The flags of commands: words that may stand anywhere behind the command's.
 use Rattle.std.specs.Prelude.{◌≡◌, ◌≢◌, ℕ, Bool, true, false, ◌||◌, List, [], ◌∷◌, codes}
 use Rattle.std.specs.Str.{bytes_eq}
+use Rattle.chw_words.specs.declared.command.EmitForm.{EmitForm}
+use Rattle.chw_words.specs.declared.command.EmitForm.TheVariants.{Verilog, Shared}
 use Rattle.chw_words.specs.declared.command.SimForm.{SimForm}
 use Rattle.chw_words.specs.declared.command.SimForm.TheVariants.{Lines, Waves}
 
@@ -30,3 +32,12 @@ simulate_flags = codes "--vcd" ∷ []
 pub data IsSimForm : (found : List (List ℕ)) → SimForm → Type 0 where
   lines : IsSimForm [] Lines
   waves : IsSimForm (codes "--vcd" ∷ []) Waves
+
+-- the flags of `emit`
+abbrev pub emit_flags : List (List ℕ)
+emit_flags = codes "--share" ∷ []
+
+-- the flags ask for this form of a net
+pub data IsEmitForm : (found : List (List ℕ)) → EmitForm → Type 0 where
+  verilog : IsEmitForm [] Verilog
+  shared : IsEmitForm (codes "--share" ∷ []) Shared

@@ -9,6 +9,7 @@ use Rattle.chw_words.specs.Commands.{IsBudget, IsTaps}
 use Rattle.chw_words.specs.declared.command.Command.{Command}
 use Rattle.chw_words.specs.declared.command.Command.TheVariants.{Emit, Simulate, Check}
 use Rattle.chw_words.specs.declared.command.Command.TheVariants.{Normalise, Run, Make}
+use Rattle.chw_words.specs.declared.command.EmitForm.TheVariants.{Verilog}
 use Rattle.chw_words.specs.declared.command.SimForm.TheVariants.{Lines}
 use Rattle.chw_words.specs.declared.budget.TheConstants.{DEFAULT_BUDGET}
 
@@ -88,7 +89,7 @@ pub record HaveTaps (rows : List Row) (taps : ℕ) : Type 0 where
 -- for
 pub data IsMatched : Option (Text × List Row) → Command → Type 0 where
   emit : (rows : List Row) (file : Text) (budget : ℕ) → AreBudgeted rows file budget
-      → IsMatched (Some (codes "emit", rows)) (Emit file budget)
+      → IsMatched (Some (codes "emit", rows)) (Emit file budget Verilog)
   simulate : (rows : List Row) (file stimulus : Text) (budget : ℕ) → AreBudgeted rows file budget
       → first_of (codes "stimulus") rows ≡ Some stimulus
       → IsMatched (Some (codes "simulate", rows)) (Simulate file stimulus budget Lines)

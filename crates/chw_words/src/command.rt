@@ -12,13 +12,24 @@ pub enum SimForm {
     Waves,
 }
 
+/// In which form a net is written.
+#[derive(Clone, Copy, Debug, PartialEq, Eq)]
+pub enum EmitForm {
+    /// As the description is compiled, a module for each definition.
+    Verilog,
+    /// With equal wires shared, as one module.
+    Shared,
+}
+
 /// A command of the program.
 #[derive(Debug, Drop)]
 pub enum Command {
-    /// To write the Verilog text of the description in a file, with at most so many rewrites.
+    /// To write the Verilog text of the description in a file, with at most so many rewrites, in
+    /// this form.
     Emit {
         file: Name,
         budget: u32,
+        form: EmitForm,
     },
     /// To simulate the description in a file by a stimulus, with at most so many rewrites, and to
     /// write what comes of it in this form.

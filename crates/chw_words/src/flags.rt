@@ -1,14 +1,47 @@
 //! The flags among the words of a command.
 ghost use Rattle.std.specs.Prelude.{◌≡◌, ℕ, false, List, ◌∷◌, ◌++◌, map, codes};
-ghost use Rattle.std.specs.Prelude.{IfOk, OnOk, MatchOption};
+ghost use Rattle.std.specs.Prelude.{IfOk, OnOk};
 ghost use Rattle.std.specs.Str.{bytes_eq};
-ghost use Rattle.chw_words.specs.Flags.{IsSimForm, is_flag as is_flag_of};
-ghost use Rattle.chw_words.specs.Splitting.{flags_of, found_from, rest_from};
-ghost use Rattle.chw_words.specs.declared.command.SimForm.{SimForm};
+ghost use Rattle.chw_words.specs.Flags.{is_flag as is_flag_of};
+ghost use Rattle.chw_words.specs.Splitting.{asked_of, flags_of, found_from, rest_from};
+ghost use Rattle.chw_words.specs.Splitting.{emit_form, sim_form};
 
-use crate::command::SimForm;
+use crate::command::{EmitForm, SimForm};
 use chw_base::NoMemory;
 use std::alloc::Global;
+
+/// For what the flags of a command ask.
+#[derive(Clone, Copy, Debug, PartialEq, Eq)]
+pub(crate) enum Asked {
+    /// Nothing: there is no flag.
+    Nothing,
+    /// The waves of a simulation.
+    Waves,
+    /// Equal wires of a net to be shared.
+    Sharing,
+}
+
+impl Asked {
+    /// The form of a net.
+    pub(crate) fn emit_form(self) -> EmitForm
+        ensures { result ≡ emit_form self }
+    {
+        match self {
+            Asked::Sharing => EmitForm::Shared,
+            Asked::Nothing | Asked::Waves => EmitForm::Verilog,
+        }
+    }
+
+    /// The form of a simulation.
+    pub(crate) fn sim_form(self) -> SimForm
+        ensures { result ≡ sim_form self }
+    {
+        match self {
+            Asked::Waves => SimForm::Waves,
+            Asked::Nothing | Asked::Sharing => SimForm::Lines,
+        }
+    }
+}
 
 /// Words without their flags, and the flags.
 #[derive(Drop)]
@@ -23,7 +56,11 @@ pub(crate) struct Split<'a> {
 fn is_flag(command: &str, word: &str) -> bool
     ensures { result ≡ is_flag_of (flags_of command.now) word.now }
 {
-    command.as_bytes() == "simulate".as_bytes() && word.as_bytes() == "--vcd".as_bytes()
+    if command.as_bytes() == "simulate".as_bytes() {
+        word.as_bytes() == "--vcd".as_bytes()
+    } else {
+        command.as_bytes() == "emit".as_bytes() && word.as_bytes() == "--share".as_bytes()
+    }
 }
 
 // Whether a value is wanted behind the word.
@@ -86,17 +123,19 @@ pub(crate) fn split_flags<'a>(
     Ok(split)
 }
 
-/// The form of a simulation for which flags ask, where they ask for one.
-pub(crate) fn sim_form(found: &[&str]) -> Option<SimForm>
-    ensures { MatchOption result
-        ((form : SimForm) → IsSimForm (map (λ s. s.now) found.now) form → ⊥)
-        (IsSimForm (map (λ s. s.now) found.now)) }
+/// For what flags ask, where they ask for something: each command has at most one.
+pub(crate) fn asked_for(found: &[&str]) -> Option<Asked>
+    ensures { result ≡ asked_of (map (λ s. s.now) found.now) }
 {
     let Some((first, others)) = found.split_first() else {
-        return Some(SimForm::Lines);
+        return Some(Asked::Nothing);
     };
-    if others.is_empty() && is_flag("simulate", first) {
-        Some(SimForm::Waves)
+    if !others.is_empty() {
+        None
+    } else if is_flag("simulate", first) {
+        Some(Asked::Waves)
+    } else if is_flag("emit", first) {
+        Some(Asked::Sharing)
     } else {
         None
     }

@@ -20,5 +20,5 @@ mod number;
 pub mod reading;
 pub mod taps;
 
-pub use command::{Command, SimForm, WordsFault};
+pub use command::{Command, EmitForm, SimForm, WordsFault};
 pub use reading::read_words;

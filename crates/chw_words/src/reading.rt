@@ -13,8 +13,8 @@ ghost use Rattle.chw_words.specs.Splitting.{AreNoneUnflagged, IsFormed, IsUnflag
 ghost use Rattle.chw_words.specs.Splitting.{in_form};
 
 use crate::budget::{DEFAULT_BUDGET, read_budget};
-use crate::command::{Command, SimForm, WordsFault};
-use crate::flags::{Split, sim_form, split_flags};
+use crate::command::{Command, EmitForm, SimForm, WordsFault};
+use crate::flags::{Asked, Split, asked_for, split_flags};
 use crate::form::{has_form, texts};
 use crate::taps::read_taps;
 use chw_base::{Name, NoMemory, Or};
@@ -165,7 +165,11 @@ fn emit(alloc: Global, matches: &ArgMatches) -> Result<Command, Or<WordsFault>>
     ensures fault { IfFault result (λ _. IsNoneMatched (matched_under (codes "emit") matches.now)) }
 {
     let (file, budget) = budgeted(alloc, matches)?;
-    Ok(Command::Emit { file, budget })
+    Ok(Command::Emit {
+        file,
+        budget,
+        form: EmitForm::Verilog,
+    })
 }
 
 // What was matched under `simulate`.
@@ -272,11 +276,20 @@ fn read_unflagged(alloc: Global, words: &[&str]) -> Result<Command, Or<WordsFaul
     }
 }
 
-// The command in this form, where it has forms.
-fn in_form(command: Command, form: SimForm) -> Command
-    ensures { result ≡ in_form form command }
+// The command in the form that is asked for, where it has forms.
+fn in_form(command: Command, asked: Asked) -> Command
+    ensures { result ≡ in_form asked command }
 {
     match command {
+        Command::Emit {
+            file,
+            budget,
+            form: _,
+        } => Command::Emit {
+            file,
+            budget,
+            form: asked.emit_form(),
+        },
         Command::Simulate {
             file,
             stimulus,
@@ -286,7 +299,7 @@ fn in_form(command: Command, form: SimForm) -> Command
             file,
             stimulus,
             budget,
-            form,
+            form: asked.sim_form(),
         },
         other => other,
     }
@@ -300,11 +313,11 @@ fn read_split(alloc: Global, split: &Split<'_>) -> Result<Command, Or<WordsFault
     ensures fault { IfFault result (λ _. IsUnformed (map (λ s. s.now) split.now.rest.items)
         (map (λ s. s.now) split.now.found.items)) }
 {
-    let Some(form) = sim_form(split.found.as_slice()) else {
+    let Some(asked) = asked_for(split.found.as_slice()) else {
         return Err(Or::Fault(WordsFault));
     };
     let command = read_unflagged(alloc, split.rest.as_slice())?;
-    Ok(in_form(command, form))
+    Ok(in_form(command, asked))
 }
 
 // The command that the words are, of which the first names it.
