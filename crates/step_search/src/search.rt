@@ -44,9 +44,14 @@ pub(crate) fn first_from<R: Rules>(
     ensures place { OnOk result (place.new ≡ place.old) }
     ensures looks { LooksAtPaths built (origins_of ground.now.scene.now) (IsActive (origins_of ground.now.scene.now) (spot_of place.old) at.now) from.now (R.looks rules.old) (R.looks rules.new) }
 {
-    if let Some(trial) =
-        rules.first_rule(alloc, table, ground.scene, ground.signature, at, place)?
-    {
+    if let Some(trial) = rules.first_rule(
+        alloc,
+        table,
+        ground.scene,
+        ground.signature,
+        at,
+        place,
+    )? {
         return Ok(Some(Trail {
             back: Vec::new(alloc),
             trial,
