@@ -72,8 +72,8 @@ not_refused l files (Emit file budget) texts reads r held_texts breaks held_read
     one_text_is_answered l.sound l.same l.named l.alone l.typed (IsCompilable budget) (λ text tree answer. EmitAnswer tree budget answer)
     (λ text tree r d suits e. good_is_emitted l.same l.alone l.compiles budget text tree r d suits e) files (Emit file budget) (description_in file) texts reads r
     held_texts breaks held_reads a
-not_refused l files (Simulate file stimulus budget) texts reads r held_texts breaks held_reads a =
-    simulate_is_answered l.sound l.same l.named l.alone l.typed l.compiles l.values budget files (Simulate file stimulus budget) (description_in file)
+not_refused l files (Simulate file stimulus budget form) texts reads r held_texts breaks held_reads a =
+    simulate_is_answered l.sound l.same l.named l.alone l.typed l.compiles l.values budget form files (Simulate file stimulus budget form) (description_in file)
     (stimulus_in stimulus) texts reads r held_texts breaks held_reads a
 not_refused l files (Check file) texts reads r held_texts breaks held_reads a =
     one_text_is_answered l.sound l.same l.named l.alone l.typed (λ text. Unit {0}) (λ text tree answer. answer ≡ Ok (Text tree))
@@ -95,9 +95,9 @@ NoAnswer = (files : Files) (command : Command) (reads : List Read) (answer : Res
 pub no_answer : Laws → NoAnswer
 no_answer l files (Emit file budget) reads answer m h a =
     misses_one files (Emit file budget) (description_in file) (λ text tree answer. EmitAnswer tree budget answer) reads answer (λ text no. no) m h a
-no_answer l files (Simulate file stimulus budget) reads answer m h a =
-    misses_two (SimulateAnswer budget) (simulations_are_of_two budget) files (Simulate file stimulus budget) (description_in file) (stimulus_in stimulus) reads answer
-    (λ text on r w. compilable_is_right l.sound l.same l.named l.alone l.typed l.compiles budget text on.0 (can_compile l.small on.1) r w) m h a
+no_answer l files (Simulate file stimulus budget form) reads answer m h a =
+    misses_two (SimulateAnswer budget form) (simulations_are_of_two budget form) files (Simulate file stimulus budget form) (description_in file) (stimulus_in stimulus) reads answer
+    (λ text on r w. compilable_is_right l.sound l.same l.named l.alone l.typed l.compiles budget form text on.0 (can_compile l.small on.1) r w) m h a
 no_answer l files (Check file) reads answer m h a =
     misses_one files (Check file) (description_in file) (λ text tree answer. answer ≡ Ok (Text tree)) reads answer (λ text no. no) m h a
 no_answer l files (Normalise file budget) reads answer m h a =
@@ -120,7 +120,7 @@ pub command_status : (command : Command) (reads : List Read) (r : Refusal) → C
 command_status (Emit file budget) reads r a =
     text_status IsOwn tt (λ text tree answer. EmitAnswer tree budget answer)
     (λ text tree r e. emit_status IsOwn tt tt tree budget r e) reads r a
-command_status (Simulate file stimulus budget) reads r a = simulate_status IsOwn tt tt tt budget reads r a
+command_status (Simulate file stimulus budget form) reads r a = simulate_status IsOwn tt tt tt budget form reads r a
 command_status (Check file) reads r a = text_status IsOwn tt (λ text tree answer. answer ≡ Ok (Text tree)) (λ text tree r e. absurd (cc)) reads r a
 command_status (Normalise file budget) reads r a =
     text_status IsOwn tt (λ text tree answer. NormaliseAnswer tree budget answer) (λ text tree r e. normal_status IsOwn tt tt tree budget r e) reads r a
@@ -129,9 +129,9 @@ command_status (Make taps) reads r a = make_status IsOwn tt tt tt (make_text tap
 
 pub longer_status : (command : Command) (r : Refusal) → IsLonger (wants command) r → IsOwn (status_of r)
 longer_status (Emit file budget) _ (its _ _) = tt
-longer_status (Simulate file stimulus budget) _ (its _ _) = tt
-longer_status (Simulate file stimulus budget) _ (of_later _ _ _ (its _ _)) = tt
-longer_status (Simulate file stimulus budget) _ (of_later _ _ _ (of_later _ _ r is)) = elim is [ ]
+longer_status (Simulate file stimulus budget form) _ (its _ _) = tt
+longer_status (Simulate file stimulus budget form) _ (of_later _ _ _ (its _ _)) = tt
+longer_status (Simulate file stimulus budget form) _ (of_later _ _ _ (of_later _ _ r is)) = elim is [ ]
 longer_status (Check file) _ (its _ _) = tt
 longer_status (Normalise file budget) _ (its _ _) = tt
 longer_status (Run verilog stimulus) _ (its _ _) = tt
@@ -144,7 +144,7 @@ longer_status (Make taps) r is = elim is [ ]
 
 pub answers_whole : (command : Command) (reads : List Read) (answer : Result (List ℕ) Refusal) → CommandAnswer command reads answer → AreWhole reads
 answers_whole (Emit file budget) reads answer a = whole_text (λ text tree answer. EmitAnswer tree budget answer) reads answer a
-answers_whole (Simulate file stimulus budget) reads answer a = whole_two (SimulateAnswer budget) (simulations_are_of_two budget) reads answer a
+answers_whole (Simulate file stimulus budget form) reads answer a = whole_two (SimulateAnswer budget form) (simulations_are_of_two budget form) reads answer a
 answers_whole (Check file) reads answer a = whole_text (λ text tree answer. answer ≡ Ok (Text tree)) reads answer a
 answers_whole (Normalise file budget) reads answer a = whole_text (λ text tree answer. NormaliseAnswer tree budget answer) reads answer a
 answers_whole (Run verilog stimulus) reads answer a = whole_two RunAnswer runs_are_of_two reads answer a

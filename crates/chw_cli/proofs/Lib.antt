@@ -16,3 +16,4 @@ pub mod Runs
 pub mod Simulating
 pub mod Telling
 pub mod TwoTexts
+pub mod WavesRead

@@ -51,6 +51,7 @@ use Rattle.chw_terms.specs.declared.program.Program.{Program}
 use Rattle.chw_words.specs.Commands.{IsCommand, AreNoCommand}
 use Rattle.chw_words.specs.Commands.IsCommand.{emit, simulate, check, normalise, run, make}
 use Rattle.chw_words.specs.declared.command.Command.{Command}
+use Rattle.chw_words.specs.declared.command.SimForm.{SimForm}
 use Rattle.chw_words.specs.declared.command.Command.TheVariants.{Emit, Simulate, Check, Normalise, Run, Make}
 use Rattle.chw_words.specs.declared.command.WordsFault.{WordsFault}
 use Rattle.chw_words.specs.declared.taps.TheConstants.{MOST_TAPS}
@@ -116,9 +117,9 @@ normalise_is_text _ _ _ (normalise words file budget is said) = is.text
 pub check_is_text : (words : List (List ℕ)) (file : List ℕ) → IsCommand words (Check file) → IsUtf8 file
 check_is_text _ _ (check file is) = is.text
 
-pub simulate_is_text : (words : List (List ℕ)) (file stimulus : List ℕ) (budget : ℕ) → IsCommand words (Simulate file stimulus budget)
+pub simulate_is_text : (words : List (List ℕ)) (file stimulus : List ℕ) (budget : ℕ) (form : SimForm) → IsCommand words (Simulate file stimulus budget form)
     → IsUtf8 file × IsUtf8 stimulus
-simulate_is_text _ _ _ _ (simulate words file stimulus budget is is' said) = (is.text, is'.text)
+simulate_is_text _ _ _ _ _ (simulate words rest found file stimulus budget form flags asked is is' said) = (is.text, is'.text)
 
 pub run_is_text : (words : List (List ℕ)) (verilog stimulus : List ℕ) → IsCommand words (Run verilog stimulus) → IsUtf8 verilog × IsUtf8 stimulus
 run_is_text _ _ _ (run verilog stimulus is is') = (is.text, is'.text)
@@ -274,28 +275,28 @@ lacking_refuses gives told faults file IsWrong s t _ (too_long_file bytes g) = t
 lacking_refuses gives told faults file IsWrong s t _ (wrong_text text r g never) = absurd never
 
 -- what is wrong with the text is the answer of `simulate`; so is why its program can't be compiled, and what refuses the stimulus
-pub simulate_answers : (file stimulus text : List ℕ) (budget : ℕ) (r : Refusal) → RefusesText text r
-    → (r ≡ refusal.Memory) ⊎ CommandAnswer (Simulate file stimulus budget) (whole text ∷ []) (Err r)
-simulate_answers file stimulus text budget r (inl e) = inl e
-simulate_answers file stimulus text budget r (inr w) = inr (wrong_text_answer text r w)
+pub simulate_answers : (file stimulus text : List ℕ) (budget : ℕ) (form : SimForm) (r : Refusal) → RefusesText text r
+    → (r ≡ refusal.Memory) ⊎ CommandAnswer (Simulate file stimulus budget form) (whole text ∷ []) (Err r)
+simulate_answers file stimulus text budget form r (inl e) = inl e
+simulate_answers file stimulus text budget form r (inr w) = inr (wrong_text_answer text r w)
 
-compile_answer : (text : List ℕ) (budget : ℕ) (tree : Tree) (p : Program) (r : Refusal) → IsTypedText text tree → HasProgram tree p
-    → CompileAnswer p budget (Err r) → SimulateAnswer budget (whole text ∷ []) (Err r)
-compile_answer text budget tree p r d has a = only refl a
+compile_answer : (text : List ℕ) (budget : ℕ) (form : SimForm) (tree : Tree) (p : Program) (r : Refusal) → IsTypedText text tree → HasProgram tree p
+    → CompileAnswer p budget (Err r) → SimulateAnswer budget form (whole text ∷ []) (Err r)
+compile_answer text budget form tree p r d has a = only refl a
   where
-    only : {answer : Result (List ℕ) Refusal} → answer ≡ Err r → CompileAnswer p budget answer → SimulateAnswer budget (whole text ∷ []) (Err r)
-    only e (not_compiled fault w) = subst (SimulateAnswer budget (whole text ∷ [])) e (not_compiled_answer text tree p fault d has w)
+    only : {answer : Result (List ℕ) Refusal} → answer ≡ Err r → CompileAnswer p budget answer → SimulateAnswer budget form (whole text ∷ []) (Err r)
+    only e (not_compiled fault w) = subst (SimulateAnswer budget form (whole text ∷ [])) e (not_compiled_answer text tree p fault d has w)
     only e (compiled net is) = absurd (cc)
 
-pub compile_answers : (file stimulus text : List ℕ) (budget : ℕ) (tree : Tree) (p : Program) (r : Refusal) → IsTypedText text tree → HasProgram tree p
-    → RefusesCompile p budget r → (r ≡ refusal.Memory) ⊎ CommandAnswer (Simulate file stimulus budget) (whole text ∷ []) (Err r)
-compile_answers file stimulus text budget tree p r d has (inl e) = inl e
-compile_answers file stimulus text budget tree p r d has (inr a) = inr (compile_answer text budget tree p r d has a)
+pub compile_answers : (file stimulus text : List ℕ) (budget : ℕ) (form : SimForm) (tree : Tree) (p : Program) (r : Refusal) → IsTypedText text tree → HasProgram tree p
+    → RefusesCompile p budget r → (r ≡ refusal.Memory) ⊎ CommandAnswer (Simulate file stimulus budget form) (whole text ∷ []) (Err r)
+compile_answers file stimulus text budget form tree p r d has (inl e) = inl e
+compile_answers file stimulus text budget form tree p r d has (inr a) = inr (compile_answer text budget form tree p r d has a)
 
-pub simulation_answers : (file stimulus text : List ℕ) (budget : ℕ) (p : Program) → Compiles text budget p → (bytes : List ℕ) (r : Refusal)
-    → RefusesSimulation p bytes r → (r ≡ refusal.Memory) ⊎ CommandAnswer (Simulate file stimulus budget) (whole text ∷ whole bytes ∷ []) (Err r)
-simulation_answers file stimulus text budget p can bytes _ wanting_still = inl refl
-simulation_answers file stimulus text budget p can bytes _ (no_values fault w) = inr (no_values_answer text bytes p fault can w)
+pub simulation_answers : (file stimulus text : List ℕ) (budget : ℕ) (form : SimForm) (p : Program) → Compiles text budget p → (bytes : List ℕ) (r : Refusal)
+    → RefusesSimulation p bytes r → (r ≡ refusal.Memory) ⊎ CommandAnswer (Simulate file stimulus budget form) (whole text ∷ whole bytes ∷ []) (Err r)
+simulation_answers file stimulus text budget form p can bytes _ wanting_still = inl refl
+simulation_answers file stimulus text budget form p can bytes _ (no_values fault w) = inr (no_values_answer text bytes p fault can w)
 
 pub sim_refuses : (p : Program) (text : List ℕ) (e : Or SimFault) → OfFault e (IsSimFault p text) → RefusesSimulation p text (of_sim_fault e)
 sim_refuses p text Memory h = wanting_still

@@ -22,6 +22,7 @@ use Rattle.chw_terms.specs.declared.scene.Made.{Made}
 use Rattle.chw_words.specs.Commands.{IsCommand, AreNoCommand}
 use Rattle.chw_words.specs.declared.command.Command.{Command}
 use Rattle.chw_words.specs.declared.command.Command.TheVariants.{Emit, Simulate, Check, Normalise, Run, Make}
+use Rattle.chw_words.specs.declared.command.SimForm.{SimForm}
 use Rattle.judge.specs.Lines.{state_line}
 use Rattle.judge.specs.States.{IsFinished, RefusesState}
 use Rattle.judge.specs.declared.states.StateFault.{StateFault}
@@ -93,19 +94,20 @@ pub record EmitAnswer (tree : Tree) (budget : ℕ) (answer : Result (List ℕ) R
 
 -- the answer of `simulate`: why the first text is no description that is typed; or why its program
 -- can't be compiled; or, where it can, why the second text is no stimulus of values for it; or,
--- where it is one, the lines of what the program means
-pub data SimulateAnswer (budget : ℕ) : List Read → Result (List ℕ) Refusal → Type 0 where
+-- where it is one, the lines or the waves of what the program means
+pub data SimulateAnswer (budget : ℕ) (form : SimForm)
+    : List Read → Result (List ℕ) Refusal → Type 0 where
   wrong_text : (text : List ℕ) (r : Refusal) → IsWrongText text r
-      → SimulateAnswer budget (whole text ∷ []) (Err r)
+      → SimulateAnswer budget form (whole text ∷ []) (Err r)
   not_compiled : (text : List ℕ) (tree : Tree) (p : Program) (fault : CompileFault)
       → IsTypedText text tree → HasProgram tree p → IsCompileFault p budget fault
-      → SimulateAnswer budget (whole text ∷ []) (Err (refusal_of_compile p fault))
+      → SimulateAnswer budget form (whole text ∷ []) (Err (refusal_of_compile p fault))
   no_stimulus : (text stimulus : List ℕ) (p : Program) (fault : SimFault)
       → Compiles text budget p → IsSimFault p stimulus fault
-      → SimulateAnswer budget (whole text ∷ whole stimulus ∷ []) (Err (refusal_of_sim fault))
+      → SimulateAnswer budget form (whole text ∷ whole stimulus ∷ []) (Err (refusal_of_sim fault))
   simulated : (text stimulus lines : List ℕ) (p : Program) → Compiles text budget p
-      → IsSimulation p stimulus lines
-      → SimulateAnswer budget (whole text ∷ whole stimulus ∷ []) (Ok lines)
+      → IsSimulation p form stimulus lines
+      → SimulateAnswer budget form (whole text ∷ whole stimulus ∷ []) (Ok lines)
 
 -- the answer of `normalise` to a description: the lines of the run of its program, by so many steps
 -- at most, to a state in which none is left, and which is normal and acyclic; or why the run is
@@ -137,7 +139,7 @@ pub data RunAnswer : List Read → Result (List ℕ) Refusal → Type 0 where
 abbrev pub CommandAnswer : Command → List Read → Result (List ℕ) Refusal → Type 0
 CommandAnswer (Emit file budget) =
     TextAnswer (λ text tree answer. EmitAnswer tree budget answer)
-CommandAnswer (Simulate file stimulus budget) = SimulateAnswer budget
+CommandAnswer (Simulate file stimulus budget form) = SimulateAnswer budget form
 CommandAnswer (Check file) = TextAnswer (λ text tree answer. answer ≡ Ok (Text tree))
 CommandAnswer (Normalise file budget) =
     TextAnswer (λ text tree answer. NormaliseAnswer tree budget answer)

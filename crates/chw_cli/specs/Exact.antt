@@ -73,7 +73,7 @@ pub data MakesWith (text stimulus : List ℕ) : List (List ℕ) → Type 0 where
 -- the texts of the files of a command break no restriction
 abbrev pub BreakNothing : Command → List (List ℕ) → Type 0
 BreakNothing (Emit file budget) = BreaksNone (IsCompilable budget)
-BreakNothing (Simulate file stimulus budget) = SimulatesWith budget
+BreakNothing (Simulate file stimulus budget form) = SimulatesWith budget
 BreakNothing (Check file) = BreaksNone (λ text. Unit {0})
 BreakNothing (Normalise file budget) = BreaksNone (HasNormalRun budget)
 BreakNothing (Run verilog stimulus) = RunsWith

@@ -11,3 +11,4 @@ pub mod Outcome
 pub mod Reads
 pub mod Refusals
 pub mod Telling
+pub mod Waves

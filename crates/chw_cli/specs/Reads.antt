@@ -44,7 +44,7 @@ stimulus_in file = record {
 -- the files that a command wants, in the order in which it reads them
 abbrev pub wants : Command → List Wanted
 wants (Emit file budget) = description_in file ∷ []
-wants (Simulate file stimulus budget) = description_in file ∷ stimulus_in stimulus ∷ []
+wants (Simulate file stimulus budget form) = description_in file ∷ stimulus_in stimulus ∷ []
 wants (Check file) = description_in file ∷ []
 wants (Normalise file budget) = description_in file ∷ []
 wants (Run verilog stimulus) = verilog_in verilog ∷ stimulus_in stimulus ∷ []
@@ -56,7 +56,7 @@ wants (Make taps) = []
 -- compiled, by the law `compilable_is_compiled`.
 abbrev pub GoesOn : Command → List ℕ → Type 0
 GoesOn (Emit file budget) text = ⊥
-GoesOn (Simulate file stimulus budget) text = IsCompiled budget text
+GoesOn (Simulate file stimulus budget form) text = IsCompiled budget text
 GoesOn (Check file) text = ⊥
 GoesOn (Normalise file budget) text = ⊥
 GoesOn (Run verilog stimulus) text = (flat : Flat) × CanRun text flat

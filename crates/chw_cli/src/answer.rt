@@ -15,7 +15,7 @@ use crate::run::{read_circuit, run_lines};
 use crate::simulate::simulated;
 use chw_base::{Name, Shelf};
 use chw_text::print;
-use chw_words::{Command, read_words};
+use chw_words::{Command, SimForm, read_words};
 use std::alloc::Global;
 
 /// The bytes to write, or why there are none.
@@ -33,7 +33,8 @@ pub(crate) fn answer<F: Shelf>(
             file,
             stimulus,
             budget,
-        } => simulate(alloc, words, &file, &stimulus, budget, shelf),
+            form,
+        } => simulate(alloc, words, &file, &stimulus, budget, form, shelf),
         Command::Check { file } => check(alloc, words, &file, shelf),
         Command::Normalise { file, budget } => normalise(alloc, words, &file, budget, shelf),
         Command::Run { verilog, stimulus } => run(alloc, words, &verilog, &stimulus, shelf),
@@ -64,16 +65,17 @@ fn simulate<F: Shelf>(
     file: &Name,
     stimulus: &Name,
     budget: u32,
+    form: SimForm,
     shelf: &mut F,
 ) -> Result<Vec<u8>, Refusal>
-    requires { IsCommand words.now (Simulate file.now stimulus.now budget) }
+    requires { IsCommand words.now (Simulate file.now stimulus.now budget form) }
     ensures answers { IfOk result (λ bytes. AnswersBy (Asks F.fetch_gives F.told F.faults words.now shelf.old shelf.new) words.now (Ok bytes.items)) }
     ensures refuses { IfErr result (Refuses (Asks F.fetch_gives F.told F.faults words.now shelf.old shelf.new) words.now) }
 {
     let description = read_description(alloc, file, shelf)?;
     let program = description.checked.program();
     let made = compiled_of(alloc, program, budget)?;
-    simulated(alloc, program, &made, stimulus, shelf)
+    simulated(alloc, program, &made, stimulus, form, shelf)
 }
 
 /// The answer of `check` to the description in a file.

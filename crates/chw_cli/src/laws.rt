@@ -9,10 +9,11 @@ ghost use Rattle.chw_cli.specs.declared.status.Status.{Status};
 ghost use Rattle.chw_words.specs.Commands.{IsCommand};
 ghost use Rattle.chw_words.specs.declared.command.Command.TheVariants.{Make};
 ghost use Rattle.chw_cli.specs.MakeLaws.{HaveOneOfTwoStatuses, IsOfMake, MadeTextsAreTyped, MakeIsRefusedForItsProgram, WordsAreRefusedForTheProgram};
+ghost use Rattle.chw_cli.specs.Waves.{WrittenWavesAreRead};
 
 use answers::compiled::laws::{nothing_refuses_a_compile, small_ends_compile};
 use answers::make_answer::laws::made_stimuli;
-use answers::sim_answer::laws::refusals;
+use answers::sim_answer::laws::{refusals, waves_are_read};
 use chw_base::{Shelf, Sink};
 use chw_check::laws::typed_has_no_fault;
 use chw_lexer::laws::{no_fault, one_splitting};
@@ -83,4 +84,15 @@ pub fn compilable_is_compiled()
     nothing_refuses_a_compile();
     one_program();
     small_ends_compile();
+}
+
+/// The bytes that are answered to `simulate` with the flag of waves are the text of a wave. At both
+/// times of each event of the stimulus it has the inputs there, and at the outputs the bits of what
+/// the description means.
+pub fn written_waves_are_read()
+    ensures { WrittenWavesAreRead }
+{
+    words_are_one_command();
+    one_program();
+    waves_are_read();
 }

@@ -16,15 +16,17 @@ use answers::compiled::Compiled;
 use answers::sim_answer::lines_of;
 use chw_base::{Name, Shelf};
 use chw_terms::Program;
+use chw_words::SimForm;
 use std::alloc::Global;
 
-/// The lines of what a program means at the events of the stimulus in a file, or why there are
-/// none.
+/// The lines or the waves of what a program means at the events of the stimulus in a file, or why
+/// there are none.
 pub(crate) fn simulated<F: Shelf>(
     alloc: Global,
     program: &Program,
     made: &Compiled,
     file: &Name,
+    form: SimForm,
     shelf: &mut F,
 ) -> Result<Vec<u8>, Refusal>
     requires file { IsUtf8 file.now }
@@ -32,10 +34,17 @@ pub(crate) fn simulated<F: Shelf>(
     requires compiled { (budget : ℕ) × IsCompiled program.now budget made.now }
     ensures lines { IfOk result (λ lines. (text : List ℕ)
         × Gets F.fetch_gives F.told F.faults file.now STIMULUS_BYTES (Ok Whole) text shelf.old shelf.new
-        × IsSimulation program.now text lines.items) }
+        × IsSimulation program.now form text lines.items) }
     ensures refused { IfErr result (RefusesFile F.fetch_gives F.told F.faults (stimulus_in file.now)
         (RefusesSimulation program.now) shelf.old shelf.new) }
 {
     let text = stimulus_text(alloc, file, shelf)?;
-    Ok(lines_of(alloc, program, &made.flat, &made.order, text.as_slice())?)
+    Ok(lines_of(
+        alloc,
+        program,
+        &made.flat,
+        &made.order,
+        text.as_slice(),
+        form,
+    )?)
 }

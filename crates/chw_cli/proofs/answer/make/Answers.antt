@@ -1,4 +1,3 @@
-use Rattle.std.proofs.Common.{[], Ok}
 use Rattle.std.proofs.lemmas.Result.{IfErr-weaker, IfOk-weaker}
 use Rattle.chw_cli.proofs.Reasons.{make_answers, make_is_short, make_refuses}
 use Rattle.chw_cli.proofs.answer.make.Goals as goal

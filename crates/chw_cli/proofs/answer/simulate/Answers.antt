@@ -11,11 +11,11 @@ use Rattle.chw_cli.proofs.Reasons.{compile_answers, file_refuses, second_answers
 use Rattle.chw_cli.proofs.answer.simulate.Goals as goal
 
 pub read_description-requires : goal.read_description-requires
-read_description-requires g c = (simulate_is_text c.args.words.now c.args.file.now c.args.stimulus.now c.args.budget c.requires).0
+read_description-requires g c = (simulate_is_text c.args.words.now c.args.file.now c.args.stimulus.now c.args.budget c.args.form c.requires).0
 
 pub simulated-requires : goal.simulated-requires
 simulated-requires g c = record {
-  file = (simulate_is_text c.args.words.now c.args.file.now c.args.stimulus.now c.args.budget c.requires).1;
+  file = (simulate_is_text c.args.words.now c.args.file.now c.args.stimulus.now c.args.budget c.args.form c.requires).1;
   tidy = subst IsTidy (sym c.program-program.ensures.program) c.in_ok-description.ensures.program.tidy;
   compiled = (c.args.budget, c.in_ok-made.ensures.compiled);
 }
@@ -25,8 +25,8 @@ returns-in_err-description-clause-refuses g c =
     let p = err_from_is_err_and c.from_residual.result c.from_residual.ensures.1 in
     rw (p.1, p.2)
     (file_refuses g.F.Shelf.fetch_gives g.F.Shelf.told g.F.Shelf.faults c.args.words.now c.args.shelf.now c.read_description.new.shelf
-    (Simulate c.args.file.now c.args.stimulus.now c.args.budget) (description_in c.args.file.now) (stimulus_in c.args.stimulus.now ∷ []) c.requires refl RefusesText
-    (λ text r w. simulate_answers c.args.file.now c.args.stimulus.now text c.args.budget r w) c.in_err-description.field-0.0 c.in_err-description.ensures.refused)
+    (Simulate c.args.file.now c.args.stimulus.now c.args.budget c.args.form) (description_in c.args.file.now) (stimulus_in c.args.stimulus.now ∷ []) c.requires refl RefusesText
+    (λ text r w. simulate_answers c.args.file.now c.args.stimulus.now text c.args.budget c.args.form r w) c.in_err-description.field-0.0 c.in_err-description.ensures.refused)
 
 pub returns-in_err-made-clause-refuses : goal.returns-in_err-made-clause-refuses
 returns-in_err-made-clause-refuses g c =
@@ -35,9 +35,9 @@ returns-in_err-made-clause-refuses g c =
     let has = subst (HasProgram d.tree) (sym c.program-program.ensures.program) c.in_ok-description.ensures.program in
     rw (p.1, p.2)
     (text_refuses g.F.Shelf.fetch_gives g.F.Shelf.told g.F.Shelf.faults c.args.words.now c.args.shelf.now c.read_description.new.shelf
-    (Simulate c.args.file.now c.args.stimulus.now c.args.budget) (description_in c.args.file.now) (stimulus_in c.args.stimulus.now ∷ []) c.requires refl d.text.items
+    (Simulate c.args.file.now c.args.stimulus.now c.args.budget c.args.form) (description_in c.args.file.now) (stimulus_in c.args.stimulus.now ∷ []) c.requires refl d.text.items
     c.in_err-made.field-0.0 c.in_ok-description.ensures.read
-    (compile_answers c.args.file.now c.args.stimulus.now d.text.items c.args.budget d.tree c.program-program.result.now c.in_err-made.field-0.0
+    (compile_answers c.args.file.now c.args.stimulus.now d.text.items c.args.budget c.args.form d.tree c.program-program.result.now c.in_err-made.field-0.0
     c.in_ok-description.ensures.typed has c.in_err-made.ensures.refused))
 
 pub returns-clause-answers : goal.returns-clause-answers
@@ -49,7 +49,7 @@ returns-clause-answers g c =
     c.in_ok-description.ensures.program c.program-program.ensures.program c.in_ok-made.ensures.compiled.compiles in
     IfOk-weaker c.simulated.result _ _
     (λ lines r. second_answers g.F.Shelf.fetch_gives g.F.Shelf.told g.F.Shelf.faults c.args.words.now c.args.shelf.now c.simulated.new.shelf
-    (Simulate c.args.file.now c.args.stimulus.now c.args.budget) (description_in c.args.file.now) (stimulus_in c.args.stimulus.now) c.requires refl d.text.items
+    (Simulate c.args.file.now c.args.stimulus.now c.args.budget c.args.form) (description_in c.args.file.now) (stimulus_in c.args.stimulus.now) c.requires refl d.text.items
     c.read_description.new.shelf c.in_ok-description.ensures.read (p, can) r.0 lines.items r.1
     (simulated d.text.items r.0 lines.items p can r.2))
     c.simulated.ensures.lines
@@ -63,7 +63,7 @@ returns-clause-refuses g c =
     c.in_ok-description.ensures.program c.program-program.ensures.program c.in_ok-made.ensures.compiled.compiles in
     IfErr-weaker c.simulated.result _ _
     (λ r w. second_refuses g.F.Shelf.fetch_gives g.F.Shelf.told g.F.Shelf.faults c.args.words.now c.args.shelf.now c.simulated.new.shelf
-    (Simulate c.args.file.now c.args.stimulus.now c.args.budget) (description_in c.args.file.now) (stimulus_in c.args.stimulus.now) c.requires refl d.text.items
+    (Simulate c.args.file.now c.args.stimulus.now c.args.budget c.args.form) (description_in c.args.file.now) (stimulus_in c.args.stimulus.now) c.requires refl d.text.items
     c.read_description.new.shelf c.in_ok-description.ensures.read (p, can) (RefusesSimulation p)
-    (λ bytes q v. simulation_answers c.args.file.now c.args.stimulus.now d.text.items c.args.budget p can bytes q v) r w)
+    (λ bytes q v. simulation_answers c.args.file.now c.args.stimulus.now d.text.items c.args.budget c.args.form p can bytes q v) r w)
     c.simulated.ensures.refused

@@ -1,4 +1,4 @@
-use Rattle.std.proofs.Common.{[], Ok, sym, subst}
+use Rattle.std.proofs.Common.{Ok, sym, subst}
 use Rattle.std.proofs.lemmas.Result.{IfErr-weaker, IfOk-weaker, err_from_is_err_and}
 use Rattle.chw_cli.specs.Descriptions.{HasProgram}
 use Rattle.chw_cli.specs.Making.MadeAnswer.{typed}

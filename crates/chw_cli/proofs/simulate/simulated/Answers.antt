@@ -31,5 +31,5 @@ pub returns-clause-lines : goal.returns-clause-lines
 returns-clause-lines g c = (
   c.in_ok-text.text.items,
   c.in_ok-text.ensures.text,
-  subst (λ t. IsSimulation c.args.program.now t c.in_ok-lines_of.field-0.items) c.as_slice.ensures.value c.in_ok-lines_of.ensures.lines,
+  subst (λ t. IsSimulation c.args.program.now c.args.form t c.in_ok-lines_of.field-0.items) c.as_slice.ensures.value c.in_ok-lines_of.ensures.lines,
 )
