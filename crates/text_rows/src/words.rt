@@ -1,7 +1,7 @@
 //! Words, each with the command that they are.
 use chw_base::{NoMemory, Or};
 use chw_words::budget::read_budget;
-use chw_words::{Command, WordsFault, read_words};
+use chw_words::{Command, SimForm, WordsFault, read_words};
 use row_tables::{Unread, put, put_bytes, put_number, words_of};
 use std::alloc::Global;
 
@@ -30,9 +30,11 @@ fn put_read(command: &Command, out: &mut Vec<u8>) -> Result<(), NoMemory> {
             file,
             stimulus,
             budget,
+            form,
         } => {
             put_file(out, "simulate", file.as_slice())?;
-            put_budgeted(out, "", stimulus.as_slice(), *budget)
+            put_budgeted(out, "", stimulus.as_slice(), *budget)?;
+            put(out, form_word(*form))
         }
         Command::Check { file } => put_file(out, "check", file.as_slice()),
         Command::Normalise { file, budget } => {
@@ -43,6 +45,14 @@ fn put_read(command: &Command, out: &mut Vec<u8>) -> Result<(), NoMemory> {
             put_file(out, "", stimulus.as_slice())
         }
         Command::Make { taps } => put_number(out, "make ", *taps),
+    }
+}
+
+/// What is shown of the form of a simulation.
+fn form_word(form: SimForm) -> &'static str {
+    match form {
+        SimForm::Lines => "",
+        SimForm::Waves => " as waves",
     }
 }
 
