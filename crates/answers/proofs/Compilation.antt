@@ -1,4 +1,5 @@
 pub mod Ends
 pub mod FlatNets
 pub mod Once
+pub mod Shared
 pub mod There

@@ -7,8 +7,12 @@ use Rattle.chw_terms.specs.Tidy.{IsTidy}
 use Rattle.chw_typing.specs.Programs.{IsTyped}
 use Rattle.rewriting.specs.Runs.{Run}
 use Rattle.chw_norm.specs.Rules.{built}
+use Rattle.net_means.specs.Outputs.{NetMeans}
+use Rattle.netlist.specs.Orders.{HasNoLoop}
+use Rattle.netlist.specs.Sound.{Sound}
 use Rattle.netlist.specs.declared.net.Flat.{Flat}
 use Rattle.netlist.specs.declared.net.Net.{Net}
+use Rattle.share_laws.specs.Shares.{Shares}
 use Rattle.answers.specs.Compilation.Compiling.{EndsSmall, CompilesTo, EndsIn, HasCounts}
 use Rattle.answers.specs.Compilation.Compiling.{IsCompileFault}
 use Rattle.answers.specs.declared.compiled.fault.CompileFault.{CompileFault}
@@ -53,3 +57,9 @@ abbrev pub SmallEndsCompile : Type 0
 SmallEndsCompile =
     (p : Program) (budget : ℕ) → IsTidy p → IsTyped p → EndsSmall p budget
     → (net : Net) × (flat : Flat) × CompilesTo p budget net flat
+
+-- the shared net of a sound flat net without a loop means what that net means
+abbrev pub SharedNetMeans : Type 0
+SharedNetMeans =
+    (p : Program) (flat shared : Flat) → Sound flat → HasNoLoop flat → Shares flat shared
+    → NetMeans p flat → NetMeans p shared

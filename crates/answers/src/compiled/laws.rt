@@ -1,13 +1,15 @@
 //! The laws of what is compiled, each as the contract of a call that does nothing.
 ghost use Rattle.answers.specs.Compilation.Laws.{CompiledEndsSmall, EndsAreRuns};
 ghost use Rattle.answers.specs.Compilation.Laws.{NothingRefusesACompile, OneCompiled, OneCount};
-ghost use Rattle.answers.specs.Compilation.Laws.{SmallEndsCompile};
+ghost use Rattle.answers.specs.Compilation.Laws.{SharedNetMeans, SmallEndsCompile};
 
+use chw_meaning::laws::at_most_one_meaning;
 use chw_norm::laws::{last_states_are_typed, nothing_refuses_a_normal_run, one_last_state};
 use ended_laws::laws::none_is_stuck;
 use net_built::laws::one_net_built;
 use net_flat::laws::one_flat_net;
 use net_there::laws::finished_states_have_nets;
+use share_laws::laws::sharing_keeps_bits;
 
 /// The state in which a run ends is one to which so many first steps lead.
 pub fn ends_are_runs()
@@ -51,4 +53,13 @@ pub fn small_ends_compile()
     last_states_are_typed();
     none_is_stuck();
     finished_states_have_nets();
+}
+
+/// Where a sound flat net without a loop has the bits of what a program means, so has its shared
+/// net.
+pub fn shared_net_means()
+    ensures { SharedNetMeans }
+{
+    at_most_one_meaning();
+    sharing_keeps_bits();
 }
