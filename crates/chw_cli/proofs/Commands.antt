@@ -68,9 +68,9 @@ NotRefused = (files : Files) (command : Command) (texts : List (List ℕ)) (read
     → BreakNothing command texts → Held files command (wants command) reads → CommandAnswer command reads (Err r) → ⊥
 
 pub not_refused : Laws → NotRefused
-not_refused l files (Emit file budget) texts reads r held_texts breaks held_reads a =
-    one_text_is_answered l.sound l.same l.named l.alone l.typed (IsCompilable budget) (λ text tree answer. EmitAnswer tree budget answer)
-    (λ text tree r d suits e. good_is_emitted l.same l.alone l.compiles budget text tree r d suits e) files (Emit file budget) (description_in file) texts reads r
+not_refused l files (Emit file budget form) texts reads r held_texts breaks held_reads a =
+    one_text_is_answered l.sound l.same l.named l.alone l.typed (IsCompilable budget) (λ text tree answer. EmitAnswer tree budget form answer)
+    (λ text tree r d suits e. good_is_emitted l.same l.alone l.compiles budget form text tree r d suits e) files (Emit file budget form) (description_in file) texts reads r
     held_texts breaks held_reads a
 not_refused l files (Simulate file stimulus budget form) texts reads r held_texts breaks held_reads a =
     simulate_is_answered l.sound l.same l.named l.alone l.typed l.compiles l.values budget form files (Simulate file stimulus budget form) (description_in file)
@@ -93,8 +93,8 @@ NoAnswer = (files : Files) (command : Command) (reads : List Read) (answer : Res
     → Held files command (wants command) reads → CommandAnswer command reads answer → ⊥
 
 pub no_answer : Laws → NoAnswer
-no_answer l files (Emit file budget) reads answer m h a =
-    misses_one files (Emit file budget) (description_in file) (λ text tree answer. EmitAnswer tree budget answer) reads answer (λ text no. no) m h a
+no_answer l files (Emit file budget form) reads answer m h a =
+    misses_one files (Emit file budget form) (description_in file) (λ text tree answer. EmitAnswer tree budget form answer) reads answer (λ text no. no) m h a
 no_answer l files (Simulate file stimulus budget form) reads answer m h a =
     misses_two (SimulateAnswer budget form) (simulations_are_of_two budget form) files (Simulate file stimulus budget form) (description_in file) (stimulus_in stimulus) reads answer
     (λ text on r w. compilable_is_right l.sound l.same l.named l.alone l.typed l.compiles budget form text on.0 (can_compile l.small on.1) r w) m h a
@@ -117,9 +117,9 @@ IsOwn status.Memory = ⊥
 IsOwn _ = Unit {0}
 
 pub command_status : (command : Command) (reads : List Read) (r : Refusal) → CommandAnswer command reads (Err r) → IsOwn (status_of r)
-command_status (Emit file budget) reads r a =
-    text_status IsOwn tt (λ text tree answer. EmitAnswer tree budget answer)
-    (λ text tree r e. emit_status IsOwn tt tt tree budget r e) reads r a
+command_status (Emit file budget form) reads r a =
+    text_status IsOwn tt (λ text tree answer. EmitAnswer tree budget form answer)
+    (λ text tree r e. emit_status IsOwn tt tt tree budget form r e) reads r a
 command_status (Simulate file stimulus budget form) reads r a = simulate_status IsOwn tt tt tt budget form reads r a
 command_status (Check file) reads r a = text_status IsOwn tt (λ text tree answer. answer ≡ Ok (Text tree)) (λ text tree r e. absurd (cc)) reads r a
 command_status (Normalise file budget) reads r a =
@@ -128,7 +128,7 @@ command_status (Run verilog stimulus) reads r a = run_status IsOwn tt tt tt read
 command_status (Make taps) reads r a = make_status IsOwn tt tt tt (make_text taps) (make_stimulus taps) reads r a
 
 pub longer_status : (command : Command) (r : Refusal) → IsLonger (wants command) r → IsOwn (status_of r)
-longer_status (Emit file budget) _ (its _ _) = tt
+longer_status (Emit file budget form) _ (its _ _) = tt
 longer_status (Simulate file stimulus budget form) _ (its _ _) = tt
 longer_status (Simulate file stimulus budget form) _ (of_later _ _ _ (its _ _)) = tt
 longer_status (Simulate file stimulus budget form) _ (of_later _ _ _ (of_later _ _ r is)) = elim is [ ]
@@ -137,13 +137,13 @@ longer_status (Normalise file budget) _ (its _ _) = tt
 longer_status (Run verilog stimulus) _ (its _ _) = tt
 longer_status (Run verilog stimulus) _ (of_later _ _ _ (its _ _)) = tt
 longer_status (Run verilog stimulus) _ (of_later _ _ _ (of_later _ _ r is)) = elim is [ ]
-longer_status (Emit file budget) _ (of_later _ _ r is) = elim is [ ]
+longer_status (Emit file budget form) _ (of_later _ _ r is) = elim is [ ]
 longer_status (Check file) _ (of_later _ _ r is) = elim is [ ]
 longer_status (Normalise file budget) _ (of_later _ _ r is) = elim is [ ]
 longer_status (Make taps) r is = elim is [ ]
 
 pub answers_whole : (command : Command) (reads : List Read) (answer : Result (List ℕ) Refusal) → CommandAnswer command reads answer → AreWhole reads
-answers_whole (Emit file budget) reads answer a = whole_text (λ text tree answer. EmitAnswer tree budget answer) reads answer a
+answers_whole (Emit file budget form) reads answer a = whole_text (λ text tree answer. EmitAnswer tree budget form answer) reads answer a
 answers_whole (Simulate file stimulus budget form) reads answer a = whole_two (SimulateAnswer budget form) (simulations_are_of_two budget form) reads answer a
 answers_whole (Check file) reads answer a = whole_text (λ text tree answer. answer ≡ Ok (Text tree)) reads answer a
 answers_whole (Normalise file budget) reads answer a = whole_text (λ text tree answer. NormaliseAnswer tree budget answer) reads answer a

@@ -13,6 +13,7 @@ pub mod OneText
 pub mod Progress
 pub mod Reasons
 pub mod Runs
+pub mod SharedNets
 pub mod Simulating
 pub mod Telling
 pub mod TwoTexts

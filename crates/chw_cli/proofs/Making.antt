@@ -5,8 +5,6 @@ use Rattle.chw_base.specs.declared.outcome.Or.{Or}
 use Rattle.chw_base.specs.declared.outcome.Or.TheVariants.{Memory, Fault}
 use Rattle.chw_clock.specs.declared.event.Event.{Event}
 use Rattle.chw_clock.specs.declared.event.Ports.{Ports}
-use Rattle.chw_cli.specs.Answer.{CompileAnswer}
-use Rattle.chw_cli.specs.Answer.CompileAnswer.{compiled, not_compiled as not_compiled_first}
 use Rattle.chw_cli.specs.Descriptions.{CanCompile, HasProgram, IsTypedText}
 use Rattle.chw_cli.specs.Exact.{MakesWith}
 use Rattle.chw_cli.specs.Exact.MakesWith.{makes}
@@ -96,16 +94,9 @@ tally_refuses_made text stimulus tree p r d has (inl e) = inl e
 tally_refuses_made text stimulus tree p r d has (inr a) = inr (typed tree p (Err r) d has a)
 
 -- what refuses a program that isn't compiled refuses its tally
-compile_tally : (p : Program) (stimulus : List ℕ) (r : Refusal) → CompileAnswer p MOST_BUDGET (Err r) → TallyAnswer p stimulus (Err r)
-compile_tally p stimulus r a = only refl a
-  where
-    only : {answer : Result (List ℕ) Refusal} → answer ≡ Err r → CompileAnswer p MOST_BUDGET answer → TallyAnswer p stimulus (Err r)
-    only e (not_compiled_first fault w) = subst (TallyAnswer p stimulus) e (not_compiled fault w)
-    only e (compiled net is) = absurd (cc)
-
 pub compile_refuses_tally : (p : Program) (stimulus : List ℕ) (r : Refusal) → RefusesCompile p MOST_BUDGET r → RefusesTally p stimulus r
 compile_refuses_tally p stimulus r (inl e) = inl e
-compile_refuses_tally p stimulus r (inr a) = inr (compile_tally p stimulus r a)
+compile_refuses_tally p stimulus r (inr it) = inr (subst (λ x. TallyAnswer p stimulus (Err x)) (sym it.2) (not_compiled it.0 it.1))
 
 -- and so does what refuses the stimulus
 pub sim_refuses_tally : (p : Program) (stimulus : List ℕ) (net : Net) (flat : Flat) (e : Or SimFault) → CompilesTo p MOST_BUDGET net flat

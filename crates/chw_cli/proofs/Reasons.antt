@@ -9,10 +9,9 @@ use Rattle.chw_base.specs.declared.outcome.Or.TheVariants.{Memory, Fault}
 use Rattle.chw_base.specs.declared.shelf.Fetched.{Fetched}
 use Rattle.chw_base.specs.declared.shelf.Fetched.TheVariants.{Whole, TooLong}
 use Rattle.chw_base.specs.declared.shelf.ShelfFault.{ShelfFault}
-use Rattle.chw_cli.specs.Answer.{CommandAnswer, CompileAnswer, IsUnread, LacksText, SimulateAnswer}
+use Rattle.chw_cli.specs.Answer.{CommandAnswer, IsUnread, LacksText, SimulateAnswer}
 use Rattle.chw_cli.specs.Answer.Answer.{no_command, no_text, texts}
 use Rattle.chw_cli.specs.Answer.LacksText.{unread, too_long, later}
-use Rattle.chw_cli.specs.Answer.CompileAnswer.{compiled, not_compiled}
 use Rattle.chw_cli.specs.Answer.RunAnswer.{no_circuit as no_circuit_answer, no_stimulus as no_stimulus_answer}
 use Rattle.chw_cli.specs.Answer.SimulateAnswer.{no_stimulus as no_values_answer, not_compiled as not_compiled_answer, wrong_text as wrong_text_answer}
 use Rattle.chw_cli.specs.Answer.TextAnswer.{wrong, typed}
@@ -51,6 +50,7 @@ use Rattle.chw_terms.specs.declared.program.Program.{Program}
 use Rattle.chw_words.specs.Commands.{IsCommand, AreNoCommand}
 use Rattle.chw_words.specs.Commands.IsCommand.{emit, simulate, check, normalise, run, make}
 use Rattle.chw_words.specs.declared.command.Command.{Command}
+use Rattle.chw_words.specs.declared.command.EmitForm.{EmitForm}
 use Rattle.chw_words.specs.declared.command.SimForm.{SimForm}
 use Rattle.chw_words.specs.declared.command.Command.TheVariants.{Emit, Simulate, Check, Normalise, Run, Make}
 use Rattle.chw_words.specs.declared.command.WordsFault.{WordsFault}
@@ -108,8 +108,8 @@ without_value P Q None h p = p
 without_value P Q (Some x) h p = absurd (h x refl)
 
 -- the file of a command is text
-pub emit_is_text : (words : List (List ℕ)) (file : List ℕ) (budget : ℕ) → IsCommand words (Emit file budget) → IsUtf8 file
-emit_is_text _ _ _ (emit words file budget is said) = is.text
+pub emit_is_text : (words : List (List ℕ)) (file : List ℕ) (budget : ℕ) (form : EmitForm) → IsCommand words (Emit file budget form) → IsUtf8 file
+emit_is_text _ _ _ _ (emit words rest found file budget form flags asked is said) = is.text
 
 pub normalise_is_text : (words : List (List ℕ)) (file : List ℕ) (budget : ℕ) → IsCommand words (Normalise file budget) → IsUtf8 file
 normalise_is_text _ _ _ (normalise words file budget is said) = is.text
@@ -221,20 +221,20 @@ module _ {S : Type 0} (gives : S → List ℕ → ℕ → Result Fetched (Or She
     second_refuses = next_file_refuses command second is (whole text ∷ []) m asked_second lacks_second
 
 -- what is wrong with the text of a description is the answer of its command
-pub emit_answers : (file text : List ℕ) (budget : ℕ) (r : Refusal) → RefusesText text r
-    → (r ≡ refusal.Memory) ⊎ CommandAnswer (Emit file budget) (whole text ∷ []) (Err r)
-emit_answers file text budget r (inl e) = inl e
-emit_answers file text budget r (inr w) = inr (wrong text r w)
+pub emit_answers : (file text : List ℕ) (budget : ℕ) (form : EmitForm) (r : Refusal) → RefusesText text r
+    → (r ≡ refusal.Memory) ⊎ CommandAnswer (Emit file budget form) (whole text ∷ []) (Err r)
+emit_answers file text budget form r (inl e) = inl e
+emit_answers file text budget form r (inr w) = inr (wrong text r w)
 
 pub check_answers : (file text : List ℕ) (r : Refusal) → RefusesText text r → (r ≡ refusal.Memory) ⊎ CommandAnswer (Check file) (whole text ∷ []) (Err r)
 check_answers file text r (inl e) = inl e
 check_answers file text r (inr w) = inr (wrong text r w)
 
 -- so is what `emit` refuses of a description that is typed
-pub emit_refuses : (file text : List ℕ) (budget : ℕ) (tree : Tree) (r : Refusal) → IsTypedText text tree → RefusesEmit tree budget r
-    → (r ≡ refusal.Memory) ⊎ CommandAnswer (Emit file budget) (whole text ∷ []) (Err r)
-emit_refuses file text budget tree r w (inl e) = inl e
-emit_refuses file text budget tree r w (inr a) = inr (typed text tree (Err r) w a)
+pub emit_refuses : (file text : List ℕ) (budget : ℕ) (form : EmitForm) (tree : Tree) (r : Refusal) → IsTypedText text tree
+    → RefusesEmit tree budget form r → (r ≡ refusal.Memory) ⊎ CommandAnswer (Emit file budget form) (whole text ∷ []) (Err r)
+emit_refuses file text budget form tree r w (inl e) = inl e
+emit_refuses file text budget form tree r w (inr a) = inr (typed text tree (Err r) w a)
 
 -- and so is what `normalise` refuses
 pub normalise_answers : (file text : List ℕ) (budget : ℕ) (r : Refusal) → RefusesText text r
@@ -280,18 +280,11 @@ pub simulate_answers : (file stimulus text : List ℕ) (budget : ℕ) (form : Si
 simulate_answers file stimulus text budget form r (inl e) = inl e
 simulate_answers file stimulus text budget form r (inr w) = inr (wrong_text_answer text r w)
 
-compile_answer : (text : List ℕ) (budget : ℕ) (form : SimForm) (tree : Tree) (p : Program) (r : Refusal) → IsTypedText text tree → HasProgram tree p
-    → CompileAnswer p budget (Err r) → SimulateAnswer budget form (whole text ∷ []) (Err r)
-compile_answer text budget form tree p r d has a = only refl a
-  where
-    only : {answer : Result (List ℕ) Refusal} → answer ≡ Err r → CompileAnswer p budget answer → SimulateAnswer budget form (whole text ∷ []) (Err r)
-    only e (not_compiled fault w) = subst (SimulateAnswer budget form (whole text ∷ [])) e (not_compiled_answer text tree p fault d has w)
-    only e (compiled net is) = absurd (cc)
-
 pub compile_answers : (file stimulus text : List ℕ) (budget : ℕ) (form : SimForm) (tree : Tree) (p : Program) (r : Refusal) → IsTypedText text tree → HasProgram tree p
     → RefusesCompile p budget r → (r ≡ refusal.Memory) ⊎ CommandAnswer (Simulate file stimulus budget form) (whole text ∷ []) (Err r)
 compile_answers file stimulus text budget form tree p r d has (inl e) = inl e
-compile_answers file stimulus text budget form tree p r d has (inr a) = inr (compile_answer text budget form tree p r d has a)
+compile_answers file stimulus text budget form tree p r d has (inr it) =
+    inr (subst (λ x. SimulateAnswer budget form (whole text ∷ []) (Err x)) (sym it.2) (not_compiled_answer text tree p it.0 d has it.1))
 
 pub simulation_answers : (file stimulus text : List ℕ) (budget : ℕ) (form : SimForm) (p : Program) → Compiles text budget p → (bytes : List ℕ) (r : Refusal)
     → RefusesSimulation p bytes r → (r ≡ refusal.Memory) ⊎ CommandAnswer (Simulate file stimulus budget form) (whole text ∷ whole bytes ∷ []) (Err r)

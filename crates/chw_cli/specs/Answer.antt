@@ -22,6 +22,8 @@ use Rattle.chw_terms.specs.declared.scene.Made.{Made}
 use Rattle.chw_words.specs.Commands.{IsCommand, AreNoCommand}
 use Rattle.chw_words.specs.declared.command.Command.{Command}
 use Rattle.chw_words.specs.declared.command.Command.TheVariants.{Emit, Simulate, Check, Normalise, Run, Make}
+use Rattle.chw_words.specs.declared.command.EmitForm.{EmitForm}
+use Rattle.chw_words.specs.declared.command.EmitForm.TheVariants.{Verilog, Shared}
 use Rattle.chw_words.specs.declared.command.SimForm.{SimForm}
 use Rattle.judge.specs.Lines.{state_line}
 use Rattle.judge.specs.States.{IsFinished, RefusesState}
@@ -32,8 +34,11 @@ use Rattle.rewriting.specs.Runs.{Step}
 use Rattle.answers.specs.Compilation.Compiling.{CompilesTo, IsCompileFault}
 use Rattle.answers.specs.declared.compiled.fault.CompileFault.{CompileFault}
 use Rattle.net_means.specs.Outputs.{NetMeans}
+use Rattle.net_flat.specs.Flattened.{IsFlatOf}
 use Rattle.net_rules.specs.WellFormed.{WellFormed}
+use Rattle.netlist.specs.Orders.{HasNoLoop}
 use Rattle.netlist.specs.Sound.{Sound}
+use Rattle.share_laws.specs.Shares.{Shares, as_net}
 use Rattle.normal_forms.specs.Parts.{IsFirstOrder, IsMonomorphic}
 use Rattle.netlist.specs.declared.net.Net.{Net}
 use Rattle.chw_norm.specs.Rules.{built}
@@ -80,17 +85,45 @@ pub record IsNetFor (p : Program) (budget : ℕ) (net : Net) : Type 0 where
   pub sound : Sound flat
   pub means : NetMeans p flat
 
+-- the net is the shared net, as one module, of one that the program is compiled to by so many
+-- steps at most, whose flat net is sound: the shared one is well formed, and its text, read again,
+-- denotes it and no other; its flat net is the one that is shared, which is sound and has no loop,
+-- and at each history of the program the outputs of that have the bits of what they mean
+pub record IsSharedFor (p : Program) (budget : ℕ) (net : Net) : Type 0 where
+  pub from : Net
+  pub flat : Flat
+  pub compiles : CompilesTo p budget from flat
+  pub first_order : AreFirstOrder p compiles.net_is.state
+  pub from_sound : Sound flat
+  pub shared : Flat
+  pub shares : Shares flat shared
+  pub same : net ≡ as_net shared
+  pub well_formed : WellFormed net
+  pub text : DenotesOnly (net_text net) net
+  pub flattens : IsFlatOf net shared
+  pub sound : Sound shared
+  pub no_loop : HasNoLoop shared
+  pub means : NetMeans p shared
+
+-- the net is such a net, by the form that is asked for
+abbrev pub IsNetIn : EmitForm → Program → ℕ → Net → Type 0
+IsNetIn Verilog = IsNetFor
+IsNetIn Shared = IsSharedFor
+
 -- the answer of `emit` to a program: the text of such a net, or why it can't be compiled
-pub data CompileAnswer (p : Program) (budget : ℕ) : Result (List ℕ) Refusal → Type 0 where
+pub data CompileAnswer (p : Program) (budget : ℕ) (form : EmitForm)
+    : Result (List ℕ) Refusal → Type 0 where
   not_compiled : (fault : CompileFault) → IsCompileFault p budget fault
-      → CompileAnswer p budget (Err (refusal_of_compile p fault))
-  compiled : (net : Net) → IsNetFor p budget net → CompileAnswer p budget (Ok (net_text net))
+      → CompileAnswer p budget form (Err (refusal_of_compile p fault))
+  compiled : (net : Net) → IsNetIn form p budget net
+      → CompileAnswer p budget form (Ok (net_text net))
 
 -- the answer of `emit` to a description: that to its program
-pub record EmitAnswer (tree : Tree) (budget : ℕ) (answer : Result (List ℕ) Refusal) : Type 0 where
+pub record EmitAnswer (tree : Tree) (budget : ℕ) (form : EmitForm)
+    (answer : Result (List ℕ) Refusal) : Type 0 where
   pub program : Program
   pub has : HasProgram tree program
-  pub answers : CompileAnswer program budget answer
+  pub answers : CompileAnswer program budget form answer
 
 -- the answer of `simulate`: why the first text is no description that is typed; or why its program
 -- can't be compiled; or, where it can, why the second text is no stimulus of values for it; or,
@@ -137,8 +170,8 @@ pub data RunAnswer : List Read → Result (List ℕ) Refusal → Type 0 where
 
 -- the answer of a command to what it read, where that was whole
 abbrev pub CommandAnswer : Command → List Read → Result (List ℕ) Refusal → Type 0
-CommandAnswer (Emit file budget) =
-    TextAnswer (λ text tree answer. EmitAnswer tree budget answer)
+CommandAnswer (Emit file budget form) =
+    TextAnswer (λ text tree answer. EmitAnswer tree budget form answer)
 CommandAnswer (Simulate file stimulus budget form) = SimulateAnswer budget form
 CommandAnswer (Check file) = TextAnswer (λ text tree answer. answer ≡ Ok (Text tree))
 CommandAnswer (Normalise file budget) =

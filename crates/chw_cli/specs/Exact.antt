@@ -3,6 +3,7 @@ use Rattle.std.specs.Prelude.{◌≡◌, ◌≤◌, ℕ, List, [], ◌∷◌, le
 use Rattle.chw_base.specs.Files.{Files, file_of}
 use Rattle.chw_clock.specs.declared.event.Event.{Event}
 use Rattle.chw_clock.specs.declared.event.Ports.{Ports}
+use Rattle.chw_cli.specs.Answer.{IsNetIn}
 use Rattle.chw_cli.specs.Descriptions.{CanCompile, HasProgram, IsCompilable, IsDescription, IsTypedText}
 use Rattle.chw_cli.specs.Reads.{GoesOn, Wanted, wants}
 use Rattle.chw_cli.specs.declared.status.Status.{Status}
@@ -15,11 +16,13 @@ use Rattle.chw_words.specs.Commands.{IsCommand, AreNoCommand}
 use Rattle.chw_words.specs.declared.budget.TheConstants.{MOST_BUDGET}
 use Rattle.chw_words.specs.declared.command.Command.{Command}
 use Rattle.chw_words.specs.declared.command.Command.TheVariants.{Emit, Simulate, Check, Normalise, Run, Make}
+use Rattle.chw_words.specs.declared.command.EmitForm.{EmitForm}
 use Rattle.judge.specs.States.{IsBlockedNowhere}
 use Rattle.answers.specs.MakeAnswer.Events.{make_stimulus}
 use Rattle.make_text.specs.MakeText.{make_text}
 use Rattle.normal_forms.specs.Uses.{IsAcyclic}
 use Rattle.netlist.specs.declared.net.Flat.{Flat}
+use Rattle.netlist.specs.declared.net.Net.{Net}
 use Rattle.rewriting.specs.Runs.{Step}
 use Rattle.rewriting.specs.Steps.{HasNoStep}
 use Rattle.chw_norm.specs.Rules.{built}
@@ -72,7 +75,7 @@ pub data MakesWith (text stimulus : List ℕ) : List (List ℕ) → Type 0 where
 
 -- the texts of the files of a command break no restriction
 abbrev pub BreakNothing : Command → List (List ℕ) → Type 0
-BreakNothing (Emit file budget) = BreaksNone (IsCompilable budget)
+BreakNothing (Emit file budget form) = BreaksNone (IsCompilable budget)
 BreakNothing (Simulate file stimulus budget form) = SimulatesWith budget
 BreakNothing (Check file) = BreaksNone (λ text. Unit {0})
 BreakNothing (Normalise file budget) = BreaksNone (HasNormalRun budget)
@@ -117,3 +120,9 @@ pub record IsExact (told : Option Files) (words : List (List ℕ)) (ShelfRose Ou
   pub complete : (files : Files) (command : Command) (texts : List (List ℕ)) → told ≡ Some files
       → IsCommand words command → AreHeld files (wants command) texts → BreakNothing command texts
       → (ShelfRose → ⊥) → (OutRose → ⊥) → Ends status.Ok s
+
+-- in each form `emit` has one net at most for a program, whatever the budgets are
+abbrev pub OneNetIn : Type 0
+OneNetIn =
+    (form : EmitForm) (p : Program) (budget other : ℕ) (a b : Net)
+    → IsNetIn form p budget a → IsNetIn form p other b → a ≡ b

@@ -43,7 +43,7 @@ stimulus_in file = record {
 
 -- the files that a command wants, in the order in which it reads them
 abbrev pub wants : Command → List Wanted
-wants (Emit file budget) = description_in file ∷ []
+wants (Emit file budget form) = description_in file ∷ []
 wants (Simulate file stimulus budget form) = description_in file ∷ stimulus_in stimulus ∷ []
 wants (Check file) = description_in file ∷ []
 wants (Normalise file budget) = description_in file ∷ []
@@ -55,7 +55,7 @@ wants (Make taps) = []
 -- Verilog text that can be run. A text is one of the former exactly where its program can be
 -- compiled, by the law `compilable_is_compiled`.
 abbrev pub GoesOn : Command → List ℕ → Type 0
-GoesOn (Emit file budget) text = ⊥
+GoesOn (Emit file budget form) text = ⊥
 GoesOn (Simulate file stimulus budget form) text = IsCompiled budget text
 GoesOn (Check file) text = ⊥
 GoesOn (Normalise file budget) text = ⊥

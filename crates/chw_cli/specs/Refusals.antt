@@ -16,7 +16,9 @@ use Rattle.chw_parser.specs.declared.parsing.ParseFault.TheVariants.{Syntax, Dep
 use Rattle.chw_grammar.specs.declared.program.Tree.{Tree}
 use Rattle.chw_norm.specs.declared.running.RunFault.{RunFault}
 use Rattle.chw_resolve.specs.declared.fault.NameFault.{NameFault}
+use Rattle.chw_words.specs.declared.command.EmitForm.{EmitForm}
 use Rattle.chw_words.specs.declared.command.WordsFault.{WordsFault}
+use Rattle.answers.specs.Compilation.Compiling.{IsCompileFault}
 use Rattle.answers.specs.declared.compiled.fault.CompileFault.{CompileFault}
 use Rattle.chw_terms.specs.declared.program.Program.{Program}
 use Rattle.chw_terms.specs.declared.scene.Made.{Made}
@@ -72,13 +74,19 @@ of_sim_fault (Fault f) = refusal_of_sim f
 abbrev pub IsCompileRefusal : Program → CompileFault → Refusal → Type 0
 IsCompileRefusal p fault r = (r ≡ refusal.Memory) ⊎ (r ≡ refusal_of_compile p fault)
 
--- why a program isn't compiled: want of memory, or the refusal is the answer
+-- why a program isn't compiled: want of memory, or what is wrong with it
 abbrev pub RefusesCompile : Program → ℕ → Refusal → Type 0
-RefusesCompile p budget r = (r ≡ refusal.Memory) ⊎ CompileAnswer p budget (Err r)
+RefusesCompile p budget r =
+    (r ≡ refusal.Memory)
+    ⊎ ((fault : CompileFault) × IsCompileFault p budget fault × (r ≡ refusal_of_compile p fault))
+
+-- why a program has no text of a net: want of memory, or the refusal is the answer
+abbrev pub RefusesNet : Program → ℕ → EmitForm → Refusal → Type 0
+RefusesNet p budget form r = (r ≡ refusal.Memory) ⊎ CompileAnswer p budget form (Err r)
 
 -- why a description isn't emitted: want of memory, or the refusal is the answer
-abbrev pub RefusesEmit : Tree → ℕ → Refusal → Type 0
-RefusesEmit tree budget r = (r ≡ refusal.Memory) ⊎ EmitAnswer tree budget (Err r)
+abbrev pub RefusesEmit : Tree → ℕ → EmitForm → Refusal → Type 0
+RefusesEmit tree budget form r = (r ≡ refusal.Memory) ⊎ EmitAnswer tree budget form (Err r)
 
 -- the refusal of a state that is at fault: its line, or want of memory
 abbrev pub IsRefusalOf : Program → StateFault → Refusal → Type 0

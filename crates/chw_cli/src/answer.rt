@@ -15,7 +15,7 @@ use crate::run::{read_circuit, run_lines};
 use crate::simulate::simulated;
 use chw_base::{Name, Shelf};
 use chw_text::print;
-use chw_words::{Command, SimForm, read_words};
+use chw_words::{Command, EmitForm, SimForm, read_words};
 use std::alloc::Global;
 
 /// The bytes to write, or why there are none.
@@ -28,7 +28,7 @@ pub(crate) fn answer<F: Shelf>(
     ensures refuses { IfErr result (Refuses (Asks F.fetch_gives F.told F.faults words.now shelf.old shelf.new) words.now) }
 {
     match read_words(alloc, words)? {
-        Command::Emit { file, budget } => emit(alloc, words, &file, budget, shelf),
+        Command::Emit { file, budget, form } => emit(alloc, words, &file, budget, form, shelf),
         Command::Simulate {
             file,
             stimulus,
@@ -48,14 +48,15 @@ fn emit<F: Shelf>(
     words: &[Name],
     file: &Name,
     budget: u32,
+    form: EmitForm,
     shelf: &mut F,
 ) -> Result<Vec<u8>, Refusal>
-    requires { IsCommand words.now (Emit file.now budget) }
+    requires { IsCommand words.now (Emit file.now budget form) }
     ensures answers { IfOk result (λ bytes. AnswersBy (Asks F.fetch_gives F.told F.faults words.now shelf.old shelf.new) words.now (Ok bytes.items)) }
     ensures refuses { IfErr result (Refuses (Asks F.fetch_gives F.told F.faults words.now shelf.old shelf.new) words.now) }
 {
     let description = read_description(alloc, file, shelf)?;
-    emitted(alloc, &description, budget)
+    emitted(alloc, &description, budget, form)
 }
 
 /// The answer of `simulate` to the description and the stimulus in two files.

@@ -3,6 +3,7 @@ ghost use Rattle.std.specs.Prelude.{◌≡◌, ℕ, List};
 ghost use Rattle.chw_base.specs.Faults.{Rose};
 ghost use Rattle.chw_cli.specs.Delivery.{WritesAll, StopsAt};
 ghost use Rattle.chw_cli.specs.Descriptions.{CompilableIsCompiled};
+ghost use Rattle.chw_cli.specs.Exact.{OneNetIn};
 ghost use Rattle.chw_cli.specs.Outcome.{Outcome, Told};
 ghost use Rattle.chw_cli.specs.Reads.{Asks};
 ghost use Rattle.chw_cli.specs.declared.status.Status.{Status};
@@ -11,7 +12,7 @@ ghost use Rattle.chw_words.specs.declared.command.Command.TheVariants.{Make};
 ghost use Rattle.chw_cli.specs.MakeLaws.{HaveOneOfTwoStatuses, IsOfMake, MadeTextsAreTyped, MakeIsRefusedForItsProgram, WordsAreRefusedForTheProgram};
 ghost use Rattle.chw_cli.specs.Waves.{WrittenWavesAreRead};
 
-use answers::compiled::laws::{nothing_refuses_a_compile, small_ends_compile};
+use answers::compiled::laws::{nothing_refuses_a_compile, one_compiled, small_ends_compile};
 use answers::make_answer::laws::made_stimuli;
 use answers::sim_answer::laws::{refusals, waves_are_read};
 use chw_base::{Shelf, Sink};
@@ -25,6 +26,7 @@ use make_laws::laws::{
     made_programs_take_words, made_texts_are_descriptions, made_texts_have_the_tree,
 };
 use make_typed::laws::{made_names_are_known, made_programs_are_there, made_programs_are_typed};
+use share_laws::laws::one_shared_net;
 
 /// The text that `make` makes is a description that is typed.
 pub fn made_texts_are_typed()
@@ -84,6 +86,14 @@ pub fn compilable_is_compiled()
     nothing_refuses_a_compile();
     one_program();
     small_ends_compile();
+}
+
+/// In each form there is one net at most of which `emit` writes the text, and so one text.
+pub fn one_net_is_emitted()
+    ensures { OneNetIn }
+{
+    one_compiled();
+    one_shared_net();
 }
 
 /// The bytes that are answered to `simulate` with the flag of waves are the text of a wave. At both
