@@ -1,7 +1,7 @@
 //! Words, each with the command that they are.
 use chw_base::{NoMemory, Or};
 use chw_words::budget::read_budget;
-use chw_words::{Command, SimForm, WordsFault, read_words};
+use chw_words::{Command, EmitForm, SimForm, WordsFault, read_words};
 use row_tables::{Unread, put, put_bytes, put_number, words_of};
 use std::alloc::Global;
 
@@ -25,7 +25,10 @@ fn put_outcome(read: &Result<Command, Or<WordsFault>>, out: &mut Vec<u8>) -> Res
 
 fn put_read(command: &Command, out: &mut Vec<u8>) -> Result<(), NoMemory> {
     match command {
-        Command::Emit { file, budget } => put_budgeted(out, "emit", file.as_slice(), *budget),
+        Command::Emit { file, budget, form } => {
+            put_budgeted(out, "emit", file.as_slice(), *budget)?;
+            put(out, emit_word(*form))
+        }
         Command::Simulate {
             file,
             stimulus,
@@ -34,7 +37,7 @@ fn put_read(command: &Command, out: &mut Vec<u8>) -> Result<(), NoMemory> {
         } => {
             put_file(out, "simulate", file.as_slice())?;
             put_budgeted(out, "", stimulus.as_slice(), *budget)?;
-            put(out, form_word(*form))
+            put(out, sim_word(*form))
         }
         Command::Check { file } => put_file(out, "check", file.as_slice()),
         Command::Normalise { file, budget } => {
@@ -48,8 +51,16 @@ fn put_read(command: &Command, out: &mut Vec<u8>) -> Result<(), NoMemory> {
     }
 }
 
+/// What is shown of the form of a net.
+fn emit_word(form: EmitForm) -> &'static str {
+    match form {
+        EmitForm::Verilog => "",
+        EmitForm::Shared => " as shared",
+    }
+}
+
 /// What is shown of the form of a simulation.
-fn form_word(form: SimForm) -> &'static str {
+fn sim_word(form: SimForm) -> &'static str {
     match form {
         SimForm::Lines => "",
         SimForm::Waves => " as waves",
