@@ -12,7 +12,6 @@ import subprocess
 import sys
 import time
 
-PROGRAM, FOLDER = sys.argv[1], sys.argv[2]
 MOST_SECONDS = 60
 HEAD = "domain Sys;\n"
 TOP = "def main : Signal Sys Bool -> Signal Sys Bool = \\(x : Signal Sys Bool) . x;\ntop main (x) (o);\n"
@@ -143,7 +142,7 @@ SHAPES = {
 }
 
 
-def run(path, stack=None):
+def run(program, path, stack=None):
     """The status, the seconds and the most memory in MiB of one run."""
     def limits():
         resource.setrlimit(resource.RLIMIT_AS, (1 << 30, 1 << 30))
@@ -151,20 +150,28 @@ def run(path, stack=None):
         if stack:
             resource.setrlimit(resource.RLIMIT_STACK, (stack, stack))
     start = time.perf_counter()
-    it = subprocess.Popen([PROGRAM, "check", path], stdout=subprocess.DEVNULL, stderr=subprocess.DEVNULL, preexec_fn=limits)
+    it = subprocess.Popen([program, "check", path], stdout=subprocess.DEVNULL, stderr=subprocess.DEVNULL, preexec_fn=limits)
     _, status, used = os.wait4(it.pid, 0)
     seconds = time.perf_counter() - start
     return os.waitstatus_to_exitcode(status), seconds, used.ru_maxrss / 1024
 
 
-print(f"{'shape':62} {'bytes':>9} {'status':>6} {'ms':>8} {'MiB':>6}")
-for name, make in SHAPES.items():
-    path = os.path.join(FOLDER, "hard.chw")
-    with open(path, "w") as it:
-        it.write(HEAD + make())
-    runs = [run(path)]
-    # A long run isn't made again.
-    runs += [run(path) for _ in range(2) if runs[0][1] < 2]
-    small = run(path, 4 << 20) if runs[0][1] < 2 else runs[0]
-    status = str(runs[0][0]) if small[0] == runs[0][0] else f"{runs[0][0]}/{small[0]}"
-    print(f"{name:62} {os.path.getsize(path):9,} {status:>6} {min(r[1] for r in runs) * 1000:8,.0f} {max(r[2] for r in runs):6,.0f}")
+def main():
+    if len(sys.argv) != 3:
+        sys.exit(__doc__)
+    program, folder = sys.argv[1:]
+    print(f"{'shape':62} {'bytes':>9} {'status':>6} {'ms':>8} {'MiB':>6}")
+    for name, make in SHAPES.items():
+        path = os.path.join(folder, "hard.chw")
+        with open(path, "w") as it:
+            it.write(HEAD + make())
+        runs = [run(program, path)]
+        # A long run isn't made again.
+        runs += [run(program, path) for _ in range(2) if runs[0][1] < 2]
+        small = run(program, path, 4 << 20) if runs[0][1] < 2 else runs[0]
+        status = str(runs[0][0]) if small[0] == runs[0][0] else f"{runs[0][0]}/{small[0]}"
+        print(f"{name:62} {os.path.getsize(path):9,} {status:>6} {min(r[1] for r in runs) * 1000:8,.0f} {max(r[2] for r in runs):6,.0f}")
+
+
+if __name__ == "__main__":
+    main()
