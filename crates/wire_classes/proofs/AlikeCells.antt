@@ -73,21 +73,23 @@ module _ (flat : Flat) (of : List ℕ) (labels : AreLabels flat of) where
       let other = slice_get_within (map (cell_key of) flat.cells) q clash.key clash.other in
       (omega (arith, count, one), omega (arith, count, other))
 
-  -- and drive equal wires
+  -- they drive equal wires
+  pub cells_equal : (p q v w : ℕ) (c d : Cell) → slice_get flat.cells p ≡ Some c → slice_get flat.cells q ≡ Some d
+      → target_at flat.cells p ≡ Some v → target_at flat.cells q ≡ Some w → cell_key of c ≡ cell_key of d → Same flat v w
+  cells_equal p q v w c d here there at to keys =
+      let t = target_there flat p v c here at in
+      let u = target_there flat q w d there to in
+      let meet = cell_apart of c d v t keys in
+      let reads = reads_exist (length flat.ports.domains) flat.widths c (fits_cell flat c labels.sound (p, here)) in
+      let others = reads_exist (length flat.ports.domains) flat.widths d (fits_cell flat d labels.sound (q, there)) in
+      equal_cells c d v w (p, here) (q, there) t u meet.bares (all_same (read_by c) (read_by d) reads others meet.labels)
+
   pub keys_equal : (p q v w : ℕ) (key : List ℕ) → target_at flat.cells p ≡ Some v → target_at flat.cells q ≡ Some w
       → slice_get (map (cell_key of) flat.cells) p ≡ Some key → slice_get (map (cell_key of) flat.cells) q ≡ Some key → Same flat v w
   keys_equal p q v w key at to here there =
       let one = mapped_at (cell_key of) flat.cells p key here in
       let other = mapped_at (cell_key of) flat.cells q key there in
-      let c = one.0 in
-      let d = other.0 in
-      let t = target_there flat p v c one.1 at in
-      let u = target_there flat q w d other.1 to in
-      let keys : cell_key of c ≡ cell_key of d = one.2 ∙ sym other.2 in
-      let meet = cell_apart of c d v t keys in
-      let reads = reads_exist (length flat.ports.domains) flat.widths c (fits_cell flat c labels.sound (p, one.1)) in
-      let others = reads_exist (length flat.ports.domains) flat.widths d (fits_cell flat d labels.sound (q, other.1)) in
-      equal_cells c d v w (p, one.1) (q, other.1) t u meet.bares (all_same (read_by c) (read_by d) reads others meet.labels)
+      cells_equal p q v w one.0 other.0 one.1 other.1 at to (one.2 ∙ sym other.2)
 
   pub cells_merged : (known : List Bool) (p q v w : ℕ) → target_at flat.cells p ≡ Some v → target_at flat.cells q ≡ Some w
       → KeysClash (map (cell_key of) flat.cells) (drop inputs of) p q → IsStep flat of known (Merge v w)
@@ -153,3 +155,13 @@ module _ (flat : Flat) (of : List ℕ) (known : List Bool) (values : List (List 
           absurd (let h : ◌≡◌ {A = ℕ} 0 1 = ap first_of (sym (other_key v m) ∙ keys_are ∙ marked_key w k) in omega (arith, h))
       by false false m k =
           let is = tagged_apart 0 v w [] [] (sym (other_key v m) ∙ keys_are ∙ other_key w k) in absurd (clash.apart (ap (label_of of) is.0))
+
+-- marked wires with equal keys are equal
+pub marked_equal : (flat : Flat) (of : List ℕ) (known : List Bool) (values : List (List Bool)) → AreFound flat of known values
+    → (v w : ℕ) → mark_of known v ≡ true → mark_of known w ≡ true → wire_key known values v ≡ wire_key known values w → Same flat v w
+marked_equal flat of known values found v w m k e =
+    let one = cond-true (mark_of known v) (known_key (bits_in values v)) (tagged 0 v) m in
+    let other = cond-true (mark_of known w) (known_key (bits_in values w)) (tagged 0 w) k in
+    let same : bits_in values v ≡ bits_in values w =
+    bits_apart (bits_in values v) (bits_in values w) (ap rest_of (sym one ∙ e ∙ other)) in
+    equal_bits v w (bits_in values v) (found.bits v m) (subst (λ bits. IsKnown flat w bits) (sym same) (found.bits w k))

@@ -1,7 +1,10 @@
 //! The classes of equal wires of a flat net, and the wires of which bits are known.
 //!
-//! What is found is a label for each wire and marks of known wires. A step joins two labels or sets
-//! a mark; where no step is left, the labels are the classes.
+//! What is found is a label for each wire and marks of known wires. `search` finds them cell by cell,
+//! and looks at a cell again where what it reads got another label or a mark: each is true, and no
+//! clause says that none is missed. `steps` then takes the steps that are left, which are none where
+//! the search missed nothing, and looks at each cell once to see that none is. So the labels are the
+//! classes.
 #![tactic(auto)]
 
 mod cells;
@@ -12,8 +15,10 @@ mod keys;
 mod labels;
 mod marks;
 mod partition;
+mod search;
 mod steps;
 mod values;
+mod work;
 
 pub use classes::Classes;
 pub use partition::classes_of;
