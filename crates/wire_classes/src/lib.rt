@@ -1,10 +1,10 @@
 //! The classes of equal wires of a flat net, and the wires of which bits are known.
 //!
-//! What is found is a label for each wire and marks of known wires. `search` finds them cell by cell,
-//! and looks at a cell again where what it reads got another label or a mark: each is true, and no
-//! clause says that none is missed. `steps` then takes the steps that are left, which are none where
-//! the search missed nothing, and looks at each cell once to see that none is. So the labels are the
-//! classes.
+//! What is found is a label for each wire and marks of known wires. `search` finds them cell by
+//! cell, and looks at a cell again where what it reads got another label or a mark. Each is true,
+//! and no clause says that none is missed. `steps` then takes the steps that are left, and looks at
+//! each cell once to see that none is. Each of these steps costs a look at the whole net, so the
+//! time rests on it that the search misses nothing. The classes don't.
 #![tactic(auto)]
 
 mod cells;
