@@ -11,19 +11,25 @@
 //! texts, `v` and `s`, and `files "WORD" .. TEXT %% STIM` has other words.
 //! `fails COMMAND N N N TEXT %% STIM` is a command on both files where a call of the shelf, of the
 //! output and of the error output fails, by their numbers from 0, and shows how many bytes were
-//! written.
+//! written. `failing N N N "WORD" .. TEXT %% STIM` has other words.
+//!
+//! `prefixes COMMAND TEXT %% STIM` runs a command on each proper prefix of the text in `v`, and
+//! shows how many runs end with each status and code. `stimulus_prefixes` cuts the text in `s`, and
+//! `replaced BYTE COMMAND TEXT %% STIM` puts a byte for each of those in `v` in turn.
 //!
 //! After the rows come the commands of standard input, run on the files of the system: here the
 //! examples of the documents. Each is shown as `chw COMMAND`, what it writes, and `status N`.
 #![tactic(auto)]
 
+mod changes;
 mod commands;
 mod nets;
 mod run;
 
+use changes::{put_prefixes, put_replaced, put_stimulus_prefixes};
 use chw_base::{Name, NoMemory, Or};
 use commands::run_commands;
-use nets::{put_failing, put_net, put_words_on_files};
+use nets::{put_failing, put_failing_words, put_net, put_words_on_files};
 use row_tables::{Unread, bytes_of, print_rows, words_of};
 use run::{Fails, NONE, Shown, one_file, put_run};
 use std::alloc::Global;
@@ -44,6 +50,10 @@ fn answer(alloc: Global, call: &str, text: &str, out: &mut Vec<u8>) -> Result<()
         "normalise" => put_command(alloc, "normalise", call, text, out),
         "run" | "simulate" => put_net(alloc, call, text, out),
         "fails" => put_failing(alloc, text, out),
+        "failing" => put_failing_words(alloc, text, out),
+        "prefixes" => put_prefixes(alloc, text, out),
+        "stimulus_prefixes" => put_stimulus_prefixes(alloc, text, out),
+        "replaced" => put_replaced(alloc, text, out),
         "files" => put_words_on_files(alloc, text, out),
         _ => put_command(alloc, "emit", call, text, out),
     }
