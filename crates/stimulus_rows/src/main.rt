@@ -1,12 +1,19 @@
-//! Rows of stimuli: the events of a text, or the line that isn't taken, and the printed lines.
+//! Rows of stimuli: the events of a text, or the line that isn't taken, and the printed lines. Rows
+//! of waves: the variables and times of a text, or its fault.
 //!
 //! `read "DOMAINS" "INPUTS" "TEXT"` gives the events of the text, each run of equal ones behind its
 //! count, or the fault. `lines "DOMAINS" "INPUTS" "OUTPUTS" "TEXT"` prints the lines of its events,
 //! where each output has the bits of the input in its place. DOMAINS are names, with `!` where the
 //! domain has a reset. INPUTS and OUTPUTS are a domain, a name and a width each, with `, ` between.
+//!
+//! `wave "TEXT"` gives the variables with their widths, and each time with its changes: the numbers
+//! of variables and their values. Or it gives the fault.
+//!
+//! `value "VAR" "TIME" "TEXT"` gives the value of the variable of this number at this time.
 #![tactic(auto)]
 
 mod ports;
+mod wave_rows;
 
 use chw_base::limits::DOMAINS;
 use chw_base::{DomId, NoMemory, Or, Seq};
@@ -18,11 +25,17 @@ use std::alloc::Global;
 use std::io;
 use stimulus::laws::{no_fault, one_fault, one_stimulus};
 use stimulus::{StimFault, print_line, read_stimulus};
+use wave_rows::{put_read, put_value};
+use wave_text::laws::{no_text_is_both, one_wave, printed_waves_are_read, waves_have_the_values};
 
 fn main(rt: HostRuntime) -> io::Result<()> {
     one_stimulus();
     one_fault();
     no_fault();
+    one_wave();
+    no_text_is_both();
+    printed_waves_are_read();
+    waves_have_the_values();
     print_rows(&rt, answer)
 }
 
@@ -34,6 +47,8 @@ fn answer(alloc: Global, call: &str, text: &str, out: &mut Vec<u8>) -> Result<()
         ("lines", [domains, inputs, outputs, text]) => {
             put_lines(alloc, domains, inputs, outputs, text, out)
         }
+        ("wave", [text]) => put_read(alloc, text, out),
+        ("value", [var, time, text]) => put_value(alloc, var, time, text, out),
         _ => Err(Or::Fault(Unread)),
     }
 }
