@@ -3,11 +3,15 @@
 //!
 //! Its words are a form of net, `chain`, `tower` or `ports`, how many wires it has, and how far to go: `made`, `judged`, `flat`, `ordered`,
 //! `printed` or `read`, which reads the printed text. After `text` it writes the printed text itself.
+//!
+//! The form `waves` is a text of waves of so many events, in place of a net.
+//! It is `printed`, `read`, or written after `text`. bench/waves.sh times it.
 #![tactic(auto)]
 
 ghost use Rattle.net_rules.specs.WellFormed.{WellFormed};
 
 mod nets;
+mod wave_texts;
 
 use chw_base::{NoMemory, Or};
 use net_flat::flatten::flatten;
@@ -22,6 +26,7 @@ use std::process::ExitCode;
 use std::rt::Env;
 use verilog_print::print;
 use verilog_read::read;
+use wave_texts::{times_read, waves};
 
 /// Of a tower, how many modules it has.
 const STOREYS: u32 = 1_000;
@@ -91,6 +96,9 @@ fn made<R: Env + AllocGlobal>(rt: &R) -> Result<Written, Trouble> {
     let Some(stage) = stage_of(stage.as_str()) else {
         return Err(Trouble::Words);
     };
+    if form.as_str() == "waves" {
+        return with_waves(rt.alloc(), wires, stage);
+    }
     let net = match form.as_str() {
         "chain" => chain(rt.alloc(), wires)?,
         "tower" => tower(rt.alloc(), STOREYS, wires / STOREYS)?,
@@ -101,6 +109,16 @@ fn made<R: Env + AllocGlobal>(rt: &R) -> Result<Written, Trouble> {
         return Ok(Written::Text(print(rt.alloc(), &net)?));
     }
     Ok(Written::Count(go(rt.alloc(), &net, stage)?))
+}
+
+// Goes as far as this stage with the waves of so many events.
+fn with_waves(alloc: Global, events: u32, stage: Stage) -> Result<Written, Trouble> {
+    let text = waves(alloc, events)?;
+    match stage {
+        Stage::Text => Ok(Written::Text(text)),
+        Stage::Read => Ok(Written::Count(times_read(alloc, &text)?)),
+        _ => Ok(Written::Count(text.len())),
+    }
 }
 
 fn stage_of(word: &str) -> Option<Stage> {
