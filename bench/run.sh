@@ -1,10 +1,11 @@
 #!/usr/bin/env bash
-# Times `chw run`, beside Icarus Verilog's vvp on the same net and events where it is installed.
-# Usage: bench/run.sh [counter|sums|wires|stimulus]
+# Times `chw run` and `chw simulate --vcd`, beside Icarus Verilog's vvp on the same net and events where it is installed.
+# Usage: bench/run.sh [counter|sums|wires|stimulus|waves]
 #   counter: a counter of 8 bits, for 1,000 to 100,000 events
 #   sums: a chain of 964 sums between two registers, for 256 to 16,384 events
 #   wires: chains of 1,000 to 199,000 sums, for 256 events; vvp up to 10,000 sums alone, since it takes minutes on the others
 #   stimulus: a text of 64 MiB of inputs of 4,096 bits, and a quarter of it
+#   waves: the counter and the chain of sums as descriptions, whose waves are printed; vvp writes those of the same ports by `$dumpvars`
 # The time an event is that of the whole program less that of the program on an empty stimulus. vvp prints the same outputs.
 set -eu
 top=$(cd "$(dirname "$0")/.." && pwd)
@@ -61,6 +62,82 @@ open(f"{work}/stim", "w").write(line * (size // len(line)))
 PY
 }
 
+# A description of a counter (0 sums) or of a chain of so many sums, and a stimulus of so many events.
+described() {
+  python3 - "$1" "$2" "$work" <<'PY'
+import sys
+sums, events, work = int(sys.argv[1]), int(sys.argv[2]), sys.argv[3]
+if sums == 0:
+    text = """domain Sys;
+def main : Signal Sys (Unsigned 8) = letrec {
+  s : Signal Sys (Unsigned 8) =
+    register @Sys @(Unsigned 8) 0u8 (fmap @Sys @(Unsigned 8) @(Unsigned 8) (\\(x : Unsigned 8) . addU @8 x 1u8) s);
+} in s;
+top main () (o);
+"""
+else:
+    ty = "Signal Sys (Unsigned 16)"
+    lines = [f"domain Sys; def main : {ty} -> {ty} = \\(x : {ty}) . letrec {{"]
+    lines.append(f"  r : {ty} = register @Sys @(Unsigned 16) 1u16 w{sums - 1};")
+    before = "r"
+    for k in range(sums):
+        lift = f"fmap @Sys @(Unsigned 16) @(Unsigned 16 -> Unsigned 16) (addU @16) {before}"
+        lines.append(f"  w{k} : {ty} = ap @Sys @(Unsigned 16) @(Unsigned 16) ({lift}) x;")
+        before = f"w{k}"
+    text = "\n".join([*lines, "} in r;", "top main (x) (o);", ""])
+open(f"{work}/net.chw", "w").write(text)
+event = "Sys: x=0003\n" if sums else "Sys:\n"
+open(f"{work}/stim", "w").write(f"{events}* {event}" if events else "")
+PY
+}
+
+# A test bench for so many events of the text of such a description, which dumps the ports.
+dumping() {
+  python3 - "$1" "$2" "$work" <<'PY'
+import sys
+sums, events, work = int(sys.argv[1]), int(sys.argv[2]), sys.argv[3]
+width, x = (16, ", .i_Sys_x(x)") if sums else (8, "")
+open(f"{work}/tb.v", "w").write(f"""module tb;
+  reg clk = 0;
+  reg [15:0] x = 16'h0003;
+  wire [{width - 1}:0] o;
+  integer k;
+  chw_top top (.clk_Sys(clk){x}, .o_Sys_o(o));
+  initial begin
+    $dumpfile("{work}/dump.vcd");
+    $dumpvars(0, clk, x, o);
+    for (k = 0; k < {events}; k = k + 1) begin
+      #1 clk = 1;
+      #1 clk = 0;
+    end
+  end
+endmodule
+""")
+PY
+}
+
+# A row of waves: the whole times and bytes of both, the nanoseconds an event and a byte, and the ratio of the times of an event.
+waved() {
+  local sums=$1 events=$2 times=$3 empty none=- chw vvp=- bytes
+  described "$sums" 0
+  empty=$(least "$times" "$program" simulate "$work/net.chw" "$work/stim" --vcd)
+  described "$sums" "$events"
+  chw=$(least "$times" "$program" simulate "$work/net.chw" "$work/stim" --vcd)
+  bytes=$("$program" simulate "$work/net.chw" "$work/stim" --vcd | wc -c)
+  if command -v iverilog >/dev/null; then
+    "$program" emit "$work/net.chw" >"$work/net.v"
+    dumping "$sums" 0
+    iverilog -g2005 -o "$work/net.vvp" "$work/tb.v" "$work/net.v"
+    none=$(least "$times" vvp -n "$work/net.vvp")
+    dumping "$sums" "$events"
+    iverilog -g2005 -o "$work/net.vvp" "$work/tb.v" "$work/net.v"
+    vvp=$(least "$times" vvp -n "$work/net.vvp")
+  fi
+  printf '%8d %8d %10d %10d %10s %10s %10s %10s %8s\n' "$sums" "$events" "$chw" "$bytes" "$(by "$chw" "$empty" "$events")" \
+    "$(by "$chw" "$empty" "$bytes")" "$vvp" "$(by "$vvp" "$none" "$events")" \
+    "$(if [ "$vvp" = - ]; then echo -; else awk "BEGIN { printf \"%.2f\", ($chw - $empty) / ($vvp - $none) }"; fi)"
+}
+
 # The time of `chw run`, and that of vvp or a sign where it isn't installed.
 mine() { least "$1" "$program" run "$work/net.v" "$work/stim"; }
 other() {
@@ -108,8 +185,13 @@ case "$form" in
       printf '%10d %10d %10s\n' "$bytes" "$chw" "$(by "$chw" "$empty" "$bytes")"
     done
     ;;
+  waves)
+    printf '%8s %8s %10s %10s %10s %10s %10s %10s %8s\n' sums events 'chw us' bytes 'ns event' 'ns byte' 'vvp us' 'ns event' ratio
+    for events in 1000 10000 100000; do waved 0 "$events" 5; done
+    for events in 256 4096 16384; do waved 964 "$events" 3; done
+    ;;
   *)
-    sed -n '3,8s/^# \{0,1\}//p' "$0" >&2
+    sed -n '3,9s/^# \{0,1\}//p' "$0" >&2
     exit 1
     ;;
 esac
