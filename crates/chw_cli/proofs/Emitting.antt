@@ -25,7 +25,7 @@ use Rattle.data_kinds.specs.Laws.{OneProgram}
 pub fault_refuses : (p : Program) (budget : ℕ) (fault : CompileFault) (r : Refusal)
     → IsCompileFault p budget fault → IsCompileRefusal p fault r → RefusesCompile p budget r
 fault_refuses p budget fault r wrong (inl short) = inl short
-fault_refuses p budget fault r wrong (inr is) = inr (fault, (wrong, is))
+fault_refuses p budget fault r wrong (inr is) = inr (fault, wrong, is)
 
 -- the refusal of a program that isn't compiled is the answer in each form
 pub net_refuses : (p : Program) (budget : ℕ) (form : EmitForm) (r : Refusal) → RefusesCompile p budget r → RefusesNet p budget form r
