@@ -30,28 +30,28 @@ use Rattle.bit_laws.proofs.Rams.{length-ram_shown}
 use Rattle.bit_laws.proofs.Shifts.{length-shifted_names}
 
 -- nodes drive names in order up to some count
-abbrev Ordered : List ℕ → ℕ → List Node → ℕ → Type 0
+abbrev pub Ordered : List ℕ → ℕ → List Node → ℕ → Type 0
 Ordered name k nodes places = (count : ℕ) × InOrder name k nodes 0 0 count places
 
-part_length : (high low : ℕ) (names : List (List ℕ)) → low ≤ high → high < length names → length (part_of high low names) ≡ high + 1 - low
+pub part_length : (high low : ℕ) (names : List (List ℕ)) → low ≤ high → high < length names → length (part_of high low names) ≡ high + 1 - low
 part_length high low names order within =
     omega (arith, length-take (high + 1 - low) (drop (length names - 1 - high) names), length-drop (length names - 1 - high) names)
 
-up_long : (f : List ℕ) (places : ℕ) (xs : List (List ℕ)) → length (moved_up places f xs) ≡ length xs
+pub up_long : (f : List ℕ) (places : ℕ) (xs : List (List ℕ)) → length (moved_up places f xs) ≡ length xs
 up_long f places xs =
     length-append (drop places xs) (replicate (min places (length xs)) f)
     ∙ omega (arith, length-drop places xs, length-replicate (min places (length xs)) f)
 
-down_long : (f : List ℕ) (places : ℕ) (xs : List (List ℕ)) → length (moved_down places f xs) ≡ length xs
+pub down_long : (f : List ℕ) (places : ℕ) (xs : List (List ℕ)) → length (moved_down places f xs) ≡ length xs
 down_long f places xs =
     length-append (replicate (min places (length xs)) f) (take (length xs - places) xs)
     ∙ omega (arith, length-take (length xs - places) xs, length-replicate (min places (length xs)) f)
 
 module _ (name : List ℕ) (k n : ℕ) where
-  abbrev outs : List (List ℕ)
+  abbrev pub outs : List (List ℕ)
   outs = word_names name n
 
-  reduction_order : (gate : Gate) (xs : List (List ℕ)) → n ≡ 1 → 1 ≤ length xs → Ordered name k (reduction gate k outs xs) n
+  abbrev pub reduction_order : (gate : Gate) (xs : List (List ℕ)) → n ≡ 1 → 1 ≤ length xs → Ordered name k (reduction gate k outs xs) n
   reduction_order gate [] one some = absurd (omega arith)
   reduction_order gate (a ∷ xs) one some = (
     length (a ∷ xs),
@@ -59,13 +59,13 @@ module _ (name : List ℕ) (k n : ℕ) where
         (folded_drive name k gate a xs 0) (each_drive name k buffer n (fold_end k (a ∷ xs) ∷ []) (length (a ∷ xs)) (sym one)),
   )
 
-  add_order : (xs ys : List (List ℕ)) → length xs ≡ n → length ys ≡ n → Ordered name k (binary_nodes Add k outs xs ys) n
+  abbrev pub add_order : (xs ys : List (List ℕ)) → length xs ≡ n → length ys ≡ n → Ordered name k (binary_nodes Add k outs xs ys) n
   add_order xs ys e f = (suc n, inl (refl, sum_drive name k n xs ys e f))
 
-  subtract_order : (xs ys : List (List ℕ)) → length xs ≡ n → length ys ≡ n → Ordered name k (binary_nodes Sub k outs xs ys) n
+  abbrev pub subtract_order : (xs ys : List (List ℕ)) → length xs ≡ n → length ys ≡ n → Ordered name k (binary_nodes Sub k outs xs ys) n
   subtract_order xs ys e f = (2 * n + 1, inl (refl, difference_drive name k n xs ys e f))
 
-  multiply_order : (xs ys : List (List ℕ)) → length xs ≡ n → 1 ≤ length ys → Ordered name k (binary_nodes Mul k outs xs ys) n
+  abbrev pub multiply_order : (xs ys : List (List ℕ)) → length xs ≡ n → 1 ≤ length ys → Ordered name k (binary_nodes Mul k outs xs ys) n
   multiply_order xs ys e some = (
     product_count xs ys,
     in_both name k (product_nodes k xs ys) (on_each buffer outs (product_names k xs ys)) 0 0 (product_count xs ys) 0 (product_count xs ys) n
@@ -73,7 +73,7 @@ module _ (name : List ℕ) (k n : ℕ) where
         (each_drive name k buffer n (product_names k xs ys) (product_count xs ys) (length-product_names name k xs ys some ∙ e)),
   )
 
-  equal_order : (xs ys : List (List ℕ)) → n ≡ 1 → length xs ≡ length ys → Ordered name k (binary_nodes Eq k outs xs ys) n
+  abbrev pub equal_order : (xs ys : List (List ℕ)) → n ≡ 1 → length xs ≡ length ys → Ordered name k (binary_nodes Eq k outs xs ys) n
   equal_order xs ys one e = (
     2 * length xs + 1,
     inl (
@@ -83,7 +83,7 @@ module _ (name : List ℕ) (k n : ℕ) where
     ),
   )
 
-  less_order : (xs ys : List (List ℕ)) → n ≡ 1 → length xs ≡ length ys → Ordered name k (binary_nodes LtU k outs xs ys) n
+  abbrev pub less_order : (xs ys : List (List ℕ)) → n ≡ 1 → length xs ≡ length ys → Ordered name k (binary_nodes LtU k outs xs ys) n
   less_order xs ys one e = (
     suc (length xs),
     inl (
@@ -93,7 +93,7 @@ module _ (name : List ℕ) (k n : ℕ) where
     ),
   )
 
-  signed_order : (xs ys : List (List ℕ)) → n ≡ 1 → 1 ≤ length xs → length xs ≡ length ys → Ordered name k (binary_nodes LtS k outs xs ys) n
+  abbrev pub signed_order : (xs ys : List (List ℕ)) → n ≡ 1 → 1 ≤ length xs → length xs ≡ length ys → Ordered name k (binary_nodes LtS k outs xs ys) n
   signed_order [] ys one some e = absurd (omega arith)
   signed_order (a ∷ xs) [] one some e = absurd (omega arith)
   signed_order (a ∷ xs) (b ∷ ys) one some e = (
@@ -107,7 +107,7 @@ module _ (name : List ℕ) (k n : ℕ) where
   )
 
   -- the stages of a shift, and the buffers behind them
-  stages_order : (moved : ℕ → List (List ℕ) → List (List ℕ)) (xs ss : List (List ℕ))
+  pub stages_order : (moved : ℕ → List (List ℕ) → List (List ℕ)) (xs ss : List (List ℕ))
       → ((places : ℕ) (ys : List (List ℕ)) → length (moved places ys) ≡ length ys) → length xs ≡ n
       → InOrder name k (shift_nodes moved k xs ss ++ on_each buffer outs (shifted_names k xs ss)) 1 0 (1 + length ss * length xs) n
   stages_order moved xs ss keeps e =
@@ -115,32 +115,32 @@ module _ (name : List ℕ) (k n : ℕ) where
       (1 + length ss * length xs) n (shift_drive name k moved xs ss 0 keeps)
       (each_drive name k buffer n (shifted_names k xs ss) (1 + length ss * length xs) (length-shifted_names k xs ss ∙ e))
 
-  up_order : (xs ss : List (List ℕ)) → length xs ≡ n → Ordered name k (binary_nodes Shl k outs xs ss) n
+  abbrev pub up_order : (xs ss : List (List ℕ)) → length xs ≡ n → Ordered name k (binary_nodes Shl k outs xs ss) n
   up_order xs ss e =
       (1 + length ss * length xs, inl (refl, stages_order (λ places. moved_up places (further k 0)) xs ss (λ places ys. up_long (further k 0) places ys) e))
 
-  down_order : (xs ss : List (List ℕ)) → length xs ≡ n → Ordered name k (binary_nodes Shr k outs xs ss) n
+  abbrev pub down_order : (xs ss : List (List ℕ)) → length xs ≡ n → Ordered name k (binary_nodes Shr k outs xs ss) n
   down_order xs ss e =
       (1 + length ss * length xs, inl (refl, stages_order (λ places. moved_down places (further k 0)) xs ss (λ places ys. down_long (further k 0) places ys) e))
 
-  sign_order : (xs ss : List (List ℕ)) → 1 ≤ length xs → length xs ≡ n → Ordered name k (binary_nodes Sar k outs xs ss) n
+  abbrev pub sign_order : (xs ss : List (List ℕ)) → 1 ≤ length xs → length xs ≡ n → Ordered name k (binary_nodes Sar k outs xs ss) n
   sign_order [] ss some e = absurd (omega arith)
   sign_order (a ∷ xs) ss some e = (
     1 + length ss * length (a ∷ xs),
     inl (refl, stages_order (λ places. moved_down places (further k 0)) (a ∷ xs) ss (λ places ys. down_long (further k 0) places ys) e),
   )
 
-  mux_order : (cs xs ys : List (List ℕ)) → length cs ≡ 1 → length xs ≡ n → length ys ≡ n → Ordered name k (choices_by cs outs xs ys) n
+  abbrev pub mux_order : (cs xs ys : List (List ℕ)) → length cs ≡ 1 → length xs ≡ n → length ys ≡ n → Ordered name k (choices_by cs outs xs ys) n
   mux_order [] xs ys one e f = absurd (omega arith)
   mux_order (c ∷ cs) xs ys one e f = (0, choices_drive name k c n xs ys 0 e f)
 
   -- a register, by whether its domain has a reset
-  register_order : (t : Bool) (clock reset : List ℕ) (xs : List (List ℕ)) (bits : List Bool) → length xs ≡ n → length bits ≡ n
+  abbrev pub register_order : (t : Bool) (clock reset : List ℕ) (xs : List (List ℕ)) (bits : List Bool) → length xs ≡ n → length bits ≡ n
       → Ordered name k (if t then reset_nodes k clock reset outs xs bits else register_nodes clock outs xs bits) n
   register_order true clock reset xs bits e f = (n, reset_drive name k clock reset n xs bits e f)
   register_order false clock reset xs bits e f = (0, register_drive name k clock n xs bits 0 e f)
 
-  ram_order : (clock : List ℕ) (names : RamNames) (words : List (List Bool)) → length names.value ≡ n
+  abbrev pub ram_order : (clock : List ℕ) (names : RamNames) (words : List (List Bool)) → length names.value ≡ n
       → AllByRecursion (λ (bits : List Bool). length bits ≡ n) words → Ordered name k (ram_nodes k n clock outs names words) n
   ram_order clock names words e all =
       let first = constants (furthers k 0 n) (all_zeros n) in
@@ -157,17 +157,17 @@ module _ (name : List ℕ) (k n : ℕ) where
       )
 
 module _ (flat : Flat) (sound : Sound flat) where
-  fits : (cell : Cell) → HasCell flat cell → FitsCell (length flat.ports.domains) flat.widths cell
+  pub fits : (cell : Cell) → HasCell flat cell → FitsCell (length flat.ports.domains) flat.widths cell
   fits cell has = fits_cell flat cell sound has
 
-  wide : (w n : ℕ) → slice_get flat.widths w ≡ Some n → slice_index flat.widths w ≡ n
+  pub wide : (w n : ℕ) → slice_get flat.widths w ≡ Some n → slice_index flat.widths w ≡ n
   wide w n e = get_or_from_slice_get flat.widths w n 0 e
 
   -- a word is as long as another wire is wide
-  as_wire : (a v n : ℕ) → slice_get flat.widths a ≡ Some n → slice_get flat.widths v ≡ Some n → length (word flat a) ≡ slice_index flat.widths v
+  pub as_wire : (a v n : ℕ) → slice_get flat.widths a ≡ Some n → slice_get flat.widths v ≡ Some n → length (word flat a) ≡ slice_index flat.widths v
   as_wire a v n e f = word_length flat a n e ∙ sym (wide v n f)
 
-  some : (a n : ℕ) → slice_get flat.widths a ≡ Some n → 1 ≤ length (word flat a)
+  pub some : (a n : ℕ) → slice_get flat.widths a ≡ Some n → 1 ≤ length (word flat a)
   some a n e = word_some flat a sound (slice_get_within flat.widths a n e)
 
   binary_drives : (op : Op2) (v a c : WireId) → HasCell flat (Bin v op a c) → CellDrives flat (Bin v op a c) v.number

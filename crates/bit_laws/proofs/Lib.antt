@@ -2,7 +2,9 @@ mod CellOrder
 mod Cells
 mod Comparisons
 mod Kept
+mod Known
 mod Latches
+mod Names
 mod Nodes
 mod Numbers
 mod Once
@@ -12,6 +14,7 @@ mod Order
 mod Products
 mod RamWords
 mod Rams
+mod Reading
 mod Reductions
 mod Registers
 mod Rows

@@ -38,7 +38,7 @@ item_mapped f (z ∷ xs) x y (zero, e) there =
     item_left (f z) (flat_map f xs) y (subst (λ v. HasItem (f v) y) (sym (same_Some z x e)) there)
 item_mapped f (z ∷ xs) x y (suc k, e) there = item_right (f z) (flat_map f xs) y (item_mapped f xs x y (k, e) there)
 
-all_of : {X : Type 0} (P : X → Type 0) (xs : List X) → ((x : X) → HasItem xs x → P x) → AllByRecursion P xs
+pub all_of : {X : Type 0} (P : X → Type 0) (xs : List X) → ((x : X) → HasItem xs x → P x) → AllByRecursion P xs
 all_of P [] each = tt
 all_of P (x ∷ xs) each = (each x (zero, refl), all_of P xs (λ y has. each y (suc has.0, has.1)))
 

@@ -260,7 +260,7 @@ module _ (flat : Flat) (sound : Sound flat) where
   abbrev AsWide : List Port → List WireId → Type 0
   AsWide ports wires = map (λ (w : WireId). slice_get flat.widths w.number) wires ≡ map (λ (p : Port). Some p.width) ports
 
-  buffers_order : (port : Port) (w : WireId) → slice_get flat.widths w.number ≡ Some port.width
+  pub buffers_order : (port : Port) (w : WireId) → slice_get flat.widths w.number ≡ Some port.width
       → InOrder (output_name flat.ports.domains port) 0 (on_each buffer (output_names flat.ports port) (word flat w.number)) 0 0 0 port.width
   buffers_order port w e = each_drive (output_name flat.ports.domains port) 0 buffer port.width (word flat w.number) 0 (word_length flat w.number port.width e)
 

@@ -1,10 +1,11 @@
 -- Which names the nodes of a cell drive.
 use Rattle.std.specs.Prelude.{◌≡◌, ℕ, suc, ◌⊎◌, List, [], ◌∷◌, Some, slice_get}
 use Rattle.std.specs.Prelude.{slice_index}
+use Rattle.std.specs.List.{AllByRecursion}
 use Rattle.netlist.specs.declared.net.Cell.{Cell}
 use Rattle.netlist.specs.declared.net.Flat.{Flat}
 use Rattle.bit_laws.specs.BitNames.{further, place_name, wire_name}
-use Rattle.bit_laws.specs.Bitnet.{Bitnet, Node}
+use Rattle.bit_laws.specs.Bitnet.{Bitnet, HasNode, Node}
 use Rattle.bit_laws.specs.Bitnet.Node.{latch, table}
 use Rattle.bit_laws.specs.Blast.{nodes_of}
 
@@ -33,3 +34,22 @@ abbrev pub DrivenOnce : Bitnet → Type 0
 DrivenOnce b =
     (p q : ℕ) (m n : Node) → slice_get b.nodes p ≡ Some m → slice_get b.nodes q ≡ Some n
     → drives_of m ≡ drives_of n → p ≡ q
+
+-- what a node names: a table reads names of one kind, and a latch takes one of it and has a clock of
+-- another kind
+abbrev pub NamesOnly : (Read Clock : List ℕ → Type 0) → Node → Type 0
+NamesOnly Read Clock (table reads drives rows) = AllByRecursion Read reads
+NamesOnly Read Clock (latch takes drives clock initial) = Read takes × Clock clock
+
+-- the name is one of these
+abbrev pub HasName : List (List ℕ) → List ℕ → Type 0
+HasName names name = (place : ℕ) × (slice_get names place ≡ Some name)
+
+-- the name is an input, or a node drives it
+abbrev pub IsKnown : Bitnet → List ℕ → Type 0
+IsKnown b name = HasName b.inputs name ⊎ ((node : Node) × HasNode b node × (drives_of node ≡ name))
+
+-- the nodes read known names, and their clocks are inputs
+abbrev pub KnowsNames : Bitnet → Type 0
+KnowsNames b =
+    (node : Node) → HasNode b node → NamesOnly (IsKnown b) (HasName b.inputs) node

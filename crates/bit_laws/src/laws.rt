@@ -19,7 +19,7 @@ ghost use Rattle.bit_laws.specs.Bitnet.{BitValue, HaveBits};
 ghost use Rattle.bit_laws.specs.Blast.{blast, output_names};
 ghost use Rattle.bit_laws.specs.CellLaws.{AllGiveBits, HasWord, IsComparison, IsLogic, IsProduct};
 ghost use Rattle.bit_laws.specs.CellLaws.{IsReduction, IsShift, IsSum, IsWiring};
-ghost use Rattle.bit_laws.specs.Driven.{CellDrives, DrivenOnce};
+ghost use Rattle.bit_laws.specs.Driven.{CellDrives, DrivenOnce, KnowsNames};
 ghost use Rattle.bit_laws.specs.Gates.{Gate, gate_value, matches, rows_of};
 ghost use Rattle.bit_laws.specs.Keeping.{KeepsWord, KeptBefore};
 
@@ -103,6 +103,12 @@ pub fn nodes_drive_in_order()
 pub fn names_are_driven_once()
     ensures { (flat : Flat) → Sound flat → PortsHold flat.ports
         → length (blast flat).nodes < 2 ^ 64 → DrivenOnce (blast flat) }
+{}
+
+/// The nodes of a sound flat net read inputs and names that nodes drive, and their clocks are
+/// inputs.
+pub fn names_are_known()
+    ensures { (flat : Flat) → Sound flat → KnowsNames (blast flat) }
 {}
 
 /// A name has at most one bit at a history of the ports.
