@@ -1,36 +1,18 @@
 -- The nodes of the net of single bits read names that are known.
-use Rattle.std.proofs.Common.{◌≡◌, ℕ, zero, suc, ◌+◌, ◌-◌, ◌*◌, ◌<◌, ◌≤◌, ◌==◌, Bool, true, false, List, [], ◌∷◌, ◌++◌, length, map, take, drop, get_or, replicate, reverse, Some, slice_get, refl, sym, ap, subst, ◌∙◌, arith, if◌then◌else◌, cond, eqb, inl, inr, ◌⊎◌}
+use Rattle.std.proofs.Common.{◌≡◌, ℕ, zero, suc, ◌+◌, ◌*◌, ◌<◌, ◌≤◌, Bool, true, false, List, [], ◌∷◌, ◌++◌, length, refl, ap, ◌∙◌, arith, if◌then◌else◌, inl, inr, ◌⊎◌}
 use Rattle.std.specs.List.{AllByRecursion}
-use Rattle.std.specs.Prelude.{flat_map, nat_lt, slice_index, slice_index_or}
 use Rattle.std.proofs.lemmas.Bool.{cases_lt}
-use Rattle.std.proofs.lemmas.List.{length-replicate, reverse-append, reverse-reverse}
-use Rattle.std.proofs.lemmas.Option.{get_or_from_slice_get, same_Some, slice_get-get_or, slice_get_within}
-use Rattle.chw_base.specs.declared.index.DomId.{DomId}
-use Rattle.chw_base.specs.declared.index.WireId.{WireId}
-use Rattle.chw_clock.specs.Histories.{has_reset, is_one_of}
-use Rattle.chw_clock.specs.declared.event.Port.{Port}
-use Rattle.chw_clock.specs.declared.event.Ports.{Ports}
-use Rattle.netlist.specs.Feeds.{target}
-use Rattle.netlist.specs.NetValue.{HasCell}
-use Rattle.netlist.specs.Sound.{FitsCell, Sound}
-use Rattle.netlist.specs.Wires.{read_by}
-use Rattle.netlist.specs.declared.net.Cell.{Cell}
-use Rattle.netlist.specs.declared.net.Cell.TheVariants.{Const, Copy, Join, Cut, Un, Bin, Mux, Reg, Ram, Use}
-use Rattle.netlist.specs.declared.net.Flat.{Flat}
-use Rattle.netlist.specs.declared.net.Op1.{Op1}
-use Rattle.netlist.specs.declared.net.Op1.TheVariants.{Not, RedAnd, RedOr, RedXor}
-use Rattle.netlist.specs.declared.net.Op2.{Op2}
-use Rattle.netlist.specs.declared.net.Op2.TheVariants.{Add, Sub, Mul, And, Or, Xor, Eq, LtU, LtS, Shl, Shr, Sar}
-use Rattle.bit_laws.specs.BitNames.{further, furthers, place_name, wire_name, word_names}
-use Rattle.bit_laws.specs.Bitnet.{Node, clock_of, reset_of}
-use Rattle.bit_laws.specs.Blast.{RamNames, all_zeros, binary_nodes, constants, equal_nodes, fold_end, folded, less_nodes, moved_down, moved_up, nodes_of, on_each, part_of, product_count, product_names, product_nodes, ram_nodes, ram_shown, ram_words, reduction, register_nodes, reset_nodes, shift_nodes, shifted_names, signed_nodes, sign_nodes, unary_nodes, word}
-use Rattle.bit_laws.specs.Driven.{DriveInOrder, NamesOnly, drives_of}
+use Rattle.netlist.specs.declared.net.Op2.TheVariants.{Add, Sub, Mul, Eq, LtU, LtS, Shl, Shr, Sar}
+use Rattle.bit_laws.specs.BitNames.{further, furthers, place_name, word_names}
+use Rattle.bit_laws.specs.Bitnet.{Node}
+use Rattle.bit_laws.specs.Blast.{RamNames, all_zeros, binary_nodes, constants, equal_nodes, fold_end, folded, less_nodes, moved_down, moved_up, on_each, product_count, product_names, product_nodes, ram_nodes, ram_shown, ram_words, reduction, register_nodes, reset_nodes, shift_nodes, shifted_names, signed_nodes}
+use Rattle.bit_laws.specs.Driven.{drives_of}
 use Rattle.bit_laws.specs.Gates.{Gate}
-use Rattle.bit_laws.specs.Gates.Gate.{both, buffer, differing, either, inverse}
+use Rattle.bit_laws.specs.Gates.Gate.{buffer}
 use Rattle.bit_laws.proofs.CellOrder.{add_order, down_order, equal_order, less_order, multiply_order, ram_order, reduction_order, register_order, sign_order, signed_order, subtract_order, up_order}
-use Rattle.bit_laws.proofs.Nodes.{HasItem, item_left, item_right, word_length}
+use Rattle.bit_laws.proofs.Nodes.{HasItem}
 use Rattle.bit_laws.proofs.Order.{InOrder}
-use Rattle.bit_laws.proofs.Reading.{AllP, Reads, all_dropped, all_taken, both_read, choices_read, constants_read, differences_read, down_all, each_read, equals_read, folds_read, furthers_all, lesses_read, mux_read, product_all, products_read, ram_read, ram_shown_all, reads_joined, registers_read, resets_read, shifted_all, shifts_read, signeds_read, sums_read, up_all}
+use Rattle.bit_laws.proofs.Reading.{AllP, Reads, constants_read, differences_read, down_all, each_read, equals_read, folds_read, furthers_all, lesses_read, product_all, products_read, ram_read, ram_shown_all, reads_joined, registers_read, resets_read, shifted_all, shifts_read, signeds_read, sums_read, up_all}
 use Rattle.bit_laws.proofs.Products.{length-furthers}
 
 -- the nodes drive each name between their counts

@@ -1,10 +1,10 @@
 -- All names that the nodes read are known.
-use Rattle.std.proofs.Common.{◌≡◌, ℕ, zero, suc, ◌+◌, ◌-◌, ◌*◌, ◌<◌, ◌≤◌, ◌==◌, Bool, true, false, List, [], ◌∷◌, ◌++◌, length, map, take, drop, get_or, reverse, Some, slice_get, refl, sym, ap, subst, ◌∙◌, arith, if◌then◌else◌, cond, inl, inr, ◌⊎◌}
+use Rattle.std.proofs.Common.{◌≡◌, ℕ, zero, suc, ◌+◌, ◌-◌, ◌<◌, ◌≤◌, Bool, true, false, List, [], ◌∷◌, ◌++◌, length, map, take, drop, get_or, reverse, Some, slice_get, refl, sym, ap, subst, ◌∙◌, arith, if◌then◌else◌, cond, inl, inr, ◌⊎◌}
 use Rattle.std.specs.List.{AllByRecursion}
 use Rattle.std.specs.Prelude.{flat_map, slice_index, slice_index_or}
-use Rattle.std.proofs.lemmas.Bool.{cases_lt, le-ltb, lt-ltb}
+use Rattle.std.proofs.lemmas.Bool.{cases_lt, lt-ltb}
 use Rattle.std.proofs.lemmas.List.{reverse-append}
-use Rattle.std.proofs.lemmas.Option.{get_or_from_slice_get, same_Some, slice_get-get_or, slice_get_within}
+use Rattle.std.proofs.lemmas.Option.{get_or_from_slice_get, same_Some, slice_get_within}
 use Rattle.chw_base.specs.declared.index.DomId.{DomId}
 use Rattle.chw_base.specs.declared.index.WireId.{WireId}
 use Rattle.chw_base.specs.declared.limits.TheConstants.{ADDRESS_BITS}
@@ -12,7 +12,7 @@ use Rattle.chw_clock.specs.Histories.{has_reset, is_one_of}
 use Rattle.chw_clock.specs.declared.event.Port.{Port}
 use Rattle.netlist.specs.Feeds.{target}
 use Rattle.netlist.specs.NetValue.{HasCell}
-use Rattle.netlist.specs.Sound.{DrivesFrom, FitsCell, IsWire, Sound}
+use Rattle.netlist.specs.Sound.{DrivesFrom, IsWire, Sound}
 use Rattle.netlist.specs.declared.net.Cell.{Cell}
 use Rattle.netlist.specs.declared.net.Cell.TheVariants.{Const, Copy, Join, Cut, Un, Bin, Mux, Reg, Ram, Use}
 use Rattle.netlist.specs.declared.net.Flat.{Flat}
@@ -21,17 +21,17 @@ use Rattle.netlist.specs.declared.net.Op1.TheVariants.{Not, RedAnd, RedOr, RedXo
 use Rattle.netlist.specs.declared.net.Op2.{Op2}
 use Rattle.netlist.specs.declared.net.Op2.TheVariants.{Add, Sub, Mul, And, Or, Xor, Eq, LtU, LtS, Shl, Shr, Sar}
 use Rattle.netlist.proofs.Places.{all_at}
-use Rattle.verilog_text.specs.Names.{clock_name, domain_name, input_name, reset_name, wire_text}
+use Rattle.verilog_text.specs.Names.{clock_name, input_name, reset_name, wire_text}
 use Rattle.verilog_text.specs.Text.{clock_names}
 use Rattle.bit_laws.specs.BitNames.{further, place_name, wire_name, word_names}
-use Rattle.bit_laws.specs.Bitnet.{Node, clock_of, reset_of}
+use Rattle.bit_laws.specs.Bitnet.{clock_of, reset_of}
 use Rattle.bit_laws.specs.Blast.{blast, input_names, nodes_of, on_each, output_names, output_nodes, part_of, word}
-use Rattle.bit_laws.specs.Driven.{HasName, IsKnown, KnowsNames, NamesOnly, drives_of}
+use Rattle.bit_laws.specs.Driven.{HasName, IsKnown, KnowsNames, NamesOnly}
 use Rattle.bit_laws.specs.Gates.Gate.{both, buffer, differing, either, inverse}
 use Rattle.bit_laws.proofs.CellOrder.{as_wire, cell_drives, fits, some, wide}
 use Rattle.bit_laws.proofs.Known.{Driven, DrivenAre, add_names, down_names, equal_names, further_driven, less_names, multiply_names, place_driven, ram_names, reduction_names, register_names, sign_names, signed_names, subtract_names, up_names}
 use Rattle.bit_laws.proofs.Nodes.{HasItem, item_left, item_mapped, item_right, word_length, word_some}
-use Rattle.bit_laws.proofs.Once.{item_parted, mapped_at}
+use Rattle.bit_laws.proofs.Once.{mapped_at}
 use Rattle.bit_laws.proofs.Order.{InOrder}
 use Rattle.bit_laws.proofs.Reading.{AllP, Reads, all_dropped, all_joined, all_taken, both_read, constants_read, each_read, mux_read, reads_joined}
 

@@ -1,15 +1,13 @@
 -- The nodes of an operator read names of its words, and further names that they drive.
-use Rattle.std.proofs.Common.{◌≡◌, ℕ, zero, suc, ◌+◌, ◌-◌, ◌*◌, ◌^◌, ◌<◌, ◌≤◌, min, Bool, true, false, List, [], ◌∷◌, ◌++◌, length, take, drop, replicate, refl, sym, ap, subst, ◌∙◌, arith, if◌then◌else◌}
+use Rattle.std.proofs.Common.{◌≡◌, ℕ, zero, suc, ◌+◌, ◌-◌, ◌*◌, ◌^◌, ◌<◌, ◌≤◌, min, Bool, List, [], ◌∷◌, ◌++◌, length, take, drop, replicate, refl, ap, arith, if◌then◌else◌}
 use Rattle.std.specs.List.{AllByRecursion}
-use Rattle.std.proofs.lemmas.List.{length-drop}
-use Rattle.chw_bits.specs.Bits.{bits_of}
 use Rattle.bit_laws.specs.BitNames.{further, furthers}
 use Rattle.bit_laws.specs.Bitnet.{Node}
-use Rattle.bit_laws.specs.Bitnet.Node.{latch, table}
-use Rattle.bit_laws.specs.Blast.{RamNames, choices, choices_by, constants, difference_nodes, equal_nodes, fold_end, folded, gate_of, less_nodes, masked, moved_down, moved_up, on_both, on_each, product_count, product_names, product_nodes, ram_shown, ram_words, register_nodes, reset_nodes, row_names, row_nodes, shift_nodes, shifted_names, shown_names, signed_nodes, sum_nodes, word_nodes}
+use Rattle.bit_laws.specs.Bitnet.Node.{latch}
+use Rattle.bit_laws.specs.Blast.{RamNames, choices, choices_by, constants, difference_nodes, equal_nodes, folded, gate_of, less_nodes, masked, moved_down, moved_up, on_both, on_each, product_count, product_names, product_nodes, ram_shown, ram_words, register_nodes, reset_nodes, row_names, row_nodes, shift_nodes, shifted_names, shown_names, signed_nodes, sum_nodes, word_nodes}
 use Rattle.bit_laws.specs.Driven.{NamesOnly}
 use Rattle.bit_laws.specs.Gates.{Gate}
-use Rattle.bit_laws.specs.Gates.Gate.{added, address, alike, always, both, buffer, choice, cleared, either, inverse, less, most, never, odd}
+use Rattle.bit_laws.specs.Gates.Gate.{added, alike, always, both, choice, cleared, either, inverse, less, most, never, odd}
 
 pub all_joined : {X : Type 0} (P : X → Type 0) (xs ys : List X) → AllByRecursion P xs → AllByRecursion P ys → AllByRecursion P (xs ++ ys)
 all_joined P [] ys first second = second
