@@ -26,7 +26,7 @@ use Rattle.bit_laws.specs.Gates.Gate.{both, buffer, differing, either, inverse}
 use Rattle.bit_laws.proofs.Nodes.{joined_length, word_length, word_some}
 use Rattle.bit_laws.proofs.Order.{InOrder, both_drive, choices_drive, constants_drive, counted, difference_drive, each_drive, equal_drive, folded_drive, further_constants, in_both, length-product_names, less_drive, product_drive, ram_drive, register_drive, reset_drive, shift_drive, signed_drive, sum_drive}
 use Rattle.bit_laws.proofs.Products.{length-furthers}
-use Rattle.bit_laws.proofs.Rams.{length-ram_shown}
+use Rattle.bit_laws.proofs.RamWords.{length-ram_shown}
 use Rattle.bit_laws.proofs.Shifts.{length-shifted_names}
 
 -- nodes drive names in order up to some count

@@ -17,7 +17,7 @@ use Rattle.bit_laws.specs.BitNames.{further}
 use Rattle.bit_laws.specs.Bitnet.{BitValue, Bitnet, HaveBits, Node, clock_of}
 use Rattle.bit_laws.specs.Bitnet.BitValue.{initially, latched}
 use Rattle.bit_laws.specs.Bitnet.Node.{latch}
-use Rattle.bit_laws.specs.Blast.{gate_of, shown_names, word_nodes}
+use Rattle.bit_laws.specs.Blast.{gate_of, ram_shown, shown_names, word_nodes}
 use Rattle.bit_laws.specs.Gates.{are_bits}
 use Rattle.bit_laws.specs.Gates.Gate.{added, choice}
 use Rattle.bit_laws.proofs.Numbers.{bits_are, eqb_alike, same_power, weight}
@@ -62,6 +62,16 @@ writes_is at width [] place below e f = absurd (omega arith)
 writes_is at width (x ∷ y ∷ enable) place below e f = absurd (omega arith)
 writes_is at width (true ∷ []) place below e f = address_is at width place below f ∙ turned_test at (number_of place)
 writes_is at width (false ∷ []) place below e f = refl
+
+-- what is shown is as wide as a word
+pub length-shown_names : (k x n : ℕ) → length (shown_names k x n) ≡ n
+length-shown_names k x zero = refl
+length-shown_names k x (suc n) = ap suc (length-shown_names k x n)
+
+pub length-ram_shown : (k width x : ℕ) (cs : List (List ℕ)) (words : List (List Bool)) → length cs ≡ width → length (ram_shown k width x cs words) ≡ width
+length-ram_shown k width x cs [] e = e
+length-ram_shown k width x cs (bits ∷ words) e =
+    length-ram_shown k width (x + (2 + 3 * width)) (shown_names k x width) words (length-shown_names k x width)
 
 -- zeros
 number_of_copies : (n : ℕ) → number_of (replicate n false) ≡ 0

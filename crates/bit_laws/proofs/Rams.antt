@@ -31,18 +31,9 @@ use Rattle.bit_laws.specs.Keeping.{KeepsWord}
 use Rattle.bit_laws.proofs.Latches.{first_have, later_have}
 use Rattle.bit_laws.proofs.Nodes.{nodes_there, word_length}
 use Rattle.bit_laws.proofs.Products.{length-furthers}
-use Rattle.bit_laws.proofs.RamWords.{added_bits, added_none, added_to_zeros, address_is, latch_names, word_first, word_later, word_shown, writes_is, zeros_are}
+use Rattle.bit_laws.proofs.RamWords.{length-ram_shown, length-shown_names, added_bits, added_none, added_to_zeros, address_is, latch_names, word_first, word_later, word_shown, writes_is, zeros_are}
 use Rattle.bit_laws.proofs.Registers.{value_at}
 use Rattle.bit_laws.proofs.Words.{HasNodes, constants_have, gate_bit, have_joined, have_length, parted}
-
-length-shown_names : (k x n : ℕ) → length (shown_names k x n) ≡ n
-length-shown_names k x zero = refl
-length-shown_names k x (suc n) = ap suc (length-shown_names k x n)
-
-pub length-ram_shown : (k width x : ℕ) (cs : List (List ℕ)) (words : List (List Bool)) → length cs ≡ width → length (ram_shown k width x cs words) ≡ width
-length-ram_shown k width x cs [] e = e
-length-ram_shown k width x cs (bits ∷ words) e =
-    length-ram_shown k width (x + (2 + 3 * width)) (shown_names k x width) words (length-shown_names k x width)
 
 -- what is read of a wire at a history: its value, and the bits of its names
 record Reads (flat : Flat) (g : List Event) (v : ℕ) : Type 0 where

@@ -35,8 +35,8 @@ DrivenOnce b =
     (p q : ℕ) (m n : Node) → slice_get b.nodes p ≡ Some m → slice_get b.nodes q ≡ Some n
     → drives_of m ≡ drives_of n → p ≡ q
 
--- what a node names: a table reads names of one kind, and a latch takes one of it and has a clock of
--- another kind
+-- what a node names: a table reads names of one kind, and a latch takes one of it and has a clock
+-- of another kind
 abbrev pub NamesOnly : (Read Clock : List ℕ → Type 0) → Node → Type 0
 NamesOnly Read Clock (table reads drives rows) = AllByRecursion Read reads
 NamesOnly Read Clock (latch takes drives clock initial) = Read takes × Clock clock
