@@ -1,14 +1,16 @@
-//! Makes a large net, goes with it as far as a word says, and writes how many items were made last. It is there to be timed: bench/flat.sh
-//! and bench/read.sh do.
+//! Makes a large net, goes with it as far as a word says, and writes how many items were made last. It is there to be timed: bench/flat.sh,
+//! bench/read.sh and bench/share.sh do.
 //!
-//! Its words are a form of net, `chain`, `tower` or `ports`, how many wires it has, and how far to go: `made`, `judged`, `flat`, `ordered`,
-//! `printed` or `read`, which reads the printed text. After `text` it writes the printed text itself.
+//! Its words are a form of net, `chain`, `tower`, `ports` or `twice`, how many wires it has, and how far to go: `made`, `judged`, `flat`,
+//! `ordered`, `shared`, `printed` or `read`, which reads the printed text. After `text` it writes the printed text itself.
 //!
 //! The form `waves` is a text of waves of so many events, in place of a net.
 //! It is `printed`, `read`, or written after `text`. bench/waves.sh times it.
 #![tactic(auto)]
 
+ghost use Rattle.net_rules.specs.PortsHold.{PortsHold};
 ghost use Rattle.net_rules.specs.WellFormed.{WellFormed};
+ghost use Rattle.netlist.specs.Sound.{Sound};
 
 mod nets;
 mod wave_texts;
@@ -16,9 +18,10 @@ mod wave_texts;
 use chw_base::{NoMemory, Or};
 use net_flat::flatten::flatten;
 use net_rules::well_formed::well_formed;
-use netlist::Net;
+use net_share::share;
 use netlist::ordering::order;
-use nets::{chain, ports, tower};
+use netlist::{Flat, Net};
+use nets::{chain, ports, tower, twice};
 use std::alloc::Global;
 use std::env;
 use std::io::Print;
@@ -38,6 +41,7 @@ enum Stage {
     Judged,
     Flat,
     Ordered,
+    Shared,
     Printed,
     Read,
     Text,
@@ -103,6 +107,7 @@ fn made<R: Env + AllocGlobal>(rt: &R) -> Result<Written, Trouble> {
         "chain" => chain(rt.alloc(), wires)?,
         "tower" => tower(rt.alloc(), STOREYS, wires / STOREYS)?,
         "ports" => ports(rt.alloc(), wires)?,
+        "twice" => twice(rt.alloc(), wires)?,
         _ => return Err(Trouble::Words),
     };
     if let Stage::Text = stage {
@@ -127,6 +132,7 @@ fn stage_of(word: &str) -> Option<Stage> {
         "judged" => Some(Stage::Judged),
         "flat" => Some(Stage::Flat),
         "ordered" => Some(Stage::Ordered),
+        "shared" => Some(Stage::Shared),
         "printed" => Some(Stage::Printed),
         "read" => Some(Stage::Read),
         "text" => Some(Stage::Text),
@@ -158,6 +164,7 @@ fn further(alloc: Global, net: &Net, stage: Stage) -> Result<usize, Trouble>
             Err(Or::Fault(_)) => Err(Trouble::Net),
         },
         Stage::Ordered => cells_ordered(alloc, net),
+        Stage::Shared => cells_left(alloc, net),
         Stage::Printed | Stage::Text => Ok(print(alloc, net)?.len()),
         Stage::Read => modules_read(alloc, net),
     }
@@ -182,6 +189,36 @@ fn cells_ordered(alloc: Global, net: &Net) -> Result<usize, Trouble>
     };
     match order(alloc, &flat) {
         Ok(order) => Ok(order.cells.len()),
+        Err(Or::Memory) => Err(Trouble::Memory),
+        Err(Or::Fault(_)) => Err(Trouble::Net),
+    }
+}
+
+// How many cells are left of the net where equal wires are shared.
+fn cells_left(alloc: Global, net: &Net) -> Result<usize, Trouble>
+    requires { WellFormed net.now }
+{
+    match flatten(alloc, net) {
+        Ok(flat) => cells_left_of(alloc, &flat),
+        Err(Or::Memory) => Err(Trouble::Memory),
+        Err(Or::Fault(_)) => Err(Trouble::Net),
+    }
+}
+
+// The same of its flat net.
+fn cells_left_of(alloc: Global, flat: &Flat) -> Result<usize, Trouble>
+    requires sound { Sound flat.now }
+    requires ports { PortsHold flat.now.ports }
+{
+    match order(alloc, flat) {
+        Ok(order) => {
+            let net = share(alloc, flat, &order)?;
+            // (it has one module)
+            match net.modules.as_slice().first() {
+                Some(top) => Ok(top.cells.len()),
+                None => Ok(0),
+            }
+        }
         Err(Or::Memory) => Err(Trouble::Memory),
         Err(Or::Fault(_)) => Err(Trouble::Net),
     }

@@ -1,12 +1,13 @@
-//! Large nets: a chain of wires in one module, modules in one another, and a module of many ports.
+//! Large nets: a chain of wires in one module, modules in one another, a module of many ports, and twice the same pipeline.
 
 ghost use Rattle.std.specs.Prelude.{◌<◌};
 
 use chw_base::{DomId, ModId, Name, NoMemory, Seq, WireId};
+use chw_bits::Bits;
 use chw_clock::Port;
 use itoa::Buffer;
 use netlist::samples::one_input;
-use netlist::{Cell, Module, Net};
+use netlist::{Cell, Module, Net, Op2};
 use std::alloc::Global;
 
 // The cell of a chain that drives this wire: it copies the next one, and the last copies the input.
@@ -135,5 +136,44 @@ pub(crate) fn ports(alloc: Global, inputs: u32) -> Result<Net, NoMemory> {
     Ok(Net {
         ports,
         modules: Seq::from(modules),
+    })
+}
+
+// The cell that drives this wire of two pipelines whose wires take turns: by turns a sum of the wire before it and the input, and a
+// register.
+fn stage(alloc: Global, number: u32) -> Result<Cell, NoMemory> {
+    let to = WireId { number };
+    let input = WireId { number: 0 };
+    let before = WireId {
+        number: number.saturating_sub(2),
+    };
+    if number % 4 < 2 {
+        return Ok(Cell::Bin(to, Op2::Add, before, input));
+    }
+    let zeros = Bits::of_list(vec![in alloc; false; 8]?);
+    Ok(Cell::Reg(to, DomId { number: 0 }, zeros, before))
+}
+
+/// A net of an input, wire 0, and twice the same pipeline of sums and registers, with the last wires of both as outputs. All but half of
+/// its cells are shared.
+pub(crate) fn twice(alloc: Global, wires: u32) -> Result<Net, NoMemory> {
+    let mut cells = Vec::new(alloc);
+    for number in 1..wires {
+        cells.push(stage(alloc, number)?)?;
+    }
+    let mut outputs = vec![in alloc;
+        WireId {
+            number: wires.saturating_sub(2)
+        },
+    ]?;
+    outputs.push(WireId {
+        number: wires.saturating_sub(1),
+    })?;
+    let top = module(alloc, wires, cells, Seq::from(outputs))?;
+    let mut ports = one_input(alloc)?;
+    ports.outputs = Seq::from(many_inputs(alloc, 2)?);
+    Ok(Net {
+        ports,
+        modules: Seq::from(vec![in alloc; top]?),
     })
 }
