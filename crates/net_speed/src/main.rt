@@ -1,8 +1,9 @@
-//! Makes a large net, goes with it as far as a word says, and writes how many items were made last. It is there to be timed: bench/flat.sh,
-//! bench/read.sh and bench/share.sh do.
+//! Makes a large net, goes with it as far as a word says, and writes how many items were made last.
+//! It is there to be timed: bench/flat.sh, bench/read.sh and bench/share.sh do.
 //!
-//! Its words are a form of net, `chain`, `tower`, `ports` or `twice`, how many wires it has, and how far to go: `made`, `judged`, `flat`,
-//! `ordered`, `shared`, `printed` or `read`, which reads the printed text. After `text` it writes the printed text itself.
+//! Its words are a form of net, `chain`, `tower`, `ports` or `twice`, how many wires it has, and how
+//! far to go: `made`, `judged`, `flat`, `ordered`, `shared`, `printed` or `read`, which reads the
+//! printed text. After `text` it writes the printed text itself.
 //!
 //! The form `waves` is a text of waves of so many events, in place of a net.
 //! It is `printed`, `read`, or written after `text`. bench/waves.sh times it.

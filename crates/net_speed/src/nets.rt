@@ -140,8 +140,8 @@ pub(crate) fn ports(alloc: Global, inputs: u32) -> Result<Net, NoMemory> {
     })
 }
 
-// The cell that drives this wire of two pipelines whose wires take turns: by turns a sum of the wire
-// before it and the input, and a register.
+// The cell that drives this wire of two pipelines whose wires take turns: by turns a sum of the
+// wire before it and the input, and a register.
 fn stage(alloc: Global, number: u32) -> Result<Cell, NoMemory> {
     let to = WireId { number };
     let input = WireId { number: 0 };
@@ -155,8 +155,8 @@ fn stage(alloc: Global, number: u32) -> Result<Cell, NoMemory> {
     Ok(Cell::Reg(to, DomId { number: 0 }, zeros, before))
 }
 
-/// A net of an input, wire 0, and twice the same pipeline of sums and registers, with the last wires
-/// of both as outputs. Half of its cells are left where equal wires are shared.
+/// A net of an input, wire 0, and twice the same pipeline of sums and registers, with the last
+/// wires of both as outputs. Half of its cells are left where equal wires are shared.
 pub(crate) fn twice(alloc: Global, wires: u32) -> Result<Net, NoMemory> {
     let mut cells = Vec::new(alloc);
     for number in 1..wires {
