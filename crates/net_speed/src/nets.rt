@@ -148,7 +148,7 @@ fn stage(alloc: Global, number: u32) -> Result<Cell, NoMemory> {
     let before = WireId {
         number: number.saturating_sub(2),
     };
-    if number % 4 < 2 {
+    if number % 4 == 1 || number % 4 == 2 {
         return Ok(Cell::Bin(to, Op2::Add, before, input));
     }
     let zeros = Bits::of_list(vec![in alloc; false; 8]?);
