@@ -1,0 +1,7 @@
+//! The widths of types, each worked out once: a table that is lent to all who measure.
+#![tactic(auto)]
+
+mod outcome;
+mod widths;
+
+pub use widths::Widths;
