@@ -1,0 +1,14 @@
+pub mod Adding
+pub mod ByPlaces
+pub mod Counted
+pub mod Counts
+pub mod Joins
+pub mod Latches
+pub mod Lengths
+pub mod Places
+pub mod ProductRows
+pub mod RamWords
+pub mod ShiftStages
+pub mod Steps
+pub mod Whole
+pub mod Widths
