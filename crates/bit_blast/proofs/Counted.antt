@@ -1,5 +1,5 @@
 -- How many nodes each definition makes of words.
-use Rattle.std.proofs.Common.{◌≡◌, ℕ, zero, suc, ◌+◌, ◌-◌, ◌*◌, ◌^◌, ◌<◌, ◌≤◌, min, Bool, true, false, List, [], ◌∷◌, ◌++◌, length, take, drop, replicate, refl, sym, ap, ◌∙◌, arith, if◌then◌else◌, suc-mul, zero-mul}
+use Rattle.std.proofs.Common.{◌≡◌, ℕ, zero, suc, ◌+◌, ◌-◌, ◌*◌, ◌^◌, ◌<◌, ◌≤◌, min, Bool, false, List, [], ◌∷◌, ◌++◌, length, take, drop, replicate, refl, sym, ap, ◌∙◌, arith, if◌then◌else◌, suc-mul, zero-mul}
 use Rattle.std.specs.List.{AllByRecursion}
 use Rattle.std.proofs.lemmas.List.{length-append, length-drop, length-replicate, length-take}
 use Rattle.bit_laws.specs.BitNames.{further, furthers, word_names}
@@ -7,7 +7,7 @@ use Rattle.bit_laws.specs.Bitnet.{Node}
 use Rattle.bit_laws.specs.Bitnet.Node.{latch}
 use Rattle.bit_laws.specs.Blast.{RamNames, all_zeros, choices, choices_by, constants, difference_nodes, equal_nodes, folded, gate_of, less_nodes, masked, moved_down, moved_up, on_both, on_each, part_of, product_count, product_names, product_nodes, ram_nodes, ram_shown, ram_words, register_nodes, reset_nodes, row_names, row_nodes, shift_nodes, shifted_names, shown_names, signed_nodes, sum_nodes, word_nodes}
 use Rattle.bit_laws.specs.Gates.{Gate}
-use Rattle.bit_laws.specs.Gates.Gate.{added, address, alike, always, both, choice, cleared, either, inverse, less, most, never, odd}
+use Rattle.bit_laws.specs.Gates.Gate.{added, alike, always, both, choice, cleared, either, inverse, less, most, never, odd}
 
 -- so many more nodes behind others
 one_behind : (ns : List Node) (a : Node) (k : ℕ) → length ns ≡ k → length (ns ++ a ∷ []) ≡ suc k
@@ -76,8 +76,11 @@ length-sum_nodes k (o ∷ outs) [] ys e f = absurd (omega arith)
 length-sum_nodes k (o ∷ outs) (x ∷ xs) [] e f = absurd (omega arith)
 length-sum_nodes k (o ∷ outs) (x ∷ xs) (y ∷ ys) e f =
     let read = x ∷ y ∷ further k (length xs) ∷ [] in
-    omega (arith, two_behind (sum_nodes k outs xs ys) (gate_of odd read o) (gate_of most read (further k (length (x ∷ xs)))) (2 * length outs)
-    (length-sum_nodes k outs xs ys (omega arith) (omega arith)))
+    omega (
+      arith,
+      two_behind (sum_nodes k outs xs ys) (gate_of odd read o) (gate_of most read (further k (length (x ∷ xs)))) (2 * length outs)
+          (length-sum_nodes k outs xs ys (omega arith) (omega arith)),
+    )
 
 pub length-difference_nodes : (k : ℕ) (outs xs ys : List (List ℕ)) → length outs ≡ length xs → length outs ≡ length ys
     → length (difference_nodes k outs xs ys) ≡ 3 * length outs
@@ -86,16 +89,22 @@ length-difference_nodes k (o ∷ outs) [] ys e f = absurd (omega arith)
 length-difference_nodes k (o ∷ outs) (x ∷ xs) [] e f = absurd (omega arith)
 length-difference_nodes k (o ∷ outs) (x ∷ xs) (y ∷ ys) e f =
     let read = x ∷ further k (2 * length xs + 1) ∷ further k (2 * length xs) ∷ [] in
-    omega (arith, three_behind (difference_nodes k outs xs ys) (gate_of inverse (y ∷ []) (further k (2 * length xs + 1))) (gate_of odd read o)
-    (gate_of most read (further k (2 * length (x ∷ xs)))) (3 * length outs) (length-difference_nodes k outs xs ys (omega arith) (omega arith)))
+    omega (
+      arith,
+      three_behind (difference_nodes k outs xs ys) (gate_of inverse (y ∷ []) (further k (2 * length xs + 1))) (gate_of odd read o)
+          (gate_of most read (further k (2 * length (x ∷ xs)))) (3 * length outs) (length-difference_nodes k outs xs ys (omega arith) (omega arith)),
+    )
 
 pub length-equal_nodes : (k : ℕ) (xs ys : List (List ℕ)) → length xs ≡ length ys → length (equal_nodes k xs ys) ≡ 2 * length xs
 length-equal_nodes k [] ys e = refl
 length-equal_nodes k (x ∷ xs) [] e = absurd (omega arith)
 length-equal_nodes k (x ∷ xs) (y ∷ ys) e =
-    omega (arith, two_behind (equal_nodes k xs ys) (gate_of alike (x ∷ y ∷ []) (further k (2 * length xs + 1)))
-    (gate_of both (further k (2 * length xs) ∷ further k (2 * length xs + 1) ∷ []) (further k (2 * length (x ∷ xs)))) (2 * length xs)
-    (length-equal_nodes k xs ys (omega arith)))
+    omega (
+      arith,
+      two_behind (equal_nodes k xs ys) (gate_of alike (x ∷ y ∷ []) (further k (2 * length xs + 1)))
+          (gate_of both (further k (2 * length xs) ∷ further k (2 * length xs + 1) ∷ []) (further k (2 * length (x ∷ xs)))) (2 * length xs)
+          (length-equal_nodes k xs ys (omega arith)),
+    )
 
 pub length-less_nodes : (k : ℕ) (xs ys : List (List ℕ)) → length xs ≡ length ys → length (less_nodes k xs ys) ≡ length xs
 length-less_nodes k [] ys e = refl
@@ -123,9 +132,12 @@ length-row_nodes k c [] (x ∷ xs) y le = absurd (omega arith)
 length-row_nodes k c (p ∷ ps) [] y le = refl
 length-row_nodes k c (p ∷ ps) (x ∷ xs) y le =
     let read = p ∷ further k (c + (3 * length xs + 1)) ∷ further k (c + 3 * length xs) ∷ [] in
-    omega (arith, three_behind (row_nodes k c ps xs y) (gate_of both (x ∷ y ∷ []) (further k (c + (3 * length xs + 1))))
-    (gate_of odd read (further k (c + (3 * length xs + 2)))) (gate_of most read (further k (c + 3 * length (x ∷ xs)))) (3 * length xs)
-    (length-row_nodes k c ps xs y (omega arith)))
+    omega (
+      arith,
+      three_behind (row_nodes k c ps xs y) (gate_of both (x ∷ y ∷ []) (further k (c + (3 * length xs + 1))))
+          (gate_of odd read (further k (c + (3 * length xs + 2)))) (gate_of most read (further k (c + 3 * length (x ∷ xs)))) (3 * length xs)
+          (length-row_nodes k c ps xs y (omega arith)),
+    )
 
 length-row_names : (k c : ℕ) (ps xs : List (List ℕ)) → length (row_names k c ps xs) ≡ length ps
 length-row_names k c [] xs = refl
@@ -148,8 +160,12 @@ length-product_nodes k xs (y ∷ z ∷ ys) some =
     let names = product_names k xs (z ∷ ys) in
     let low = drop (length (z ∷ ys)) xs in
     let fits : length low ≤ length names = omega (arith, length-drop (length (z ∷ ys)) xs, length-product_names k xs (z ∷ ys) (omega arith)) in
-    omega (arith, length-append (product_nodes k xs (z ∷ ys)) (gate_of never [] (further k c) ∷ row_nodes k c names low y),
-    length-product_nodes k xs (z ∷ ys) (omega arith), length-row_nodes k c names low y fits)
+    omega (
+      arith,
+      length-append (product_nodes k xs (z ∷ ys)) (gate_of never [] (further k c) ∷ row_nodes k c names low y),
+      length-product_nodes k xs (z ∷ ys) (omega arith),
+      length-row_nodes k c names low y fits,
+    )
 
 pub length-moved_up : (f : List ℕ) (places : ℕ) (xs : List (List ℕ)) → length (moved_up places f xs) ≡ length xs
 length-moved_up f places xs =
@@ -196,9 +212,12 @@ length-reset_nodes k clock reset [] xs bits e f = refl
 length-reset_nodes k clock reset (o ∷ outs) [] bits e f = absurd (omega arith)
 length-reset_nodes k clock reset (o ∷ outs) (x ∷ xs) [] e f = absurd (omega arith)
 length-reset_nodes k clock reset (o ∷ outs) (x ∷ xs) (b ∷ bits) e f =
-    omega (arith, two_behind (reset_nodes k clock reset outs xs bits)
-    (gate_of (if b then either else cleared) (x ∷ reset ∷ []) (further k (length xs))) (latch (further k (length xs)) o clock b) (2 * length outs)
-    (length-reset_nodes k clock reset outs xs bits (omega arith) (omega arith)))
+    omega (
+      arith,
+      two_behind (reset_nodes k clock reset outs xs bits)
+          (gate_of (if b then either else cleared) (x ∷ reset ∷ []) (further k (length xs))) (latch (further k (length xs)) o clock b) (2 * length outs)
+          (length-reset_nodes k clock reset outs xs bits (omega arith) (omega arith)),
+    )
 
 length-word_nodes : (k x : ℕ) (clock : List ℕ) (cs values : List (List ℕ)) (bits : List Bool) → length cs ≡ length values → length cs ≡ length bits
     → length (word_nodes k x clock cs values bits) ≡ 3 * length cs
@@ -208,9 +227,12 @@ length-word_nodes k x clock (c ∷ cs) (v ∷ values) [] e f = absurd (omega ari
 length-word_nodes k x clock (c ∷ cs) (v ∷ values) (b ∷ bits) e f =
     let own = further k (x + (3 * length cs + 2)) in
     let next = further k (x + (3 * length cs + 3)) in
-    omega (arith, three_behind (word_nodes k x clock cs values bits) (latch next own clock b) (gate_of choice (further k x ∷ v ∷ own ∷ []) next)
-    (gate_of added (c ∷ further k (x + 1) ∷ own ∷ []) (further k (x + (3 * length cs + 4)))) (3 * length cs)
-    (length-word_nodes k x clock cs values bits (omega arith) (omega arith)))
+    omega (
+      arith,
+      three_behind (word_nodes k x clock cs values bits) (latch next own clock b) (gate_of choice (further k x ∷ v ∷ own ∷ []) next)
+          (gate_of added (c ∷ further k (x + 1) ∷ own ∷ []) (further k (x + (3 * length cs + 4)))) (3 * length cs)
+          (length-word_nodes k x clock cs values bits (omega arith) (omega arith)),
+    )
 
 length-shown_names : (k x n : ℕ) → length (shown_names k x n) ≡ n
 length-shown_names k x zero = refl

@@ -1,6 +1,6 @@
 -- Words side by side, and parts of words.
-use Rattle.std.proofs.Common.{◌≡◌, ℕ, zero, suc, ◌+◌, ◌-◌, ◌<◌, ◌≤◌, Bool, true, false, if◌then◌else◌, List, [], ◌∷◌, ◌++◌, length, get_or, take, drop, refl, sym, ap, subst, ◌∙◌, add-one, add-zero, add-suc, append_assoc, arith}
-use Rattle.std.specs.Prelude.{slice_index, sum_by}
+use Rattle.std.proofs.Common.{◌≡◌, ℕ, zero, suc, ◌+◌, ◌-◌, ◌<◌, ◌≤◌, Bool, true, false, if◌then◌else◌, List, [], ◌∷◌, ◌++◌, length, get_or, take, drop, refl, sym, ap, ◌∙◌, add-one, add-zero, add-suc, append_assoc, arith}
+use Rattle.std.specs.Prelude.{slice_index}
 use Rattle.std.specs.List.{flat_map}
 use Rattle.std.proofs.lemmas.List.{append-nil, drop_more, length-append}
 use Rattle.std.proofs.lemmas.List.Sums.{sum_by-cons, sum_by-take-drop}
@@ -20,7 +20,6 @@ use Rattle.bit_nodes.specs.declared.nodes.BitNode.TheVariants.{Table}
 use Rattle.bit_blast.specs.Adding.{Adds}
 use Rattle.bit_blast.specs.Gating.{constant_gate}
 use Rattle.bit_blast.specs.Names.{by_places, lowest, names_of}
-use Rattle.bit_blast.specs.declared.names.Word.{Word}
 use Rattle.bit_blast.specs.declared.names.Word.TheVariants.{Part}
 use Rattle.bit_blast.proofs.Adding.{added_as, both_added, one_more}
 use Rattle.bit_blast.proofs.Counted.{length-word_names}

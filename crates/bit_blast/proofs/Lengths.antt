@@ -1,5 +1,5 @@
 -- How many nodes cells and outputs become.
-use Rattle.std.proofs.Common.{◌≡◌, ℕ, suc, ◌+◌, ◌-◌, ◌*◌, ◌<◌, ◌≤◌, Bool, true, false, List, [], ◌∷◌, ◌++◌, length, map, drop, Some, slice_get, refl, sym, ap, subst, ◌∙◌, arith, if◌then◌else◌}
+use Rattle.std.proofs.Common.{◌≡◌, ℕ, suc, ◌+◌, ◌-◌, ◌*◌, ◌<◌, ◌≤◌, Bool, true, false, List, [], ◌∷◌, ◌++◌, length, map, Some, slice_get, refl, sym, ap, subst, ◌∙◌, arith, if◌then◌else◌}
 use Rattle.std.specs.List.{AllByRecursion, flat_map}
 use Rattle.std.specs.Prelude.{slice_index, sum_by}
 use Rattle.std.proofs.lemmas.List.{length-append, length-drop}
@@ -22,7 +22,7 @@ use Rattle.bit_laws.specs.Bitnet.{Node, clock_of, reset_of}
 use Rattle.bit_laws.specs.Blast.{binary_nodes, blast, equal_nodes, fold_end, folded, less_nodes, moved_down, moved_up, nodes_of, on_each, output_names, output_nodes, part_of, product_count, product_names, product_nodes, reduction, register_nodes, reset_nodes, shift_nodes, shifted_names, sign_nodes, signed_nodes, unary_nodes, word}
 use Rattle.bit_laws.specs.Gates.{Gate}
 use Rattle.bit_laws.specs.Gates.Gate.{both, buffer, differing, either, inverse}
-use Rattle.bit_blast.specs.Counting.{binary_count, cell_count, register_count, rows_count, unary_count, width_in}
+use Rattle.bit_blast.specs.Counting.{binary_count, cell_count, rows_count, unary_count, width_in}
 use Rattle.bit_blast.proofs.Counted.{length-choices_by, length-constants, length-difference_nodes, length-equal_nodes, length-folded, length-less_nodes, length-moved_down, length-moved_up, length-on_both, length-on_each, length-part_of, length-product_names, length-product_nodes, length-ram_nodes, length-register_nodes, length-reset_nodes, length-shift_nodes, length-shifted_names, length-signed_nodes, length-sum_nodes, length-word_names}
 use Rattle.bit_blast.proofs.Joins.{joined_length}
 use Rattle.bit_blast.proofs.Widths.{width_known}

@@ -1,13 +1,11 @@
 -- Words by places: the lowest bits of a wire, one place after another.
-use Rattle.std.proofs.Common.{◌≡◌, ℕ, zero, suc, ◌+◌, List, [], ◌∷◌, ◌++◌, length, map, Some, slice_get, refl, sym, ap, ◌∙◌, add-one, zero-add, arith}
-use Rattle.std.specs.Prelude.{slice_index}
+use Rattle.std.proofs.Common.{◌≡◌, ℕ, zero, suc, ◌+◌, List, [], ◌∷◌, ◌++◌, length, map, Some, slice_get, refl, sym, ap, ◌∙◌, add-one, zero-add}
 use Rattle.std.proofs.lemmas.Option.{get_or_from_slice_get}
 use Rattle.chw_base.specs.declared.index.WireId.{WireId}
 use Rattle.netlist.specs.declared.net.Flat.{Flat}
 use Rattle.bit_laws.specs.BitNames.{place_name, wire_name}
 use Rattle.bit_laws.specs.Bitnet.{Node}
 use Rattle.bit_laws.specs.Blast.{gate_of, on_each, word}
-use Rattle.bit_laws.specs.Gates.{Gate}
 use Rattle.bit_nodes.specs.Standing.{name_of, node_of}
 use Rattle.bit_nodes.specs.declared.nodes.BitName.{BitName}
 use Rattle.bit_nodes.specs.declared.nodes.BitNode.{BitNode}

@@ -9,11 +9,9 @@ use Rattle.bit_laws.specs.Bitnet.{Node}
 use Rattle.bit_laws.specs.Blast.{binary_nodes, choices, difference_nodes, equal_nodes, folded, gate_of, less_nodes, on_both, reduction, signed_nodes, sum_nodes}
 use Rattle.bit_laws.specs.Gates.Gate.{alike, both, buffer, inverse, less, most, odd}
 use Rattle.bit_nodes.specs.Standing.{name_of, node_of}
-use Rattle.bit_nodes.specs.declared.nodes.BitGate.{BitGate}
 use Rattle.bit_nodes.specs.declared.nodes.BitGate.TheVariants.{Alike, Always, Both, Buffer, Choice, Inverse, Less, Most, Never, Odd}
 use Rattle.bit_nodes.specs.declared.nodes.BitName.{BitName}
 use Rattle.bit_nodes.specs.declared.nodes.BitName.TheVariants.{Bit, Further}
-use Rattle.bit_nodes.specs.declared.nodes.BitNode.{BitNode}
 use Rattle.bit_nodes.specs.declared.nodes.BitNode.TheVariants.{Table}
 use Rattle.bit_blast.specs.Gating.{folding, gate_of_two, with_two}
 use Rattle.bit_blast.specs.Names.{lowest}

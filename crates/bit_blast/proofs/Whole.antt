@@ -1,7 +1,7 @@
 -- All cells and all outputs, one after another.
 use Rattle.std.proofs.Common.{◌≡◌, ℕ, zero, suc, ◌+◌, ◌<◌, ◌≤◌, List, [], ◌∷◌, ◌++◌, length, map, get_or, drop, Some, slice_get, refl, sym, ap, subst, ◌∙◌, add-one, append_assoc, arith}
-use Rattle.std.specs.List.{AllByRecursion, flat_map}
-use Rattle.std.specs.Prelude.{slice_index, slice_index_or}
+use Rattle.std.specs.List.{flat_map}
+use Rattle.std.specs.Prelude.{slice_index}
 use Rattle.std.proofs.lemmas.List.{append-nil, drop_all, length-map}
 use Rattle.std.proofs.lemmas.Option.{get_or_from_slice_get, slice_get_read, slice_get_within}
 use Rattle.chw_base.specs.declared.index.WireId.{WireId}
@@ -20,7 +20,6 @@ use Rattle.bit_nodes.specs.declared.nodes.BitNode.{BitNode}
 use Rattle.bit_blast.specs.Adding.{Adds}
 use Rattle.bit_blast.specs.Counting.{capped}
 use Rattle.bit_blast.specs.Names.{by_places, lowest, names_of}
-use Rattle.bit_blast.specs.declared.names.Word.{Word}
 use Rattle.bit_blast.specs.declared.names.Word.TheVariants.{Part}
 use Rattle.bit_blast.specs.declared.names.Word.TheVariants as words
 use Rattle.bit_blast.specs.declared.limit.TheConstants.{BIT_NODES}

@@ -18,12 +18,7 @@ use chw_clock::Bits;
 use netlist::{Cell, Flat};
 
 // A constant.
-fn constant(
-    flat: &Flat,
-    nodes: &mut Vec<BitNode>,
-    w: WireId,
-    bits: &Bits,
-) -> Result<(), NoMemory>
+fn constant(flat: &Flat, nodes: &mut Vec<BitNode>, w: WireId, bits: &Bits) -> Result<(), NoMemory>
     requires { FitsCell (length flat.now.ports.domains) flat.now.widths (Const w bits.now) }
     ensures { OnOk result (Adds flat.now nodes.old.items nodes.new.items
         (nodes_of flat.now (Const w bits.now))) }
@@ -49,12 +44,7 @@ fn copy(flat: &Flat, nodes: &mut Vec<BitNode>, w: WireId, a: WireId) -> Result<(
 }
 
 // Wires side by side.
-fn join(
-    flat: &Flat,
-    nodes: &mut Vec<BitNode>,
-    w: WireId,
-    parts: &[WireId],
-) -> Result<(), NoMemory>
+fn join(flat: &Flat, nodes: &mut Vec<BitNode>, w: WireId, parts: &[WireId]) -> Result<(), NoMemory>
     requires sound { Sound flat.now }
     requires fits { FitsCell (length flat.now.ports.domains) flat.now.widths (Join w parts.now) }
     ensures { OnOk result (Adds flat.now nodes.old.items nodes.new.items
@@ -106,11 +96,7 @@ fn mux(
 }
 
 /// A cell.
-pub(crate) fn cell_nodes(
-    flat: &Flat,
-    nodes: &mut Vec<BitNode>,
-    cell: &Cell,
-) -> Result<(), NoMemory>
+pub(crate) fn cell_nodes(flat: &Flat, nodes: &mut Vec<BitNode>, cell: &Cell) -> Result<(), NoMemory>
     requires sound { Sound flat.now }
     requires fits { FitsCell (length flat.now.ports.domains) flat.now.widths cell.now }
     ensures { OnOk result (Adds flat.now nodes.old.items nodes.new.items

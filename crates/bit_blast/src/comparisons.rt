@@ -133,8 +133,14 @@ pub(crate) fn less_signed(
         (lowest flat b.number width))) }
 {
     let sign = width - 1;
-    let x = BitName::Bit { wire: a, place: sign };
-    let y = BitName::Bit { wire: b, place: sign };
+    let x = BitName::Bit {
+        wire: a,
+        place: sign,
+    };
+    let y = BitName::Bit {
+        wire: b,
+        place: sign,
+    };
     let others = BitName::Further {
         wire: w,
         number: sign,

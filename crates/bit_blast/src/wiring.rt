@@ -38,11 +38,7 @@ pub(crate) fn on_each(
 }
 
 /// These bits, the first the most significant.
-pub(crate) fn constants(
-    nodes: &mut Vec<BitNode>,
-    w: WireId,
-    bits: &[bool],
-) -> Result<(), NoMemory>
+pub(crate) fn constants(nodes: &mut Vec<BitNode>, w: WireId, bits: &[bool]) -> Result<(), NoMemory>
     requires { length bits.now < 2 ^ 32 }
     ensures { OnOk result ((flat : TheFlat) → Adds flat nodes.old.items nodes.new.items
         (constants (lowest flat w.number (length bits.now)) bits.now)) }

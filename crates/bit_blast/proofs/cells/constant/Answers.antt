@@ -1,6 +1,5 @@
-use Rattle.std.proofs.Common.{◌≡◌, ℕ, List, ap, ◌∙◌, sym, arith}
+use Rattle.std.proofs.Common.{ℕ, List, ap, ◌∙◌}
 use Rattle.netlist.specs.declared.net.Flat.{Flat}
-use Rattle.chw_base.specs.declared.index.WireId.{WireId}
 use Rattle.std.proofs.Common.{Bool, length}
 use Rattle.bit_laws.specs.Blast.{constants, word}
 use Rattle.bit_blast.specs.Names.{lowest}

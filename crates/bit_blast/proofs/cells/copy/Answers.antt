@@ -1,4 +1,4 @@
-use Rattle.std.proofs.Common.{◌≡◌, ℕ, List, ap, ◌∙◌, sym, arith}
+use Rattle.std.proofs.Common.{◌∙◌}
 use Rattle.netlist.specs.declared.net.Flat.{Flat}
 use Rattle.bit_laws.specs.Blast.{on_each, word}
 use Rattle.bit_laws.specs.Gates.Gate.{buffer}

@@ -1,4 +1,4 @@
-use Rattle.std.proofs.Common.{◌≡◌, ℕ, List, ap, ◌∙◌, sym, arith}
+use Rattle.std.proofs.Common.{◌≡◌, ℕ, List, ap, ◌∙◌, arith}
 use Rattle.netlist.specs.declared.net.Flat.{Flat}
 use Rattle.std.proofs.Common.{◌<◌, ◌+◌, ◌-◌}
 use Rattle.std.specs.Prelude.{slice_index}
@@ -16,8 +16,15 @@ pub on_each-requires-clause-xs : goal.on_each-requires-clause-xs
 on_each-requires-clause-xs c =
     let flat = c.args.flat.now in
     let f = c.requires.fits in
-    omega (arith, f.0, f.2.1, get_or_from_slice_get flat.widths c.args.a.number f.2.0 0 f.2.2, width_within flat c.args.a.number c.requires.sound,
-    c.width_of-width.ensures.width, get_or_from_slice_get flat.widths c.args.w.number (c.args.high - c.args.low + 1) 0 f.1)
+    omega (
+      arith,
+      f.0,
+      f.2.1,
+      get_or_from_slice_get flat.widths c.args.a.number f.2.0 0 f.2.2,
+      width_within flat c.args.a.number c.requires.sound,
+      c.width_of-width.ensures.width,
+      get_or_from_slice_get flat.widths c.args.w.number (c.args.high - c.args.low + 1) 0 f.1,
+    )
 
 pub returns : goal.returns
 returns c =

@@ -1,5 +1,4 @@
-use Rattle.std.proofs.Common.{◌≡◌, ℕ, List, ap, ◌∙◌, sym, arith}
-use Rattle.netlist.specs.declared.net.Flat.{Flat}
+use Rattle.std.proofs.Common.{ℕ, List, ap, arith}
 use Rattle.std.specs.List.{flat_map}
 use Rattle.std.proofs.lemmas.Option.{get_or_from_slice_get}
 use Rattle.chw_base.specs.declared.index.WireId.{WireId}

@@ -1,4 +1,4 @@
-use Rattle.std.proofs.Common.{◌≡◌, ℕ, List, ap, ◌∙◌, sym, arith}
+use Rattle.std.proofs.Common.{ℕ, List, ap, ◌∙◌}
 use Rattle.netlist.specs.declared.net.Flat.{Flat}
 use Rattle.bit_laws.specs.Blast.{choices_by, word}
 use Rattle.bit_blast.specs.Names.{lowest}

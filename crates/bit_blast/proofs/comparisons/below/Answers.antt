@@ -2,7 +2,6 @@ use Rattle.std.proofs.Common.{◌≡◌, ℕ, ◌+◌, subst, arith}
 use Rattle.bit_laws.specs.Blast.{less_nodes}
 use Rattle.bit_nodes.specs.declared.nodes.BitGate.TheVariants.{Less}
 use Rattle.bit_nodes.specs.declared.nodes.BitName.TheVariants.{Bit, Further}
-use Rattle.bit_nodes.specs.declared.nodes.BitNode.{BitNode}
 use Rattle.bit_nodes.specs.declared.nodes.BitNode.TheVariants.{Table}
 use Rattle.bit_blast.specs.Adding.{Adds}
 use Rattle.bit_blast.specs.Names.{lowest}

@@ -1,5 +1,4 @@
-use Rattle.std.proofs.Common.{◌≡◌, ℕ, ◌+◌, ◌*◌, [], ◌∷◌, ◌++◌, List, ap, ◌∙◌, subst, arith}
-use Rattle.netlist.specs.declared.net.Op2.TheVariants.{Eq}
+use Rattle.std.proofs.Common.{◌≡◌, ℕ, ◌+◌, ◌*◌, [], ◌∷◌, List, ap, subst, arith}
 use Rattle.bit_laws.specs.BitNames.{further}
 use Rattle.bit_laws.specs.Bitnet.{Node}
 use Rattle.bit_laws.specs.Blast.{equal_nodes, gate_of}
@@ -7,7 +6,6 @@ use Rattle.bit_laws.specs.Gates.Gate.{always}
 use Rattle.bit_nodes.specs.Standing.{node_of}
 use Rattle.bit_nodes.specs.declared.nodes.BitGate.TheVariants.{Alike, Always, Both, Buffer}
 use Rattle.bit_nodes.specs.declared.nodes.BitName.TheVariants.{Bit, Further}
-use Rattle.bit_nodes.specs.declared.nodes.BitNode.{BitNode}
 use Rattle.bit_nodes.specs.declared.nodes.BitNode.TheVariants.{Table}
 use Rattle.bit_blast.specs.Adding.{Adds}
 use Rattle.bit_blast.specs.Names.{lowest}

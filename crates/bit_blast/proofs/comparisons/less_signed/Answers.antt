@@ -1,10 +1,7 @@
-use Rattle.std.proofs.Common.{ℕ, ◌-◌, List}
+use Rattle.std.proofs.Common.{◌-◌}
 use Rattle.bit_nodes.specs.declared.nodes.BitGate.TheVariants.{Buffer, Less, Never}
 use Rattle.bit_nodes.specs.declared.nodes.BitName.TheVariants.{Bit, Further}
-use Rattle.bit_nodes.specs.declared.nodes.BitNode.{BitNode}
 use Rattle.bit_nodes.specs.declared.nodes.BitNode.TheVariants.{Table}
-use Rattle.bit_blast.specs.Adding.{Adds}
-use Rattle.bit_blast.specs.Names.{lowest}
 use Rattle.bit_blast.proofs.Adding.{added_behind, two_more}
 use Rattle.bit_blast.proofs.Steps.{signed_end}
 use Rattle.bit_blast.proofs.comparisons.less_signed.Goals as goal

@@ -1,5 +1,4 @@
-use Rattle.std.proofs.Common.{◌≡◌, ◌+◌, ◌*◌, ◌≤◌, ℕ, arith, ap, ◌∙◌}
-use Rattle.bit_blast.specs.Counting.{rows_count}
+use Rattle.std.proofs.Common.{◌+◌, ◌*◌, ℕ, arith, ap, ◌∙◌}
 use Rattle.bit_blast.proofs.Counts.{rows_more}
 use Rattle.bit_blast.proofs.counting.rows_count.Goals as goal
 

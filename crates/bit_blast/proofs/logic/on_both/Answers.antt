@@ -1,8 +1,7 @@
-use Rattle.std.proofs.Common.{◌≡◌, ℕ, ap, ◌∙◌, subst, arith, ◌++◌, ◌∷◌, [], List}
+use Rattle.std.proofs.Common.{◌≡◌, ℕ, ap, ◌∙◌, subst, arith, ◌++◌, ◌∷◌, []}
 use Rattle.bit_laws.specs.Blast.{on_both}
 use Rattle.bit_nodes.specs.declared.nodes.BitGate.{BitGate}
 use Rattle.bit_nodes.specs.declared.nodes.BitName.TheVariants.{Bit}
-use Rattle.bit_nodes.specs.declared.nodes.BitNode.{BitNode}
 use Rattle.bit_nodes.specs.declared.nodes.BitNode.TheVariants.{Table}
 use Rattle.bit_blast.specs.Adding.{Adds}
 use Rattle.bit_blast.specs.Gating.{gate_of_two, with_two}

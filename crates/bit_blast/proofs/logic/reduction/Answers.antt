@@ -1,4 +1,4 @@
-use Rattle.std.proofs.Common.{◌≡◌, ℕ, suc, ◌+◌, ◌-◌, List, [], ◌∷◌, ◌++◌, ap, ◌∙◌, add-one, subst, arith}
+use Rattle.std.proofs.Common.{◌≡◌, ℕ, ◌-◌, [], ◌∷◌, ◌++◌, ap, ◌∙◌, add-one, subst, arith}
 use Rattle.bit_laws.specs.Blast.{folded}
 use Rattle.bit_nodes.specs.declared.nodes.BitGate.{BitGate}
 use Rattle.bit_nodes.specs.declared.nodes.BitGate.TheVariants.{Buffer}

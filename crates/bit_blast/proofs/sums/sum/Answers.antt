@@ -1,11 +1,10 @@
-use Rattle.std.proofs.Common.{◌≡◌, ℕ, ◌+◌, ◌*◌, ◌∷◌, List, ap, ◌∙◌, subst, arith}
+use Rattle.std.proofs.Common.{◌≡◌, ℕ, ◌+◌, ◌∷◌, List, ap, subst, arith}
 use Rattle.netlist.specs.declared.net.Op2.TheVariants.{Add}
 use Rattle.bit_laws.specs.Bitnet.{Node}
 use Rattle.bit_laws.specs.Blast.{binary_nodes}
 use Rattle.bit_nodes.specs.Standing.{node_of}
 use Rattle.bit_nodes.specs.declared.nodes.BitGate.TheVariants.{Most, Never, Odd}
 use Rattle.bit_nodes.specs.declared.nodes.BitName.TheVariants.{Bit, Further}
-use Rattle.bit_nodes.specs.declared.nodes.BitNode.{BitNode}
 use Rattle.bit_nodes.specs.declared.nodes.BitNode.TheVariants.{Table}
 use Rattle.bit_blast.specs.Adding.{Adds}
 use Rattle.bit_blast.specs.Names.{lowest}
