@@ -1,8 +1,8 @@
 -- Changes and times that were read.
-use Rattle.std.proofs.Common.{◌≡◌, ℕ, ◌<◌, Bool, true, false, List, [], ◌∷◌, ◌++◌, length, map, Some, sym, ap, ◌∙◌, subst, arith, append_assoc}
+use Rattle.std.proofs.Common.{◌≡◌, ℕ, ◌<◌, Bool, true, false, List, [], ◌∷◌, ◌++◌, length, map, None, Some, refl, sym, ap, ◌∙◌, subst, arith, append_assoc}
 use Rattle.std.proofs.lemmas.List.{append-nil, map-append}
 use Rattle.wave_text.specs.Faults.{FailsAt}
-use Rattle.wave_read.specs.Reading.{FailsBehind, GoesOn, HasChanges, IsOther}
+use Rattle.wave_read.specs.Reading.{FailsBehind, GoesOn, HasChanges, IsOther, PutsChanges}
 use Rattle.wave_read.specs.Shown.{change_of}
 use Rattle.wave_text.specs.VcdText.{AreBits, AreChanges, Changed, IsCode, IsDigit, IsTime, Moment}
 use Rattle.wave_text.specs.VcdText.AreChanges.{none as nothing, at_time as time, by_digit as digit, by_bits as bits}
@@ -114,7 +114,7 @@ other_fails w end words other no_time = none_fails w end words no_time (λ b c i
     no_value (x ∷ bytes) value other is = other.2 (same_first x 98 bytes (map digit_of value) is.bytes_are)
 
 -- the changes so far, with one more
-pub forms_more : (all rest : List Word) (read pushed : List ReadChange) (it : ReadChange) (behind : List Word) → pushed ≡ read ++ it ∷ []
+forms_more : (all rest : List Word) (read pushed : List ReadChange) (it : ReadChange) (behind : List Word) → pushed ≡ read ++ it ∷ []
     → ((others : List Changed) (moments : List Moment) → AreChanges rest others moments → AreChanges all (map change_of read ++ others) moments)
     → ((others : List Changed) (moments : List Moment) → AreChanges behind others moments → AreChanges rest (change_of it ∷ others) moments)
     → (others : List Changed) (moments : List Moment) → AreChanges behind others moments → AreChanges all (map change_of pushed ++ others) moments
@@ -124,8 +124,30 @@ forms_more all rest read pushed it behind new before step others moments is =
     (sym (ap (λ (t : List Changed). t ++ others) listed ∙ append_assoc (map change_of read) (change_of it ∷ []) others))
     (before (change_of it ∷ others) moments (step others moments is))
 
+-- no word is left
+no_more : (words : List Word) → words ≡ [] → AreChanges words [] []
+no_more words none = subst (λ (ws : List Word). AreChanges ws [] []) (sym none) nothing
+
+-- changes were put behind others, and stand before what is left
+abbrev pub Added : (all rest : List Word) (old new : List ReadChange) → Type 0
+Added all rest old new =
+    (read : List ReadChange) × (new ≡ old ++ read)
+    × ((others : List Changed) (moments : List Moment) → AreChanges rest others moments → AreChanges all (map change_of read ++ others) moments)
+
+pub added_none : (all : List Word) (old : List ReadChange) → Added all all old old
+added_none all old = ([], sym (append-nil old), λ others moments is. is)
+
+pub added_more : (all rest behind : List Word) (old new pushed : List ReadChange) (it : ReadChange) → pushed ≡ new ++ it ∷ [] → Added all rest old new
+    → ((others : List Changed) (moments : List Moment) → AreChanges behind others moments → AreChanges rest (change_of it ∷ others) moments)
+    → Added all behind old pushed
+added_more all rest behind old new pushed it more added step = (
+  added.0 ++ it ∷ [],
+  more ∙ ap (λ (t : List ReadChange). t ++ it ∷ []) added.1 ∙ append_assoc old added.0 (it ∷ []),
+  forms_more all rest added.0 (added.0 ++ it ∷ []) it behind refl added.2 step,
+)
+
 -- a time stands behind the changes
-pub goes_on : (end : ℕ) (all rest behind : List Word) (read : List ReadChange) (stamp : Stamp)
+goes_on : (end : ℕ) (all rest behind : List Word) (read : List ReadChange) (stamp : Stamp)
     → ((others : List Changed) (moments : List Moment) → AreChanges rest others moments → AreChanges all (map change_of read ++ others) moments)
     → FailsBehind HasChanges HasChanges end rest all
     → ((others : List Changed) (moments : List Moment) → AreChanges behind others moments
@@ -138,12 +160,22 @@ goes_on end all rest behind read stamp forms fails step step_fails = (
   λ at here. fails at (step_fails at here),
 )
 
--- nothing stands behind the changes
-pub goes_no_further : (all rest : List Word) (read : List ReadChange)
-    → ((others : List Changed) (moments : List Moment) → AreChanges rest others moments → AreChanges all (map change_of read ++ others) moments)
-    → AreChanges rest [] [] → AreChanges all (map change_of read) []
-goes_no_further all rest read forms ends =
-    subst (λ (cs : List Changed). AreChanges all cs []) (append-nil (map change_of read)) (forms [] [] ends)
+pub puts_time : (end inner : ℕ) (all rest behind : List Word) (old new : List ReadChange) (stamp : Stamp) → inner ≡ end → Added all rest old new
+    → FailsBehind HasChanges HasChanges end rest all
+    → ((others : List Changed) (moments : List Moment) → AreChanges behind others moments
+    → AreChanges rest [] ((record { at = stamp.at; time = stamp.time; changes = others }) ∷ moments))
+    × FailsBehind HasChanges HasChanges inner behind rest → PutsChanges end all old new (Some stamp) behind
+puts_time end inner all rest behind old new stamp same added fails step = (
+  added.0,
+  added.1,
+  goes_on end all rest behind added.0 stamp added.2 fails step.0 (subst (λ (n : ℕ). FailsBehind HasChanges HasChanges n behind rest) same step.1),
+)
 
-pub no_more : (words : List Word) → words ≡ [] → AreChanges words [] []
-no_more words none = subst (λ (ws : List Word). AreChanges ws [] []) (sym none) nothing
+-- nothing stands behind the changes
+pub puts_all : (end : ℕ) (all rest : List Word) (old new : List ReadChange) → Added all rest old new → rest ≡ [] → (left : List Word)
+    → PutsChanges end all old new None left
+puts_all end all rest old new added none left = (
+  added.0,
+  added.1,
+  subst (λ (cs : List Changed). AreChanges all cs []) (append-nil (map change_of added.0)) (added.2 [] [] (no_more rest none)),
+)

@@ -10,4 +10,7 @@ pub mod Numerals
 pub mod Rising
 pub mod RowSteps
 pub mod Searching
+pub mod ShortCodes
+pub mod Stepping
+pub mod Timing
 pub mod WordKinds

@@ -1,17 +1,18 @@
 -- Times that were read one after the other.
-use Rattle.std.proofs.Common.{◌≡◌, ℕ, List, [], ◌∷◌, ◌++◌, map, Option, Some, None, Result, Ok, Err, Vec, Global, refl, sym, ap, ◌∙◌, subst, append_assoc}
-use Rattle.chw_base.specs.Outcome.{IfFault, OfFault}
+use Rattle.std.proofs.Common.{◌≡◌, ℕ, ◌+◌, List, [], ◌∷◌, ◌++◌, length, map, Option, Some, None, refl, sym, ap, ◌∙◌, subst, append_assoc}
+use Rattle.chw_base.specs.Outcome.{OfFault}
 use Rattle.chw_base.specs.declared.outcome.Or.{Or}
 use Rattle.chw_base.specs.declared.outcome.Or.TheVariants.{Fault, Memory}
-use Rattle.std.proofs.lemmas.List.{map-append}
 use Rattle.wave_text.specs.Faults.{FailsAt}
-use Rattle.wave_read.specs.Reading.{FailsBehind, GoesOn, HasChanges, HasTimes}
-use Rattle.wave_read.specs.Shown.{change_of, time_of}
+use Rattle.wave_read.specs.Reading.{FailsBehind, GoesOn, HasChanges, HasTimes, PutsChanges}
+use Rattle.wave_read.specs.Shown.{change_of, count_of, time_with, times_of}
 use Rattle.wave_text.specs.VcdText.{AreChanges, Changed, IsTime, Moment}
 use Rattle.wave_text.specs.VcdText.AreChanges.{at_time as time, none as nothing}
 use Rattle.wave_text.specs.Words.{Word}
 use Rattle.wave_read.specs.declared.items.Stamp.{Stamp}
+use Rattle.wave_read.specs.declared.source.Changed.{Changed as ReadChange}
 use Rattle.wave_read.specs.declared.source.Moment.{Moment as ReadMoment}
+use Rattle.wave_read.proofs.Timing.{added_count, times_push}
 use Rattle.wave_read.proofs.WordKinds.{first_behind, first_fails}
 
 abbrev pub moment_at : Stamp → List Changed → Moment
@@ -32,10 +33,10 @@ reached_first w first end words is same = (
   first_behind w end words first.time is,
 )
 
-pub reached_none : (w : Word) (first : Stamp) (end : ℕ) (words : List Word) (read : List ReadMoment) → read ≡ [] → IsTime w.bytes first.time → w.at ≡ first.at
-    → Reached end (w ∷ words) (map time_of read) (Some first) words
-reached_none w first end words read none is same =
-    subst (λ (ms : List ReadMoment). Reached end (w ∷ words) (map time_of ms) (Some first) words) (sym none) (reached_first w first end words is same)
+pub reached_none : (w : Word) (first : Stamp) (end : ℕ) (words : List Word) (read : List ReadMoment) (changes : List ReadChange) → read ≡ [] → IsTime w.bytes first.time
+    → w.at ≡ first.at → Reached end (w ∷ words) (times_of read changes) (Some first) words
+reached_none w first end words read changes none is same =
+    subst (λ (ms : List ReadMoment). Reached end (w ∷ words) (times_of ms changes) (Some first) words) (sym none) (reached_first w first end words is same)
 
 reached_more : (end : ℕ) (all rest behind : List Word) (read : List Moment) (stamp : Stamp) (changes : List Changed) (next : Option Stamp)
     → Reached end all read (Some stamp) rest → GoesOn end rest changes next behind → Reached end all (read ++ moment_at stamp changes ∷ []) next behind
@@ -48,16 +49,17 @@ reached_more end all rest behind read stamp changes (Some next) reached goes = (
 )
 
 -- one time more, in the reader's own form
-pub reached_push : (end inner : ℕ) (all rest behind : List Word) (read pushed : List ReadMoment) (it : ReadMoment) (stamp : Stamp) (next : Option Stamp)
-    → pushed ≡ read ++ it ∷ [] → it.at ≡ stamp.at → it.time ≡ stamp.time → inner ≡ end → Reached end all (map time_of read) (Some stamp) rest
-    → GoesOn inner rest (map change_of it.changes.items) next behind → Reached end all (map time_of pushed) next behind
-reached_push end inner all rest behind read pushed it stamp next new at instant same reached goes =
-    let changes : List Changed = map change_of it.changes.items in
-    let shown : moment_at stamp changes ≡ time_of it = λ i. record { at = sym at i; time = sym instant i; changes = changes } in
-    let listed : map time_of read ++ moment_at stamp changes ∷ [] ≡ map time_of pushed =
-    ap (λ (m : Moment). map time_of read ++ m ∷ []) shown ∙ sym (ap (map time_of) new ∙ map-append time_of read (it ∷ [])) in
-    subst (λ (ms : List Moment). Reached end all ms next behind) listed
-    (reached_more end all rest behind (map time_of read) stamp changes next reached (subst (λ (n : ℕ). GoesOn n rest changes next behind) same goes))
+pub reached_push : (end inner : ℕ) (all rest behind : List Word) (read pushed : List ReadMoment) (it : ReadMoment) (old new : List ReadChange) (stamp : Stamp) (next : Option Stamp)
+    → pushed ≡ read ++ it ∷ [] → it.at ≡ stamp.at → it.time ≡ stamp.time → it.count + length old ≡ length new → count_of read ≡ length old → inner ≡ end
+    → Reached end all (times_of read old) (Some stamp) rest → PutsChanges inner rest old new next behind → Reached end all (times_of pushed new) next behind
+reached_push end inner all rest behind read pushed it old new stamp next more at instant count whole same reached puts =
+    let own : List Changed = map change_of puts.0 in
+    let shown : time_with it puts.0 ≡ moment_at stamp own = λ i. record { at = at i; time = instant i; changes = own } in
+    let both : times_of pushed new ≡ times_of (read ++ it ∷ []) (old ++ puts.0) = λ i. times_of (more i) (puts.1 i) in
+    let listed : times_of pushed new ≡ times_of read old ++ moment_at stamp own ∷ [] =
+    both ∙ times_push read old puts.0 it whole (added_count old new puts.0 it.count puts.1 count) ∙ ap (λ (m : Moment). times_of read old ++ m ∷ []) shown in
+    subst (λ (ms : List Moment). Reached end all ms next behind) (sym listed)
+    (reached_more end all rest behind (times_of read old) stamp own next reached (subst (λ (n : ℕ). GoesOn n rest own next behind) same puts.2))
 
 -- the same of all words behind the first time
 pub fails_from : (end inner : ℕ) (first : Stamp) (rest left : List Word) (read : List Moment) (stamp : Stamp) (e : Or ℕ)
@@ -75,18 +77,9 @@ reached_end end all read None rest none reached = reached
 reached_end end all read (Some stamp) rest none reached = absurd (none stamp refl)
 
 -- no times
-pub no_times : (words : List Word) (read : List ReadMoment) → words ≡ [] → read ≡ [] → AreChanges words [] (map time_of read)
-no_times words read none unread =
-    subst (λ (ms : List ReadMoment). AreChanges words [] (map time_of ms)) (sym unread) (subst (λ (ws : List Word). AreChanges ws [] []) (sym none) nothing)
+pub no_times : (words : List Word) (times : List Moment) → words ≡ [] → times ≡ [] → AreChanges words [] times
+no_times words times none unread = subst (AreChanges words []) (sym unread) (subst (λ (ws : List Word). AreChanges ws [] []) (sym none) nothing)
 
 -- the first word is no time
 pub no_first_time : (w : Word) (end : ℕ) (words rest : List Word) → words ≡ w ∷ rest → ((at : ℕ) → IsTime w.bytes at → ⊥) → FailsAt HasTimes end words w.at
 no_first_time w end words rest is no_time = subst (λ (ws : List Word). FailsAt HasTimes end ws w.at) (sym is) (first_fails w end rest no_time)
-
-pub times_fail : (w : Word) (first : Stamp) (inner end : ℕ) (words rest : List Word) (r : Result (Vec ReadMoment Global) (Or ℕ)) → words ≡ w ∷ rest → inner ≡ end → IsTime w.bytes first.time
-    → w.at ≡ first.at → IfFault r (λ at. (x : Word) → IsTime x.bytes first.time → x.at ≡ first.at → FailsAt HasTimes inner (x ∷ rest) at)
-    → IfFault r (FailsAt HasTimes end words)
-times_fail w first inner end words rest (Ok v) is same instant there read = tt
-times_fail w first inner end words rest (Err Memory) is same instant there read = tt
-times_fail w first inner end words rest (Err (Fault at)) is same instant there read =
-    subst (λ (ws : List Word). FailsAt HasTimes end ws at) (sym is) (subst (λ (n : ℕ). FailsAt HasTimes n (w ∷ rest) at) same (read w instant there))

@@ -1,13 +1,11 @@
 -- Lists that are searched from the front.
-use Rattle.std.proofs.Common.{◌≡◌, ℕ, zero, suc, ◌+◌, ◌<◌, List, [], ◌∷◌, ◌++◌, length, map, take, drop, get_or, refl, sym, ap, ◌∙◌, subst, append_assoc, arith}
+use Rattle.std.proofs.Common.{◌≡◌, ℕ, zero, suc, ◌+◌, ◌<◌, List, [], ◌∷◌, ◌++◌, length, map, take, drop, get_or, refl, sym, ap, ◌∙◌, subst, arith}
 use Rattle.std.specs.List.{AllByRecursion}
 use Rattle.std.proofs.lemmas.List.{drop_more, map-append, take-append-drop, take_more}
-use Rattle.wave_text.proofs.Lists.{all_append}
 use Rattle.wave_text.specs.Faults.{IsFirstWithout}
-use Rattle.wave_read.specs.Shown.{change_of, time_of}
-use Rattle.wave_text.specs.VcdText.{Changed as Change, Moment as Time, all_changes}
+use Rattle.wave_read.specs.Shown.{change_of}
+use Rattle.wave_text.specs.VcdText.{Changed as Change}
 use Rattle.wave_read.specs.declared.source.Changed.{Changed}
-use Rattle.wave_read.specs.declared.source.Moment.{Moment}
 
 -- a list around one item
 pub around : {A B : Type 0} (f : A → B) (xs : List A) (i : ℕ) (x d : A) → i < length xs → x ≡ get_or xs i d
@@ -33,48 +31,16 @@ first_without P xs i x d within is before broken = record {
   broken = broken;
 }
 
-changes_append : (xs ys : List Time) → all_changes (xs ++ ys) ≡ all_changes xs ++ all_changes ys
-changes_append [] ys = refl
-changes_append (x ∷ xs) ys = ap (λ t. x.changes ++ t) (changes_append xs ys) ∙ sym (append_assoc x.changes (all_changes xs) (all_changes ys))
-
--- the first of all changes of which something doesn't hold
-pub first_of_all : (P : Change → Type 0) (xs : List Moment) (i : ℕ) (x d : Moment) (change : Change) → i < length xs → x ≡ get_or xs i d
-    → AllByRecursion P (all_changes (map time_of (take i xs))) → IsFirstWithout P (map change_of x.changes.items) change
-    → IsFirstWithout P (all_changes (map time_of xs)) change
-first_of_all P xs i x d change within is before first =
-    let front = all_changes (map time_of (take i xs)) in
-    let back = all_changes (map time_of (drop (i + 1) xs)) in
-    record {
-      earlier = front ++ first.earlier;
-      others = first.others ++ back;
-      changes_are =
-          ap all_changes (around time_of xs i x d within is)
-          ∙ changes_append (map time_of (take i xs)) (time_of x ∷ map time_of (drop (i + 1) xs))
-          ∙ ap (λ t. front ++ (t ++ back)) first.changes_are
-          ∙ ap (λ t. front ++ t) (append_assoc first.earlier (change ∷ first.others) back)
-          ∙ sym (append_assoc front first.earlier (change ∷ (first.others ++ back)));
-      before = all_append P front first.earlier before first.before;
-      broken = first.broken;
-    }
-
--- what holds of all changes holds of each, and of those of each time
+-- what holds of all changes holds of each, and of the first and the last of them
 pub change_at : (P : Change → Type 0) (xs : List Changed) (i : ℕ) (x d : Changed) → i < length xs → x ≡ get_or xs i d → AllByRecursion P (map change_of xs) → P (change_of x)
 change_at P [] i x d within is all = absurd (omega arith)
 change_at P (y ∷ xs) zero x d within is all = subst (λ (z : Changed). P (change_of z)) (sym is) all.0
 change_at P (y ∷ xs) (suc i) x d within is all = change_at P xs i x d (omega arith) is all.1
 
-all_left : (P : Change → Type 0) (xs ys : List Change) → AllByRecursion P (xs ++ ys) → AllByRecursion P xs
+pub all_left : (P : Change → Type 0) (xs ys : List Change) → AllByRecursion P (xs ++ ys) → AllByRecursion P xs
 all_left P [] ys all = tt
 all_left P (x ∷ xs) ys all = (all.0, all_left P xs ys all.1)
 
-all_right : (P : Change → Type 0) (xs ys : List Change) → AllByRecursion P (xs ++ ys) → AllByRecursion P ys
+pub all_right : (P : Change → Type 0) (xs ys : List Change) → AllByRecursion P (xs ++ ys) → AllByRecursion P ys
 all_right P [] ys all = all
 all_right P (x ∷ xs) ys all = all_right P xs ys all.1
-
-pub changes_at : (P : Change → Type 0) (xs : List Moment) (i : ℕ) (x d : Moment) → i < length xs → x ≡ get_or xs i d → AllByRecursion P (all_changes (map time_of xs))
-    → AllByRecursion P (map change_of x.changes.items)
-changes_at P [] i x d within is all = absurd (omega arith)
-changes_at P (y ∷ xs) zero x d within is all =
-    subst (λ (z : Moment). AllByRecursion P (map change_of z.changes.items)) (sym is) (all_left P (map change_of y.changes.items) (all_changes (map time_of xs)) all)
-changes_at P (y ∷ xs) (suc i) x d within is all =
-    changes_at P xs i x d (omega arith) is (all_right P (map change_of y.changes.items) (all_changes (map time_of xs)) all)

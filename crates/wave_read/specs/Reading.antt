@@ -1,5 +1,5 @@
 -- What the reader knows of the words that it has read.
-use Rattle.std.specs.Prelude.{◌≡◌, ◌≢◌, ℕ, ◌+◌, ◌<◌, ◌≤◌, List, [], ◌∷◌, length, codes}
+use Rattle.std.specs.Prelude.{◌≡◌, ◌≢◌, ℕ, ◌+◌, ◌<◌, ◌≤◌, List, [], ◌∷◌, ◌++◌, length, map, codes}
 use Rattle.std.specs.Prelude.{Option, None, Some}
 use Rattle.wave_text.specs.Faults.{FailsAt}
 use Rattle.wave_read.specs.Shown.{change_of, variable_of}
@@ -15,6 +15,7 @@ use Rattle.wave_read.specs.declared.items.Item.TheVariants.{Change, Nothing, Tim
 use Rattle.wave_read.specs.declared.items.Stamp.{Stamp}
 use Rattle.wave_read.specs.declared.definitions.Definition.{Definition}
 use Rattle.wave_read.specs.declared.definitions.Definition.TheVariants.{Last, Variable}
+use Rattle.wave_read.specs.declared.source.Changed.{Changed as ReadChange}
 use Rattle.wave_read.specs.declared.words.Left.{Left}
 
 -- the words that are left
@@ -103,6 +104,13 @@ GoesOn end words changes (Some stamp) rest =
     → AreChanges words changes
     (record { at = stamp.at; time = stamp.time; changes = others } ∷ moments))
     × FailsBehind HasChanges HasChanges end rest words
+
+-- the same of the changes that were put behind others
+abbrev pub PutsChanges : ℕ → List Word → (old new : List ReadChange) → Option Stamp → List Word
+    → Type 0
+PutsChanges end words old new next rest =
+    (read : List ReadChange) × (new ≡ old ++ read)
+    × GoesOn end words (map change_of read) next rest
 
 -- what is left behind what stands next; this is left where nothing does
 abbrev pub left_of : Left → Item → Left

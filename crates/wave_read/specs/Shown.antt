@@ -1,12 +1,10 @@
 -- What the reader's data say.
-use Rattle.std.specs.Prelude.{ℕ, Bool, ◌||◌, ◌==◌, List, map}
+use Rattle.std.specs.Prelude.{ℕ, Bool, ◌+◌, ◌||◌, ◌==◌, List, [], ◌∷◌, drop, map, take}
 use Rattle.wave_text.specs.VcdText.{Changed as Change, Declared as Variable, Moment as Time}
-use Rattle.wave_text.specs.VcdText.{Source as WaveSource}
 use Rattle.wave_text.specs.Words.{Word as TextWord}
 use Rattle.wave_read.specs.declared.source.Changed.{Changed}
 use Rattle.wave_read.specs.declared.source.Declared.{Declared}
 use Rattle.wave_read.specs.declared.source.Moment.{Moment}
-use Rattle.wave_read.specs.declared.source.Source.{Source}
 use Rattle.wave_read.specs.declared.words.Word.{Word}
 
 -- a word
@@ -30,15 +28,17 @@ abbrev pub change_of : Changed → Change
 change_of it =
     record { at = it.at; code_at = it.code_at; code = it.code.now; bits = bits_of it.digits.now }
 
--- a time with its changes
-abbrev pub time_of : Moment → Time
-time_of it = record { at = it.at; time = it.time; changes = map change_of it.changes.items }
+-- a time with these changes
+abbrev pub time_with : Moment → List Changed → Time
+time_with it changes = record { at = it.at; time = it.time; changes = map change_of changes }
 
--- declared variables and times
-abbrev pub source_in : List Declared → List Moment → WaveSource
-source_in declared moments =
-    record { declared = map variable_of declared; moments = map time_of moments }
+-- times with their changes, which stand one behind the other
+abbrev pub times_of : List Moment → List Changed → List Time
+times_of [] changes = []
+times_of (it ∷ moments) changes =
+    time_with it (take it.count changes) ∷ times_of moments (drop it.count changes)
 
--- the declarations and the times of a text
-abbrev pub source_of : Source → WaveSource
-source_of it = source_in it.declared.items it.moments.items
+-- how many changes times have
+abbrev pub count_of : List Moment → ℕ
+count_of [] = 0
+count_of (it ∷ moments) = it.count + count_of moments

@@ -3,14 +3,14 @@ ghost use Rattle.std.specs.Prelude.{◌≡◌, ◌<◌, ◌^◌, List, length, I
 ghost use Rattle.chw_base.specs.Outcome.{IfFault};
 ghost use Rattle.wave_text.specs.Faults.{FailsAt, HasSource, IsVcdFault};
 ghost use Rattle.wave_read.specs.Reading.{FailsBehind, HasDeclarations, end_of, words_in};
-ghost use Rattle.wave_read.specs.Shown.{source_of};
+ghost use Rattle.wave_read.specs.Sources.{source_of};
 ghost use Rattle.wave_text.specs.VcdText.{AreDeclarations, IsSource, VcdText};
 ghost use Rattle.wave_text.specs.VcdText.{Declared as Variable, Moment as Time};
 ghost use Rattle.wave_text.specs.Words.{words_of};
 
 use crate::definitions::{Definitions, definitions_of};
 use crate::denoting::wave_of;
-use crate::moments::moments_of;
+use crate::moments::times_in;
 use crate::rows::row_of;
 use crate::slots::Slot;
 use crate::source::Source;
@@ -52,8 +52,8 @@ fn source<'a>(alloc: Global, text: &'a [u8]) -> Result<Source<'a>, Or<u32>>
 {
     let first = behind_first(alloc, text)?;
     let Definitions { declared, left } = definitions_of(alloc, first)?;
-    let moments = moments_of(alloc, left)?;
-    Ok(Source { declared, moments })
+    let times = times_in(alloc, left)?;
+    Ok(Source { declared, times })
 }
 
 /// The wave of a text.

@@ -1,16 +1,20 @@
 //! The rules on codes, widths and times.
-ghost use Rattle.std.specs.Prelude.{◌≡◌, ◌↔◌, map, slice_index_or, IsTrue, IfOk, IfSome, IfNone};
+ghost use Rattle.std.specs.Prelude.{◌≡◌, ◌↔◌, List, map, slice_index_or};
+ghost use Rattle.std.specs.Prelude.{IsTrue, IfOk, IfSome, IfNone};
 ghost use Rattle.std.specs.List.{AllByRecursion};
 ghost use Rattle.chw_base.specs.Outcome.{IfFault};
 ghost use Rattle.name_tables.specs.Names.{AreDistinct};
 ghost use Rattle.wave_text.specs.Faults.{IsBackAt, IsTwiceAt};
 ghost use Rattle.wave_read.specs.Rules.{BreaksAt, Keeps, OfTable, place_in, var_in};
-ghost use Rattle.wave_read.specs.Shown.{change_of, time_of, variable_of};
+ghost use Rattle.wave_read.specs.Shown.{change_of, times_of, variable_of};
+ghost use Rattle.wave_read.specs.declared.source.Changed.{Changed};
 ghost use Rattle.wave_text.specs.VcdText.{Rise, all_changes, codes_of};
 
+use crate::codes::Codes;
 use crate::source::{Changed, Declared, Moment};
+use crate::times::Times;
 use chw_base::{NoMemory, Or};
-use name_tables::Declared as Codes;
+use name_tables::Declared as Names;
 use std::alloc::Global;
 
 /// A rule on changes.
@@ -30,12 +34,12 @@ pub struct Table<'a> {
 }
 
 /// The codes of the variables. A fault is where a code is declared again.
-fn codes_in<'a>(alloc: Global, declared: &[Declared<'a>]) -> Result<Codes<'a>, Or<u32>>
+fn codes_in<'a>(alloc: Global, declared: &[Declared<'a>]) -> Result<Names<'a>, Or<u32>>
     ensures codes { IfOk result (λ codes. codes ≡ codes_of (map variable_of declared.now)) }
     ensures distinct { IfOk result (λ _. AreDistinct (codes_of (map variable_of declared.now))) }
     ensures fault { IfFault result (IsTwiceAt (map variable_of declared.now)) }
 {
-    let mut codes = Codes::new(alloc);
+    let mut codes = Names::new(alloc);
     for it in declared {
         if !codes.declare(it.code)? {
             return Err(Or::Fault(it.at));
@@ -48,7 +52,7 @@ fn codes_in<'a>(alloc: Global, declared: &[Declared<'a>]) -> Result<Codes<'a>, O
 fn widths_in(alloc: Global, declared: &[Declared]) -> Result<Vec<u32>, NoMemory>
     ensures { IfOk result (λ v. v.items ≡ map (λ it. it.width) (map variable_of declared.now)) }
 {
-    let mut widths = Vec::new(alloc);
+    let mut widths = Vec::with_capacity(alloc, declared.len())?;
     for it in declared {
         widths.push(it.width)?;
     }
@@ -61,7 +65,8 @@ pub fn table_of<'a>(alloc: Global, declared: &[Declared<'a>]) -> Result<Table<'a
     ensures distinct { IfOk result (λ _. AreDistinct (codes_of (map variable_of declared.now))) }
     ensures fault { IfFault result (IsTwiceAt (map variable_of declared.now)) }
 {
-    let codes = codes_in(alloc, declared)?;
+    let names = codes_in(alloc, declared)?;
+    let codes = Codes::of(alloc, names)?;
     let widths = widths_in(alloc, declared)?;
     Ok(Table { codes, widths })
 }
@@ -114,18 +119,13 @@ impl<'a> Table<'a> {
     }
 
     /// Where the first of the changes of all times breaks the rule.
-    pub fn break_of(&self, rule: Rule, moments: &[Moment]) -> Option<u32>
-        ensures some { IfSome result
-            (BreaksAt rule self.now (all_changes (map time_of moments.now))) }
+    pub fn break_of(&self, rule: Rule, times: &Times) -> Option<u32>
+        ensures some { IfSome result (BreaksAt rule self.now (all_changes times.now)) }
         ensures none { IfNone result
-            (AllByRecursion (Keeps rule self.now) (all_changes (map time_of moments.now))) }
+            (AllByRecursion (Keeps rule self.now) (all_changes times.now)) }
     {
-        for moment in moments {
-            if let Some(at) = self.broken_at(rule, moment.changes.as_slice()) {
-                return Some(at);
-            }
-        }
-        None
+        let (_, changes) = times.parts();
+        self.broken_at(rule, changes)
     }
 }
 
@@ -139,16 +139,27 @@ fn place_in(rule: Rule, change: &Changed) -> u32
     }
 }
 
-/// Where the first time stands that isn't greater than the one before.
-pub fn back_at(moments: &[Moment]) -> Option<u32>
-    ensures some { IfSome result (IsBackAt (map time_of moments.now)) }
-    ensures none { IfNone result (Rise (map time_of moments.now)) }
+/// Where the first of these stands that isn't greater than the one before, whatever the changes.
+fn back_among(moments: &[Moment]) -> Option<u32>
+    ensures some { (changes : List Changed)
+        → IfSome result (IsBackAt (times_of moments.now changes)) }
+    ensures none { (changes : List Changed)
+        → IfNone result (Rise (times_of moments.now changes)) }
 {
     for k in 1..moments.len() {
-        let moment = &moments[k];
+        let moment = moments[k];
         if moment.time <= moments[k - 1].time {
             return Some(moment.at);
         }
     }
     None
+}
+
+/// Where the first time stands that isn't greater than the one before.
+pub fn back_at(times: &Times) -> Option<u32>
+    ensures some { IfSome result (IsBackAt times.now) }
+    ensures none { IfNone result (Rise times.now) }
+{
+    let (moments, _) = times.parts();
+    back_among(moments)
 }

@@ -1,5 +1,7 @@
 //! What stands in a text of waves.
 
+use crate::times::Times;
+
 /// A declared variable, and the place of its code.
 #[derive(Clone, Copy)]
 pub struct Declared<'a> {
@@ -18,17 +20,17 @@ pub struct Changed<'a> {
     pub digits: &'a [u8],
 }
 
-/// A time with its changes, and its place.
-#[derive(Drop)]
-pub struct Moment<'a> {
+/// A time, its place, and how many changes it has.
+#[derive(Clone, Copy)]
+pub struct Moment {
     pub at: u32,
     pub time: u64,
-    pub changes: Vec<Changed<'a>>,
+    pub count: usize,
 }
 
 /// The declarations and the times of a text.
 #[derive(Drop)]
 pub struct Source<'a> {
     pub declared: Vec<Declared<'a>>,
-    pub moments: Vec<Moment<'a>>,
+    pub times: Times<'a>,
 }

@@ -1,8 +1,10 @@
-use Rattle.wave_read.specs.Rules.{Keeps}
-use Rattle.wave_read.specs.declared.rules.Rule.TheVariants.{Width}
-use Rattle.wave_read.proofs.Searching.{changes_at}
+use Rattle.std.proofs.Common.{List, map, sym, ap, ◌∙◌, subst}
+use Rattle.wave_read.specs.Rules.{HaveWidths}
+use Rattle.wave_text.specs.VcdText.{Changed, Moment, all_changes}
+use Rattle.wave_read.proofs.Timing.{changes_of_times}
 use Rattle.wave_read.proofs.denoting.steps_of.Goals as goal
 
-pub step_made-requires : goal.step_made-requires
-step_made-requires c =
-    changes_at (Keeps Width c.args.table.now) c.args.moments.now c.loop-moment.moment-index c.moment-item.result _ c.loop-moment-test.true c.moment-item.is c.requires
+pub steps_made-requires-clause-widths : goal.steps_made-requires-clause-widths
+steps_made-requires-clause-widths c =
+    subst (HaveWidths c.args.table.now)
+    (ap all_changes (sym c.parts.ensures.times) ∙ changes_of_times c.parts.result.0.now c.parts.result.1.now c.parts.ensures.count) c.requires

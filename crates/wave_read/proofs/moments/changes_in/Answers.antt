@@ -1,9 +1,18 @@
-use Rattle.wave_read.specs.Reading.{words_in}
-use Rattle.wave_read.proofs.Itemizing.{goes_no_further, no_more}
+use Rattle.wave_read.specs.Reading.{end_of, words_in}
+use Rattle.wave_read.proofs.Itemizing.{added_more, added_none, puts_all, puts_time}
 use Rattle.wave_read.proofs.moments.changes_in.Goals as goal
 
-pub returns-in-Ok-Nothing-clause-goes_on : goal.returns-in-Ok-Nothing-clause-goes_on
-returns-in-Ok-Nothing-clause-goes_on c =
+pub returns-in-Ok-Time-clause-puts : goal.returns-in-Ok-Time-clause-puts
+returns-in-Ok-Time-clause-puts c =
     let l = c.loop-change in
+    let left = c.args.left in
+    let item = rw c.in-Ok-Time.field-0-is at c.in-Ok-Time.ensures.item in
+    puts_time (end_of left) (end_of l.rest) (words_in left) (words_in l.rest) (words_in c.in-Ok-Time.behind) c.args.changes.now.items l.changes.items c.in-Ok-Time.stamp
+    l.invariant.end l.invariant.added l.invariant.fails item
+
+pub returns-in-Ok-Nothing-clause-puts : goal.returns-in-Ok-Nothing-clause-puts
+returns-in-Ok-Nothing-clause-puts c =
+    let l = c.loop-change in
+    let left = c.args.left in
     let item = rw c.in-Ok-Nothing.field-0-is at c.in-Ok-Nothing.ensures.item in
-    goes_no_further (words_in c.args.left) (words_in l.rest) l.changes.items l.invariant.forms (no_more (words_in l.rest) item)
+    puts_all (end_of left) (words_in left) (words_in l.rest) c.args.changes.now.items l.changes.items l.invariant.added item (words_in l.rest)

@@ -1,16 +1,19 @@
-use Rattle.std.proofs.Common.{List, map, subst}
+use Rattle.std.proofs.Common.{List, sym, ap, ◌∙◌, subst}
+use Rattle.std.specs.List.{AllByRecursion}
+use Rattle.std.specs.Prelude.{IfNone, IfSome}
+use Rattle.wave_text.specs.VcdText.{Changed, all_changes}
 use Rattle.wave_read.specs.Rules.{BreaksAt, Keeps}
-use Rattle.wave_read.specs.Shown.{change_of}
-use Rattle.wave_read.specs.declared.source.Changed.{Changed}
-use Rattle.wave_read.proofs.Searching.{first_of_all}
+use Rattle.wave_read.proofs.Timing.{changes_of_times}
 use Rattle.wave_read.proofs.rules.Table.break_of.Goals as goal
 
-pub returns-in-Some-clause-some : goal.returns-in-Some-clause-some
-returns-in-Some-clause-some c =
-    let rule = c.args.rule in
-    let table = c.args.self.now in
-    let broken = subst (λ (cs : List Changed). BreaksAt rule table (map change_of cs) c.in-Some.at) c.as_slice.ensures.value c.in-Some.ensures.some in (
-      broken.0,
-      first_of_all (Keeps rule table) c.args.moments.now c.loop-moment.moment-index c.moment-item.result _ broken.0 c.loop-moment-test.true c.moment-item.is c.loop-moment.invariant broken.1,
-      broken.2,
-    )
+pub returns-clause-some : goal.returns-clause-some
+returns-clause-some c =
+    let parts = c.parts.ensures in
+    let all = sym (changes_of_times c.parts.result.0.now c.parts.result.1.now parts.count) ∙ ap all_changes parts.times in
+    subst (λ (cs : List Changed). IfSome c.broken_at.result (BreaksAt c.args.rule c.args.self.now cs)) all c.broken_at.ensures.some
+
+pub returns-clause-none : goal.returns-clause-none
+returns-clause-none c =
+    let parts = c.parts.ensures in
+    let all = sym (changes_of_times c.parts.result.0.now c.parts.result.1.now parts.count) ∙ ap all_changes parts.times in
+    subst (λ (cs : List Changed). IfNone c.broken_at.result (AllByRecursion (Keeps c.args.rule c.args.self.now) cs)) all c.broken_at.ensures.none
