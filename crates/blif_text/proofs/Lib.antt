@@ -1,0 +1,11 @@
+pub mod BlastRight
+pub mod Bytes
+pub mod Distinct
+pub mod Going
+pub mod LinesRead
+pub mod Named
+pub mod NoBoth
+pub mod OneSaid
+pub mod PrintedRead
+pub mod Printing
+pub mod RowsFit
