@@ -1,14 +1,13 @@
 -- The net of single bits that a sound flat net becomes breaks no rule.
-use Rattle.std.proofs.Common.{◌≡◌, ℕ, zero, suc, ◌+◌, ◌<◌, ◌≤◌, ◌^◌, List, [], ◌∷◌, ◌++◌, length, get_or, map, reverse, take, true, Some, slice_get, inl, inr, ◌⊎◌, refl, sym, ap, subst, ◌∙◌, length-append, arith, if◌then◌else◌}
+use Rattle.std.proofs.Common.{◌≡◌, ℕ, zero, suc, ◌+◌, ◌<◌, ◌≤◌, ◌^◌, List, [], ◌∷◌, ◌++◌, length, get_or, map, reverse, take, true, Some, slice_get, inl, inr, refl, sym, ap, subst, ◌∙◌, length-append, arith, if◌then◌else◌}
 use Rattle.std.specs.Prelude.{flat_map, IsTrue, slice_index, slice_index_or}
 use Rattle.std.specs.List.{AllByRecursion}
 use Rattle.std.proofs.lemmas.Bool.{le-ltb}
 use Rattle.std.proofs.lemmas.List.{map-append, reverse-append}
 use Rattle.std.proofs.lemmas.Option.{get_or_from_slice_get, same_Some}
-use Rattle.chw_base.specs.Names.{IsUpper}
 use Rattle.chw_base.specs.declared.index.DomId.{DomId}
 use Rattle.chw_base.specs.declared.index.WireId.{WireId}
-use Rattle.chw_base.specs.declared.limits.TheConstants.{FLAT_WIRES, WIRE_BITS}
+use Rattle.chw_base.specs.declared.limits.TheConstants.{FLAT_WIRES}
 use Rattle.chw_clock.specs.declared.event.Port.{Port}
 use Rattle.name_tables.specs.Names.{AreDistinct, is_among}
 use Rattle.net_rules.specs.PortsHold.{PortsHold}
@@ -22,11 +21,11 @@ use Rattle.verilog_text.specs.Text.{clock_names}
 use Rattle.verilog_text.proofs.DistinctNames.{ports_distinct, signals_distinct}
 use Rattle.verilog_text.proofs.OnePorts.{upper_at}
 use Rattle.verilog_text.proofs.Places.{among_left, among_right, stands_among}
-use Rattle.bit_laws.specs.BitNames.{further, place_name, wire_name, word_names}
-use Rattle.bit_laws.specs.Bitnet.{Bitnet, HasNode, Node, clock_of}
+use Rattle.bit_laws.specs.BitNames.{wire_name}
+use Rattle.bit_laws.specs.Bitnet.{Node, clock_of}
 use Rattle.bit_laws.specs.Bitnet.Node.{latch, table}
-use Rattle.bit_laws.specs.Blast.{blast, gate_of, input_names, nodes_of, on_each, output_names, output_nodes, word}
-use Rattle.bit_laws.specs.Driven.{CellDrives, DriveInOrder, DrivenOnce, HasName, IsKnown, KnowsNames, NamesOnly, drives_of}
+use Rattle.bit_laws.specs.Blast.{blast, gate_of, nodes_of, on_each, output_names, output_nodes, word}
+use Rattle.bit_laws.specs.Driven.{CellDrives, DrivenOnce, HasName, IsKnown, KnowsNames, NamesOnly, drives_of}
 use Rattle.bit_laws.specs.Gates.{Gate}
 use Rattle.bit_laws.specs.Gates.Gate.{buffer}
 use Rattle.blif_text.specs.BlifText.{IsClock}

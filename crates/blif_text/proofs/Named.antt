@@ -1,5 +1,5 @@
 -- The names of bits are names, and their first bytes tell inputs from what is driven.
-use Rattle.std.proofs.Common.{◌≡◌, ℕ, zero, suc, ◌+◌, ◌<◌, ◌≤◌, ◌^◌, Bool, true, false, cond, eqb, ◌||◌, List, [], ◌∷◌, ◌++◌, length, get_or, map, Some, slice_get, inl, inr, refl, sym, ap, subst, ◌∙◌, arith}
+use Rattle.std.proofs.Common.{◌≡◌, ℕ, zero, suc, ◌+◌, ◌<◌, ◌≤◌, ◌^◌, Bool, true, false, cond, eqb, ◌||◌, List, [], ◌∷◌, ◌++◌, length, get_or, inl, inr, refl, sym, subst, arith}
 use Rattle.std.specs.Prelude.{codes, decimal, reverse}
 use Rattle.std.specs.List.{AllByRecursion}
 use Rattle.chw_base.specs.Names.{AllOf, IsLowerWord, IsUpper, is_name_byte}
@@ -7,7 +7,7 @@ use Rattle.chw_base.specs.declared.index.DomId.{DomId}
 use Rattle.chw_clock.specs.Histories.{is_one_of}
 use Rattle.chw_clock.specs.declared.event.Port.{Port}
 use Rattle.net_rules.specs.PortsHold.{FitsPort}
-use Rattle.verilog_text.specs.Names.{clock_name, domain_name, input_name, output_name, reset_name, wire_text}
+use Rattle.verilog_text.specs.Names.{domain_name, input_name, output_name, reset_name, wire_text}
 use Rattle.verilog_text.specs.Text.{clock_names}
 use Rattle.verilog_text.proofs.Firsts.{number_digits}
 use Rattle.verilog_text.proofs.PrintedNames.{number_form}

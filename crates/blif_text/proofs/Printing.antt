@@ -1,5 +1,5 @@
 -- What is written, piece by piece.
-use Rattle.std.proofs.Common.{◌≡◌, ℕ, zero, suc, ◌+◌, ◌<◌, ◌==◌, Bool, true, false, List, [], ◌∷◌, ◌++◌, length, map, reverse, codes, if◌then◌else◌, refl, sym, ap, ◌∙◌, append_assoc, arith, rules}
+use Rattle.std.proofs.Common.{◌≡◌, ℕ, zero, suc, ◌+◌, ◌==◌, Bool, true, false, List, [], ◌∷◌, ◌++◌, length, map, reverse, codes, if◌then◌else◌, refl, sym, ap, ◌∙◌, append_assoc, arith, rules}
 use Rattle.std.specs.Prelude.{flat_map, slice_index}
 use Rattle.std.proofs.lemmas.Bool.{false≢true}
 use Rattle.std.proofs.lemmas.List.{append-nil, reverse-append}
@@ -13,14 +13,14 @@ use Rattle.verilog_text.specs.Text.{clock_names}
 use Rattle.bit_laws.specs.BitNames.{place_name, wire_name, word_names}
 use Rattle.bit_laws.specs.Bitnet.{Bitnet, Node}
 use Rattle.bit_laws.specs.Bitnet.Node.{latch, table}
-use Rattle.bit_laws.specs.Blast.{blast, input_names, output_names, word}
+use Rattle.bit_laws.specs.Blast.{blast, input_names, word}
 use Rattle.bit_laws.specs.Gates.{digit_of, rows_of}
 use Rattle.bit_nodes.specs.Standing.{kind_of}
 use Rattle.bit_nodes.specs.declared.nodes.BitGate.{BitGate}
 use Rattle.bit_nodes.specs.declared.nodes.BitGate.TheVariants.{Read, Written}
 use Rattle.blif_text.specs.Pieces.{head_text, input_text, node_text, output_text, places_text, row_text, rows_text}
 use Rattle.blif_text.specs.Printed.{blif_text, node_statements, nodes_and_end, spaced, statement_text}
-use Rattle.blif_text.specs.Statements.Statement.{ends, inputs_are, latch_of, model, outputs_are, row_of, table_of}
+use Rattle.blif_text.specs.Statements.Statement.{latch_of, row_of, table_of}
 
 pub spaced_append : (xs ys : List (List ℕ)) → spaced (xs ++ ys) ≡ spaced xs ++ spaced ys
 spaced_append xs ys = flat_map-append (λ (word : List ℕ). codes " " ++ word) xs ys
