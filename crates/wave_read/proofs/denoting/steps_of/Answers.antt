@@ -1,6 +1,6 @@
-use Rattle.std.proofs.Common.{List, map, sym, ap, ◌∙◌, subst}
+use Rattle.std.proofs.Common.{sym, ap, ◌∙◌, subst}
 use Rattle.wave_read.specs.Rules.{HaveWidths}
-use Rattle.wave_text.specs.VcdText.{Changed, Moment, all_changes}
+use Rattle.wave_text.specs.VcdText.{all_changes}
 use Rattle.wave_read.proofs.Timing.{changes_of_times}
 use Rattle.wave_read.proofs.denoting.steps_of.Goals as goal
 

@@ -1,5 +1,5 @@
 use Rattle.wave_read.specs.Reading.{end_of, words_in}
-use Rattle.wave_read.proofs.Itemizing.{added_more, added_none, puts_all, puts_time}
+use Rattle.wave_read.proofs.Itemizing.{puts_all, puts_time}
 use Rattle.wave_read.proofs.moments.changes_in.Goals as goal
 
 pub returns-in-Ok-Time-clause-puts : goal.returns-in-Ok-Time-clause-puts

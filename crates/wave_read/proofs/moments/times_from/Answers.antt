@@ -1,9 +1,9 @@
-use Rattle.std.proofs.Common.{◌≡◌, ◌+◌, ◌-◌, [], ◌∷◌, List, length, Option, refl, sym, ap, ◌∙◌, subst, arith}
+use Rattle.std.proofs.Common.{◌≡◌, ◌+◌, ◌-◌, [], ◌∷◌, length, Option, refl, sym, ap, ◌∙◌, subst, arith}
 use Rattle.std.proofs.lemmas.List.{length-append}
 use Rattle.std.proofs.lemmas.Result.{err_from_is_err_and}
 use Rattle.wave_read.specs.Reading.{end_of, words_in}
 use Rattle.wave_read.specs.Shown.{count_of, times_of}
-use Rattle.wave_text.specs.VcdText.{AreChanges, IsTime, Moment}
+use Rattle.wave_text.specs.VcdText.{AreChanges, IsTime}
 use Rattle.wave_text.specs.Words.{Word}
 use Rattle.wave_read.specs.declared.items.Stamp.{Stamp}
 use Rattle.wave_read.proofs.Momenting.{Reached, fails_from, reached_end, reached_none, reached_push}
