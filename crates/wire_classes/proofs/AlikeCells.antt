@@ -3,9 +3,9 @@ use Rattle.std.proofs.Common.{◌≡◌, ℕ, zero, suc, ◌+◌, ◌<◌, inl, 
 use Rattle.std.specs.List.{AllByRecursion}
 use Rattle.std.specs.Option.{option_map}
 use Rattle.std.specs.Prelude.{option_and_then}
-use Rattle.std.proofs.lemmas.Bool.{cases_lt, cond-false, cond-true, false≢true}
+use Rattle.std.proofs.lemmas.Bool.{cases_lt, false≢true}
 use Rattle.std.proofs.lemmas.List.{get_or-drop, get_or_past, length-map}
-use Rattle.std.proofs.lemmas.Option.{none-some, same_Some, slice_get-map, slice_get_within}
+use Rattle.std.proofs.lemmas.Option.{get_or_from_slice_get, none-some, same_Some, slice_get-map, slice_get_within}
 use Rattle.chw_base.specs.declared.index.WireId.{WireId}
 use Rattle.netlist.specs.Feeds.{target, target_at}
 use Rattle.netlist.specs.Sound.{IsWire}
@@ -18,12 +18,12 @@ use Rattle.share_laws.specs.Same.{AllSame, IsKnown, Same}
 use Rattle.share_laws.specs.Same.AllSame.{same_and, same_none}
 use Rattle.share_laws.specs.Same.Same.{equal_bits, equal_cells}
 use Rattle.wire_classes.specs.Closed.{AreFound, AreLabels, BitsHold, CellsHold, bits_in, label_of, labels_of, mark_of}
-use Rattle.wire_classes.specs.Keys.{AreWireKeys, KeysAgree, KeysClash, cell_key, known_key, tagged, wire_key}
+use Rattle.wire_classes.specs.Keys.{AreMarked, KeysAgree, KeysClash, cell_key, known_key}
 use Rattle.wire_classes.specs.Steps.{IsStep}
 use Rattle.wire_classes.specs.declared.steps.Step.TheVariants.{Merge}
 use Rattle.wire_classes.proofs.Copying.{same_by_label, target_there}
 use Rattle.wire_classes.proofs.Exist.{reads_exist, shown_count}
-use Rattle.wire_classes.proofs.KeyBytes.{bits_apart, cell_apart, cell_meet, first_of, rest_of, tagged_apart}
+use Rattle.wire_classes.proofs.KeyBytes.{bits_apart, cell_apart, cell_meet, first_of, rest_of}
 
 -- an item of a mapped list is made of one of the list
 mapped_at : {X Y : Type 0} (f : X → Y) (xs : List X) (k : ℕ) (y : Y) → slice_get (map f xs) k ≡ Some y → (x : X) × (slice_get xs k ≡ Some x) × (f x ≡ y)
@@ -107,61 +107,65 @@ marked_within known w m = elim (cases_lt w (length known)) [
   | inr l ↦ absurd (false≢true (sym (get_or_past known w false l) ∙ m))
 ]
 
-module _ (flat : Flat) (of : List ℕ) (known : List Bool) (values : List (List Bool)) (found : AreFound flat of known values)
-    (keys : List (List ℕ)) (are : AreWireKeys known values (length values) keys) where
-  marked_key : (w : ℕ) → mark_of known w ≡ true → wire_key known values w ≡ known_key (bits_in values w)
-  marked_key w m = cond-true (mark_of known w) (known_key (bits_in values w)) (tagged 0 w) m
-
-  other_key : (w : ℕ) → mark_of known w ≡ false → wire_key known values w ≡ tagged 0 w
-  other_key w m = cond-false (mark_of known w) (known_key (bits_in values w)) (tagged 0 w) m
-
-  pub bits_hold : KeysAgree keys of → BitsHold of known values
-  bits_hold agree = λ v w m k e.
-      let count = shown_count flat values found.shown in
-      let size = found.count in
-      let one : v < length values = let l = marked_within known v m in omega (arith, l, count, size) in
-      let other : w < length values = let l = marked_within known w k in omega (arith, l, count, size) in
-      let key = known_key (bits_in values v) in
-      let here : slice_get keys v ≡ Some key = are.each v one ∙ ap Some (marked_key v m) in
-      let there : slice_get keys w ≡ Some key =
-      are.each w other ∙ ap Some (marked_key w k ∙ ap known_key (sym e)) in
-      agree v w key here there
-
-  pub bits_merged : (v w : ℕ) → KeysClash keys of v w → IsStep flat of known (Merge v w)
-  bits_merged v w clash = by (mark_of known v) (mark_of known w) refl refl
-    where
-      is_key : (x : ℕ) → slice_get keys x ≡ Some clash.key → wire_key known values x ≡ clash.key
-      is_key x at =
-          let n = are.number in
-          let l : x < length values = let m = slice_get_within keys x clash.key at in omega (arith, m, n) in
-          same_Some (wire_key known values x) clash.key (sym (are.each x l) ∙ at)
-
-      keys_are : wire_key known values v ≡ wire_key known values w
-      keys_are = is_key v clash.one ∙ sym (is_key w clash.other)
-
-      both : mark_of known v ≡ true → mark_of known w ≡ true → IsStep flat of known (Merge v w)
-      both m k =
-          let same : bits_in values v ≡ bits_in values w =
-          bits_apart (bits_in values v) (bits_in values w) (ap rest_of (sym (marked_key v m) ∙ keys_are ∙ marked_key w k)) in (
-            equal_bits v w (bits_in values v) (found.bits v m) (subst (λ bits. IsKnown flat w bits) (sym same) (found.bits w k)),
-            clash.apart,
-          )
-
-      by : (s t : Bool) → mark_of known v ≡ s → mark_of known w ≡ t → IsStep flat of known (Merge v w)
-      by true true m k = both m k
-      by true false m k =
-          absurd (let h : ◌≡◌ {A = ℕ} 1 0 = ap first_of (sym (marked_key v m) ∙ keys_are ∙ other_key w k) in omega (arith, h))
-      by false true m k =
-          absurd (let h : ◌≡◌ {A = ℕ} 0 1 = ap first_of (sym (other_key v m) ∙ keys_are ∙ marked_key w k) in omega (arith, h))
-      by false false m k =
-          let is = tagged_apart 0 v w [] [] (sym (other_key v m) ∙ keys_are ∙ other_key w k) in absurd (clash.apart (ap (label_of of) is.0))
-
--- marked wires with equal keys are equal
+-- marked wires with the same bits are equal
 pub marked_equal : (flat : Flat) (of : List ℕ) (known : List Bool) (values : List (List Bool)) → AreFound flat of known values
-    → (v w : ℕ) → mark_of known v ≡ true → mark_of known w ≡ true → wire_key known values v ≡ wire_key known values w → Same flat v w
+    → (v w : ℕ) → mark_of known v ≡ true → mark_of known w ≡ true → bits_in values v ≡ bits_in values w → Same flat v w
 marked_equal flat of known values found v w m k e =
-    let one = cond-true (mark_of known v) (known_key (bits_in values v)) (tagged 0 v) m in
-    let other = cond-true (mark_of known w) (known_key (bits_in values w)) (tagged 0 w) k in
-    let same : bits_in values v ≡ bits_in values w =
-    bits_apart (bits_in values v) (bits_in values w) (ap rest_of (sym one ∙ e ∙ other)) in
-    equal_bits v w (bits_in values v) (found.bits v m) (subst (λ bits. IsKnown flat w bits) (sym same) (found.bits w k))
+    equal_bits v w (bits_in values v) (found.bits v m) (subst (λ bits. IsKnown flat w bits) (sym e) (found.bits w k))
+
+module _ (flat : Flat) (of : List ℕ) (known : List Bool) (values : List (List Bool)) (found : AreFound flat of known values)
+    (wires : List ℕ) (are : AreMarked known (length flat.widths) wires) where
+  abbrev key : ℕ → List ℕ
+  key w = known_key (bits_in values w)
+
+  known_there : (i w : ℕ) → slice_get wires i ≡ Some w → slice_get (map key wires) i ≡ Some (key w)
+  known_there i w at = slice_get-map key wires i ∙ ap (option_map key) at
+
+  -- the label of a marked wire
+  label_at : (i w : ℕ) → slice_get wires i ≡ Some w → label_of (map (label_of of) wires) i ≡ label_of of w
+  label_at i w at =
+      get_or_from_slice_get (map (label_of of) wires) i (label_of of w) 0 (slice_get-map (label_of of) wires i ∙ ap (option_map (label_of of)) at)
+
+  -- a marked wire has bits
+  pub marked_shown : (i w : ℕ) → slice_get wires i ≡ Some w → w < length values
+  marked_shown i w at =
+      let count = shown_count flat values found.shown in
+      let l = are.below i w at in
+      omega (arith, l, count)
+
+  pub bits_hold : KeysAgree (map key wires) (map (label_of of) wires) → BitsHold of known values
+  bits_hold agree = λ v w m k e.
+      let size = found.count in
+      let first : v < length flat.widths = let l = marked_within known v m in omega (arith, l, size) in
+      let second : w < length flat.widths = let l = marked_within known w k in omega (arith, l, size) in
+      let one = are.each v first m in
+      let other = are.each w second k in
+      let meets : slice_get (map key wires) other.0 ≡ Some (key v) = known_there other.0 w other.1 ∙ ap Some (ap known_key (sym e)) in
+      sym (label_at one.0 v one.1) ∙ agree one.0 other.0 (key v) (known_there one.0 v one.1) meets ∙ label_at other.0 w other.1
+
+  -- a place of a key is one of a wire
+  pub place_within : (i : ℕ) (name : List ℕ) → slice_get (map key wires) i ≡ Some name → i < length wires
+  place_within i name at =
+      let count = length-map wires key in
+      let l = slice_get_within (map key wires) i name at in
+      omega (arith, count, l)
+
+  -- a clash of what was written as these keys and labels
+  pub clash_there : (names : List (List ℕ)) (others : List ℕ) (i j : ℕ) → names ≡ map key wires → others ≡ map (label_of of) wires
+      → KeysClash names others i j → KeysClash (map key wires) (map (label_of of) wires) i j
+  clash_there names others i j e f clash =
+      subst (λ l. KeysClash (map key wires) l i j) f (subst (λ k. KeysClash k others i j) e clash)
+
+  pub agree_there : (names : List (List ℕ)) (others : List ℕ) → names ≡ map key wires → others ≡ map (label_of of) wires
+      → KeysAgree names others → KeysAgree (map key wires) (map (label_of of) wires)
+  agree_there names others e f agree = subst (KeysAgree (map key wires)) f (subst (λ k. KeysAgree k others) e agree)
+
+  pub bits_merged : (i j v w : ℕ) → slice_get wires i ≡ Some v → slice_get wires j ≡ Some w
+      → KeysClash (map key wires) (map (label_of of) wires) i j → IsStep flat of known (Merge v w)
+  bits_merged i j v w at to clash =
+      let one : key v ≡ clash.key = same_Some (key v) clash.key (sym (known_there i v at) ∙ clash.one) in
+      let other : key w ≡ clash.key = same_Some (key w) clash.key (sym (known_there j w to) ∙ clash.other) in
+      let same : bits_in values v ≡ bits_in values w = bits_apart (bits_in values v) (bits_in values w) (ap rest_of (one ∙ sym other)) in (
+        marked_equal flat of known values found v w (are.marked i v at) (are.marked j w to) same,
+        λ e. clash.apart (label_at i v at ∙ e ∙ sym (label_at j w to)),
+      )

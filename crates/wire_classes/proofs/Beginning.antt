@@ -1,14 +1,12 @@
--- What is found at first, and lists that are made item by item.
-use Rattle.std.proofs.Common.{◌≡◌, ℕ, zero, suc, ◌+◌, inl, inr, Bool, false, List, [], ◌∷◌, ◌++◌, length, replicate, Some, slice_get, refl, sym, ap, subst, ◌∙◌, arith}
+-- What is found at first.
+use Rattle.std.proofs.Common.{◌≡◌, ℕ, zero, suc, ◌+◌, inl, inr, Bool, false, List, [], ◌∷◌, ◌++◌, length, replicate, refl, sym, ap, subst, ◌∙◌, arith}
 use Rattle.std.proofs.lemmas.Bool.{cases_lt, false≢true}
 use Rattle.std.proofs.lemmas.List.{get_or_append_left, get_or_push, length-replicate, length_push}
-use Rattle.std.proofs.lemmas.Option.{none-some}
 use Rattle.netlist.specs.Sound.{Sound}
 use Rattle.netlist.specs.declared.net.Flat.{Flat}
 use Rattle.share_laws.specs.Same.{Same}
 use Rattle.share_laws.specs.Same.Same.{itself}
 use Rattle.wire_classes.specs.Closed.{AreFound, ShowsKnown, mark_of}
-use Rattle.wire_classes.specs.Keys.{AreWireKeys, wire_key}
 use Rattle.wire_classes.specs.Partition.{AreOwn}
 
 no_marks : (n w : ℕ) → mark_of (replicate n false) w ≡ false
@@ -40,29 +38,5 @@ own_more count labels own = record {
   each = λ w l. elim (cases_lt w count) [
     | inl less ↦ let n = own.number in get_or_append_left labels (count ∷ []) 0 w (omega (arith, less, n)) ∙ own.each w less
     | inr more ↦ let is : count ≡ w = omega (arith, l, more) in get_or_push labels count 0 w (own.number ∙ is) ∙ is
-  ];
-}
-
-get_left : {X : Type 0} (xs ys : List X) (i : ℕ) (x : X) → slice_get xs i ≡ Some x → slice_get (xs ++ ys) i ≡ Some x
-get_left [] ys i x e = absurd (none-some x e)
-get_left (y ∷ xs) ys zero x e = e
-get_left (y ∷ xs) ys (suc i) x e = get_left xs ys i x e
-
-get_last : {X : Type 0} (xs : List X) (x : X) → slice_get (xs ++ x ∷ []) (length xs) ≡ Some x
-get_last [] x = refl
-get_last (y ∷ xs) x = get_last xs x
-
--- no keys, and one more
-pub keys_none : (known : List Bool) (values : List (List Bool)) → AreWireKeys known values 0 []
-keys_none known values = record { number = refl; each = λ w l. absurd (omega (arith, l)) }
-
-pub keys_more : (known : List Bool) (values : List (List Bool)) (count : ℕ) (keys : List (List ℕ)) (key : List ℕ)
-    → AreWireKeys known values count keys → key ≡ wire_key known values count → AreWireKeys known values (count + 1) (keys ++ key ∷ [])
-keys_more known values count keys key are e = record {
-  number = length_push keys key ∙ ap (λ n. n + 1) are.number;
-  each = λ w l. elim (cases_lt w count) [
-    | inl less ↦ get_left keys (key ∷ []) w (wire_key known values w) (are.each w less)
-    | inr more ↦ let is : count ≡ w = omega (arith, l, more) in
-        ap (slice_get (keys ++ key ∷ [])) (sym is ∙ sym are.number) ∙ get_last keys key ∙ ap Some (e ∙ ap (wire_key known values) is)
   ];
 }

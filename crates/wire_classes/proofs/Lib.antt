@@ -6,6 +6,8 @@ mod Exact
 mod Exist
 mod KeyBytes
 mod Looks
+mod MarkedWires
 mod Marking
+mod Seen
 mod Shown
 mod Taking

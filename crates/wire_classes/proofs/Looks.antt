@@ -56,7 +56,7 @@ pub with_new : (names : List (List ℕ)) (name : List ℕ) → place_of names na
 with_new names name e = ap (λ o. cond (is_some o) names (names ++ name ∷ [])) e
 
 -- an item of a list with one more is one of the list or that one
-get_either : {X : Type 0} (xs : List X) (y : X) (i : ℕ) (x : X) → slice_get (xs ++ y ∷ []) i ≡ Some x
+pub get_either : {X : Type 0} (xs : List X) (y : X) (i : ℕ) (x : X) → slice_get (xs ++ y ∷ []) i ≡ Some x
     → (slice_get xs i ≡ Some x) ⊎ ((i ≡ length xs) × (y ≡ x))
 get_either [] y zero x e = inr (refl, same_Some y x e)
 get_either [] y (suc i) x e = absurd (none-some x e)

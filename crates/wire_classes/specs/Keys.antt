@@ -1,6 +1,8 @@
--- Bytes by which cells and wires are compared.
-use Rattle.std.specs.Prelude.{◌≡◌, ℕ, ◌/◌, ◌%◌, ◌<◌, Bool, List, [], ◌∷◌, ◌++◌, length, map}
-use Rattle.std.specs.Prelude.{flat_map, Some, slice_get, slice_index, if◌then◌else◌}
+-- Bytes by which cells and known bits are compared.
+use Rattle.std.specs.Prelude.{◌≡◌, ℕ, ◌+◌, ◌*◌, ◌/◌, ◌%◌, ◌^◌, ◌<◌, ◌≤◌, Bool, true, List, []}
+use Rattle.std.specs.Prelude.{◌∷◌, ◌++◌, flat_map, length, map, Some, slice_get, slice_index}
+use Rattle.std.specs.Prelude.{if◌then◌else◌}
+use Rattle.std.specs.List.{fold}
 use Rattle.name_tables.specs.Names.{place_of}
 use Rattle.netlist.specs.Wires.{read_by}
 use Rattle.netlist.specs.declared.net.Cell.{Cell}
@@ -11,7 +13,7 @@ use Rattle.netlist.specs.declared.net.Op1.TheVariants.{Not, RedAnd, RedOr, RedXo
 use Rattle.netlist.specs.declared.net.Op2.{Op2}
 use Rattle.netlist.specs.declared.net.Op2.TheVariants.{Add, Sub, Mul, And, Or, Xor, Eq, LtU, LtS}
 use Rattle.netlist.specs.declared.net.Op2.TheVariants.{Shl, Shr, Sar}
-use Rattle.wire_classes.specs.Closed.{bits_in, label_of, labels_of, mark_of}
+use Rattle.wire_classes.specs.Closed.{label_of, labels_of, mark_of}
 
 -- the least significant byte of a number, and what is above it
 abbrev pub lowest : ℕ → ℕ
@@ -80,16 +82,20 @@ cell_key of cell = numbers_key (labels_of of (read_by cell)) ++ form_key cell
 abbrev pub known_key : List Bool → List ℕ
 known_key bits = 1 ∷ bits_key bits
 
--- the bits of a marked wire, and the number of another one
-abbrev pub wire_key : List Bool → List (List Bool) → ℕ → List ℕ
-wire_key known values w =
-    if mark_of known w then known_key (bits_in values w) else tagged 0 w
+-- a number for a key
+abbrev pub mixed : (hash byte : ℕ) → ℕ
+mixed hash byte = (hash * 1099511628211 % 2 ^ 64 + byte) % 2 ^ 64
 
--- each wire has its key
-pub record AreWireKeys (known : List Bool) (values : List (List Bool)) (count : ℕ)
-    (keys : List (List ℕ)) : Type 0 where
-  pub number : length keys ≡ count
-  pub each : (w : ℕ) → w < count → slice_get keys w ≡ Some (wire_key known values w)
+abbrev pub hash_of : List ℕ → ℕ
+hash_of bytes = fold mixed 14695981039346656037 bytes
+
+-- of so many wires these are the marked ones
+pub record AreMarked (known : List Bool) (count : ℕ) (wires : List ℕ) : Type 0 where
+  pub marked : (i w : ℕ) → slice_get wires i ≡ Some w → mark_of known w ≡ true
+  pub below : (i w : ℕ) → slice_get wires i ≡ Some w → w < count
+  pub each : (w : ℕ) → w < count → mark_of known w ≡ true
+      → (i : ℕ) × (slice_get wires i ≡ Some w)
+  pub few : length wires ≤ count
 
 -- equal keys have one label
 abbrev pub KeysAgree : List (List ℕ) → List ℕ → Type 0

@@ -3,3 +3,4 @@ pub mod Closed
 pub mod Keys
 pub mod Steps
 pub mod Partition
+pub mod Seen

@@ -1,13 +1,13 @@
-//! Bytes by which cells and wires are compared.
-ghost use Rattle.std.specs.Prelude.{◌≡◌, ◌++◌, ◌<◌, ◌^◌, length, map, IfOk, OnOk};
-ghost use Rattle.wire_classes.specs.Keys.{AreWireKeys, bit_key, bits_key, cell_key, form_key};
-ghost use Rattle.wire_classes.specs.Keys.{numbers_key, op1_key, op2_key, tagged, wire_key};
-ghost use Rattle.wire_classes.specs.Keys.{word_key};
+//! Bytes by which cells and known bits are compared.
+ghost use Rattle.std.specs.Prelude.{◌≡◌, ◌++◌, map, IfOk, OnOk};
+ghost use Rattle.wire_classes.specs.Keys.{bit_key, bits_key, cell_key, form_key, hash_of};
+ghost use Rattle.wire_classes.specs.Keys.{known_key, mixed, numbers_key, op1_key, op2_key};
+ghost use Rattle.wire_classes.specs.Keys.{tagged, word_key};
 ghost use Rattle.wire_classes.specs.Closed.{labels_of};
 ghost use Rattle.netlist.specs.Wires.{read_by};
 ghost use Rattle.std.specs.List.{flat_map};
 
-use crate::labels::{label, mark};
+use crate::labels::label;
 use chw_base::{Name, NoMemory, WireId};
 use chw_bits::Bits;
 use netlist::{Cell, Flat, Op1, Op2};
@@ -199,6 +199,15 @@ pub(crate) fn cell_key(alloc: Global, of: &[u32], cell: &Cell) -> Result<Name, N
     Ok(Name::from(key))
 }
 
+/// Puts the key of a cell in place of what was there.
+pub(crate) fn set_cell_key(key: &mut Vec<u8>, of: &[u32], cell: &Cell) -> Result<(), NoMemory>
+    ensures { OnOk result (key.new.items ≡ cell_key of.now cell.now) }
+{
+    key.clear();
+    put_reads(&mut *key, of, cell)?;
+    put_form(key, cell)
+}
+
 /// The keys of all cells, in order.
 pub(crate) fn cell_keys(alloc: Global, flat: &Flat, of: &[u32]) -> Result<Vec<Name>, NoMemory>
     ensures { IfOk result (λ keys. keys.items ≡ map (cell_key of.now) flat.now.cells) }
@@ -210,38 +219,30 @@ pub(crate) fn cell_keys(alloc: Global, flat: &Flat, of: &[u32]) -> Result<Vec<Na
     Ok(keys)
 }
 
-/// The key of a wire.
-pub(crate) fn wire_key(
-    alloc: Global,
-    known: &[bool],
-    values: &[Bits],
-    w: u32,
-) -> Result<Name, NoMemory>
-    requires { w < length values.now }
-    ensures { IfOk result (λ key. key ≡ wire_key known.now values.now w) }
+/// The key of known bits.
+pub(crate) fn known_key(alloc: Global, bits: &Bits) -> Result<Name, NoMemory>
+    ensures { IfOk result (λ key. key ≡ known_key bits.now) }
 {
     let mut key = Vec::new(alloc);
-    if mark(known, w) {
-        put_with_bits(&mut key, &[1], values[w as usize].as_slice())?;
-    } else {
-        put(&mut key, &tagged(0, w))?;
-    }
+    put_with_bits(&mut key, &[1], bits.as_slice())?;
     Ok(Name::from(key))
 }
 
-/// The keys of all wires, in order.
-pub(crate) fn wire_keys(
-    alloc: Global,
-    known: &[bool],
-    values: &[Bits],
-) -> Result<Vec<Name>, NoMemory>
-    requires { length values.now < 2 ^ 32 }
-    ensures { IfOk result (λ keys.
-        AreWireKeys known.now values.now (length values.now) keys.items) }
+/// A number with a byte more.
+pub(crate) fn mixed(hash: u64, byte: u8) -> u64
+    ensures { result ≡ mixed hash byte }
 {
-    let mut keys = Vec::new(alloc);
-    for w in 0..values.len() as u32 {
-        keys.push(wire_key(alloc, known, values, w)?)?;
+    hash.wrapping_mul(1_099_511_628_211)
+        .wrapping_add(u64::from(byte))
+}
+
+/// A number for a key. Different keys mostly have different ones.
+pub(crate) fn hash_of(key: &[u8]) -> u64
+    ensures { result ≡ hash_of key.now }
+{
+    let mut hash: u64 = 14_695_981_039_346_656_037;
+    for byte in key {
+        hash = mixed(hash, *byte);
     }
-    Ok(keys)
+    hash
 }

@@ -1,9 +1,10 @@
-//! Labels and marks of wires, and the places of cells.
+//! Labels, marks and bits of wires, and the places of cells.
 ghost use Rattle.std.specs.Prelude.{◌≡◌, ◌<◌, length, Some, slice_get};
 ghost use Rattle.netlist.specs.Feeds.{target_at};
 ghost use Rattle.netlist.specs.Sound.{Sound};
-ghost use Rattle.wire_classes.specs.Closed.{label_of, mark_of};
+ghost use Rattle.wire_classes.specs.Closed.{bits_in, label_of, mark_of};
 
+use chw_bits::Bits;
 use netlist::{Cell, Flat};
 
 /// The label of the wire of this number.
@@ -18,6 +19,14 @@ pub(crate) fn mark(known: &[bool], w: u32) -> bool
     ensures { result ≡ mark_of known.now w }
 {
     known.get(w as usize).copied().unwrap_or(false)
+}
+
+/// The bits of a wire in a table.
+pub(crate) fn bits_at(values: &[Bits], w: u32) -> &Bits
+    requires { w < length values.now }
+    ensures { result.now ≡ bits_in values.now w }
+{
+    &values[w as usize]
 }
 
 /// The cell at this place.

@@ -7,12 +7,14 @@
 //! time rests on it that the search misses nothing. The classes don't.
 #![tactic(auto)]
 
+mod agreeing;
 mod cells;
 mod clash;
 mod classes;
 mod copies;
 mod keys;
 mod labels;
+mod marked;
 mod marks;
 mod partition;
 mod search;

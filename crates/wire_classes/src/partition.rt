@@ -20,7 +20,7 @@ use std::alloc::Global;
 fn own_labels(alloc: Global, count: u32) -> Result<Vec<u32>, NoMemory>
     ensures { IfOk result (λ v. AreOwn count v.items) }
 {
-    let mut labels = Vec::new(alloc);
+    let mut labels = Vec::with_capacity(alloc, count as usize)?;
     for w in 0..count {
         labels.push(w)?;
     }

@@ -49,7 +49,7 @@ fn all_bits(alloc: Global, sim: &Sim<'_>, count: u32) -> Result<Vec<Bits>, NoMem
     requires count { count ≡ length sim.now.flat.now.widths }
     ensures { IfOk result (λ v. v.items ≡ table_of sim.now) }
 {
-    let mut values = Vec::new(alloc);
+    let mut values = Vec::with_capacity(alloc, count as usize)?;
     for number in 0..count {
         values.push(sim.bits(alloc, WireId { number })?)?;
     }

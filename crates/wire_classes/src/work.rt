@@ -1,6 +1,7 @@
 //! The cells that are to be looked at again, and the keys that were seen. No clause says what these
 //! hold: what is found rests on none of it.
 
+use crate::keys::mixed;
 use chw_base::{NoMemory, WireId, narrow};
 use indexmap::IndexMap;
 use netlist::{Cell, Flat};
@@ -28,6 +29,9 @@ pub(crate) struct Work {
     cells: IndexMap<u64, u32>,
     /// The wire that was seen first with known bits.
     bits: IndexMap<u64, u32>,
+    /// Room for two keys.
+    pub one: Vec<u8>,
+    pub other: Vec<u8>,
 }
 
 // The number at this place, and none where there is none.
@@ -42,11 +46,11 @@ fn put(numbers: &mut [u32], place: u32, number: u32) {
     }
 }
 
-/// A number for a key. Different keys mostly have different ones.
-pub(crate) fn hash_of(key: &[u8]) -> u64 {
-    let mut hash: u64 = 14_695_981_039_346_656_037;
-    for byte in key {
-        hash = (hash ^ u64::from(*byte)).wrapping_mul(1_099_511_628_211);
+/// A number for bits. Different bits mostly have different ones.
+pub(crate) fn hash_of_bits(bits: &[bool]) -> u64 {
+    let mut hash = 1;
+    for bit in bits {
+        hash = mixed(hash, u8::from(*bit));
     }
     hash
 }
@@ -72,7 +76,19 @@ impl Work {
             waits: vec![in alloc; false; cells]?,
             cells: IndexMap::new(alloc),
             bits: IndexMap::new(alloc),
+            one: Vec::new(alloc),
+            other: Vec::new(alloc),
         })
+    }
+
+    // Makes room for so many cells, with two reads each.
+    fn make_room(&mut self, cells: usize) -> Result<(), NoMemory> {
+        let reads = cells.saturating_mul(2);
+        self.places.reserve(reads)?;
+        self.next.reserve(reads)?;
+        self.waiting.reserve(cells)?;
+        self.cells.reserve(cells)?;
+        Ok(())
     }
 
     // The cell at this place reads the wire.
@@ -119,6 +135,7 @@ impl Work {
     /// All cells wait, the first of the order first.
     pub(crate) fn open(alloc: Global, flat: &Flat, order: &[u32]) -> Result<Work, NoMemory> {
         let mut work = Work::new(alloc, flat.widths.len(), flat.cells.len())?;
+        work.make_room(flat.cells.len())?;
         for (place, cell) in flat.cells.as_slice().iter().enumerate() {
             work.add_cell(narrow(place)?, cell)?;
         }

@@ -4,7 +4,7 @@ use Rattle.wire_classes.proofs.Beginning.{own_more, own_none}
 use Rattle.wire_classes.proofs.partition.own_labels.Goals as goal
 
 pub loop-w-init : goal.loop-w-init
-loop-w-init c = subst (AreOwn 0) (sym c.new-labels.ensures.items) own_none
+loop-w-init c = subst (AreOwn 0) (sym c.in_ok-labels.ensures.items) own_none
 
 pub loop-w-preserved : goal.loop-w-preserved
 loop-w-preserved c =

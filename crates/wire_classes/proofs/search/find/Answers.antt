@@ -7,5 +7,5 @@ loop-step-init c = itself c.args.w c.requires.within
 
 pub loop-step-preserved : goal.loop-step-preserved
 loop-step-preserved c =
-    find_more c.args.flat.now c.args.of.now c.args.known.now c.args.values.now c.requires.found c.args.w c.loop-step.root c.label-up.result
+    find_more c.args.scene.now.flat.now c.args.of.now c.args.known.now c.args.scene.now.values.now c.requires.found c.args.w c.loop-step.root c.label-up.result
     c.loop-step.invariant c.label-up.ensures

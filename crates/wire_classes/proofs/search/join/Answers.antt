@@ -4,11 +4,11 @@ use Rattle.wire_classes.proofs.search.join.Goals as goal
 
 pub find-one-requires-clause-within : goal.find-one-requires-clause-within
 find-one-requires-clause-within c =
-    (same_exists c.args.flat.now c.requires.found.labels.sound c.args.values.now c.requires.found.shown c.args.v c.args.w c.requires.same).0
+    (same_exists c.args.scene.now.flat.now c.requires.found.labels.sound c.args.scene.now.values.now c.requires.found.shown c.args.v c.args.w c.requires.same).0
 
 pub find-other-requires-clause-within : goal.find-other-requires-clause-within
 find-other-requires-clause-within c =
-    (same_exists c.args.flat.now c.requires.found.labels.sound c.args.values.now c.requires.found.shown c.args.v c.args.w c.requires.same).1
+    (same_exists c.args.scene.now.flat.now c.requires.found.labels.sound c.args.scene.now.values.now c.requires.found.shown c.args.v c.args.w c.requires.same).1
 
 pub link-requires-clause-same : goal.link-requires-clause-same
 link-requires-clause-same c =

@@ -3,4 +3,4 @@ use Rattle.wire_classes.proofs.search.learn.Goals as goal
 
 pub bounds-known-w : goal.bounds-known-w
 bounds-known-w c =
-    mark_within c.args.flat.now c.args.of.now c.args.known.now c.args.values.now c.requires.found c.args.w c.requires.known.0 c.requires.known.1
+    mark_within c.args.scene.now.flat.now c.args.of.now c.args.known.now c.args.scene.now.values.now c.requires.found c.args.w c.requires.known.0 c.requires.known.1
