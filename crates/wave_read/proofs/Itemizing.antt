@@ -1,6 +1,6 @@
 -- Changes and times that were read.
-use Rattle.std.proofs.Common.{◌≡◌, ℕ, ◌<◌, Bool, true, false, List, [], ◌∷◌, ◌++◌, length, map, None, Some, refl, sym, ap, ◌∙◌, subst, arith, append_assoc}
-use Rattle.std.proofs.lemmas.List.{append-nil, map-append}
+use Rattle.std.proofs.Common.{◌≡◌, ℕ, ◌<◌, Bool, true, false, List, [], ◌∷◌, ◌++◌, length, map, None, Some, sym, ◌∙◌, subst, arith}
+use Rattle.std.proofs.lemmas.List.{append-nil}
 use Rattle.wave_text.specs.Faults.{FailsAt}
 use Rattle.wave_read.specs.Reading.{FailsBehind, GoesOn, HasChanges, IsOther, PutsChanges}
 use Rattle.wave_read.specs.Shown.{change_of}
@@ -113,17 +113,6 @@ other_fails w end words other no_time = none_fails w end words no_time (λ b c i
     no_value [] value other is = let e = is.bytes_are in cc
     no_value (x ∷ bytes) value other is = other.2 (same_first x 98 bytes (map digit_of value) is.bytes_are)
 
--- the changes so far, with one more
-forms_more : (all rest : List Word) (read pushed : List ReadChange) (it : ReadChange) (behind : List Word) → pushed ≡ read ++ it ∷ []
-    → ((others : List Changed) (moments : List Moment) → AreChanges rest others moments → AreChanges all (map change_of read ++ others) moments)
-    → ((others : List Changed) (moments : List Moment) → AreChanges behind others moments → AreChanges rest (change_of it ∷ others) moments)
-    → (others : List Changed) (moments : List Moment) → AreChanges behind others moments → AreChanges all (map change_of pushed ++ others) moments
-forms_more all rest read pushed it behind new before step others moments is =
-    let listed : map change_of pushed ≡ map change_of read ++ change_of it ∷ [] = ap (map change_of) new ∙ map-append change_of read (it ∷ []) in
-    subst (λ (cs : List Changed). AreChanges all cs moments)
-    (sym (ap (λ (t : List Changed). t ++ others) listed ∙ append_assoc (map change_of read) (change_of it ∷ []) others))
-    (before (change_of it ∷ others) moments (step others moments is))
-
 -- no word is left
 no_more : (words : List Word) → words ≡ [] → AreChanges words [] []
 no_more words none = subst (λ (ws : List Word). AreChanges ws [] []) (sym none) nothing
@@ -133,18 +122,6 @@ abbrev pub Added : (all rest : List Word) (old new : List ReadChange) → Type 0
 Added all rest old new =
     (read : List ReadChange) × (new ≡ old ++ read)
     × ((others : List Changed) (moments : List Moment) → AreChanges rest others moments → AreChanges all (map change_of read ++ others) moments)
-
-pub added_none : (all : List Word) (old : List ReadChange) → Added all all old old
-added_none all old = ([], sym (append-nil old), λ others moments is. is)
-
-pub added_more : (all rest behind : List Word) (old new pushed : List ReadChange) (it : ReadChange) → pushed ≡ new ++ it ∷ [] → Added all rest old new
-    → ((others : List Changed) (moments : List Moment) → AreChanges behind others moments → AreChanges rest (change_of it ∷ others) moments)
-    → Added all behind old pushed
-added_more all rest behind old new pushed it more added step = (
-  added.0 ++ it ∷ [],
-  more ∙ ap (λ (t : List ReadChange). t ++ it ∷ []) added.1 ∙ append_assoc old added.0 (it ∷ []),
-  forms_more all rest added.0 (added.0 ++ it ∷ []) it behind refl added.2 step,
-)
 
 -- a time stands behind the changes
 goes_on : (end : ℕ) (all rest behind : List Word) (read : List ReadChange) (stamp : Stamp)

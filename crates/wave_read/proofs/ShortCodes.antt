@@ -1,5 +1,5 @@
 -- The places of the codes of one byte.
-use Rattle.std.proofs.Common.{◌≡◌, ℕ, ◌+◌, ◌<◌, List, [], ◌∷◌, ◌++◌, length, get_or, Option, inl, inr, sym, ap, ◌∙◌, arith}
+use Rattle.std.proofs.Common.{◌≡◌, ℕ, ◌+◌, List, [], ◌∷◌, ◌++◌, length, get_or, Option, inl, inr, sym, ap, ◌∙◌, arith}
 use Rattle.std.proofs.lemmas.Bool.{cases_lt}
 use Rattle.std.proofs.lemmas.List.{get_or_append_left, get_or_push, length_push}
 use Rattle.name_tables.specs.Names.{place_of}
@@ -23,8 +23,3 @@ short_more codes short pushed byte place count new here before = λ b other belo
       ap (λ (places : List (Option ℕ)). get_or places b other) new ∙ get_or_push short place other b (count ∙ sym same) ∙ here
       ∙ ap (λ (n : ℕ). place_of codes (n ∷ [])) (sym same)
 ]
-
--- the place of a code of one byte
-pub short_place : (codes : List (List ℕ)) (short : List (Option ℕ)) (code : List ℕ) (byte : ℕ) (other : Option ℕ) → AreShort codes short → code ≡ byte ∷ []
-    → byte < length short → get_or short byte other ≡ place_of codes code
-short_place codes short code byte other all is below = all byte other below ∙ ap (place_of codes) (sym is)
