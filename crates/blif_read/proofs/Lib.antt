@@ -1,0 +1,13 @@
+pub mod Clocks
+pub mod Copies
+pub mod Joining
+pub mod Judging
+pub mod Lists
+pub mod Pieces
+pub mod Reaching
+pub mod Rows
+pub mod Ruling
+pub mod Sayings
+pub mod Standing
+pub mod Tables
+pub mod Tags

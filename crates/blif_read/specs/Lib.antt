@@ -1,0 +1,5 @@
+pub mod Keywords
+pub mod Naming
+pub mod Nets
+pub mod Reading
+pub mod Shown
