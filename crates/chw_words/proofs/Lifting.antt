@@ -7,21 +7,21 @@ use Rattle.std.proofs.lemmas.Option.{same_Some}
 use Rattle.clap.specs.Walk.{Text}
 use Rattle.chw_words.specs.Commands.{AreWithBudget, IsCommand}
 use Rattle.chw_words.specs.Commands.IsCommand.{emit, simulate, check, normalise, run, make}
-use Rattle.chw_words.specs.Flags.{HasFlags, IsEmitForm, IsSimForm, emit_flags, lines, shared, simulate_flags, verilog, waves}
+use Rattle.chw_words.specs.Flags.{HasFlags, IsEmitForm, IsSimForm, blif, emit_flags, lines, shared, simulate_flags, verilog, waves}
 use Rattle.chw_words.specs.Splitting.{IsFormed, IsUnflagged, asked_of, emit_form, flags_of, found_from, in_form, rest_from, sim_form}
 use Rattle.chw_words.specs.Splitting.IsUnflagged.{emit as plain_emit, simulate as plain_simulate, check as plain_check}
 use Rattle.chw_words.specs.Splitting.IsUnflagged.{normalise as plain_normalise, run as plain_run, make as plain_make}
 use Rattle.chw_words.specs.declared.command.Command.{Command}
 use Rattle.chw_words.specs.declared.command.Command.TheVariants.{Emit, Simulate, Check, Normalise, Run, Make}
 use Rattle.chw_words.specs.declared.command.EmitForm.{EmitForm}
-use Rattle.chw_words.specs.declared.command.EmitForm.TheVariants.{Verilog, Shared}
+use Rattle.chw_words.specs.declared.command.EmitForm.TheVariants.{Verilog, Shared, Blif}
 use Rattle.chw_words.specs.declared.command.SimForm.{SimForm}
 use Rattle.chw_words.specs.declared.command.SimForm.TheVariants.{Lines, Waves}
 use Rattle.chw_words.specs.declared.flags.Asked.{Asked}
 use Rattle.chw_words.specs.declared.flags.Asked.TheVariants as asked
 use Rattle.chw_words.proofs.Exactly.{one_unflagged}
 use Rattle.chw_words.proofs.Passes.{are_texts as plain_are_texts}
-use Rattle.chw_words.proofs.Splitting.{all_rest, apart_once, are_apart, budget_is_no_flag, first_found, flag_text, is_the_flag, word_texts}
+use Rattle.chw_words.proofs.Splitting.{all_rest, apart_once, are_apart, budget_is_no_flag, first_found, flag_text, is_one_flag, is_the_flag, word_texts}
 
 -- ---- what the rest and the flags are, the words are
 
@@ -34,6 +34,15 @@ none_or_one : (f : Text) (words rest found : List Text) (it : Asked) → HasFlag
 none_or_one f words rest [] it h is = inl refl
 none_or_one f words rest (w ∷ []) it h is = inr (ap (λ v. v ∷ []) (is_the_flag f w (first_found (f ∷ []) words rest [] w h)))
 none_or_one f words rest (w ∷ v ∷ more) it h is = let bad : None ≡ Some it = is in absurd cc
+
+-- the same of two flags
+none_or_one_of : (f g : Text) (words rest found : List Text) (it : Asked) → HasFlags (f ∷ g ∷ []) words rest found → asked_of found ≡ Some it
+    → (found ≡ []) ⊎ ((found ≡ f ∷ []) ⊎ (found ≡ g ∷ []))
+none_or_one_of f g words rest [] it h is = inl refl
+none_or_one_of f g words rest (w ∷ []) it h is =
+    inr (⊎_elim (λ same. inl (ap (λ v. v ∷ []) same)) (λ same. inr (ap (λ v. v ∷ []) same))
+    (is_one_flag f g w (first_found (f ∷ g ∷ []) words rest [] w h)))
+none_or_one_of f g words rest (w ∷ v ∷ more) it h is = let bad : None ≡ Some it = is in absurd cc
 
 -- what is asked for, by the flags
 asks : (found known : List Text) (it : Asked) → found ≡ known → asked_of found ≡ Some it → asked_of known ≡ Some it
@@ -49,15 +58,20 @@ sim_asked words rest found it h is =
     (subst (λ a. IsSimForm simulate_flags (sim_form a)) (same_Some asked.Waves it (asks found simulate_flags it same is)) waves))
     (none_or_one (codes "--vcd") words rest found it h is)
 
+-- the form of a net, where these are its flags, which ask for something known
+emit_from : (found known : List Text) (said it : Asked) → found ≡ known → asked_of known ≡ Some said → IsEmitForm known (emit_form said)
+    → asked_of found ≡ Some it → IsEmitForm found (emit_form it)
+emit_from found known said it same of_known form is =
+    subst (λ fs. IsEmitForm fs (emit_form it)) (sym same)
+    (subst (λ a. IsEmitForm known (emit_form a)) (same_Some said it (sym of_known ∙ asks found known it same is)) form)
+
 -- the form of a net for which its flags ask
 emit_asked : (words rest found : List Text) (it : Asked) → HasFlags emit_flags words rest found → asked_of found ≡ Some it → IsEmitForm found (emit_form it)
 emit_asked words rest found it h is =
-    ⊎_elim
-    (λ same. subst (λ fs. IsEmitForm fs (emit_form it)) (sym same)
-    (subst (λ a. IsEmitForm [] (emit_form a)) (same_Some asked.Nothing it (asks found [] it same is)) verilog))
-    (λ same. subst (λ fs. IsEmitForm fs (emit_form it)) (sym same)
-    (subst (λ a. IsEmitForm emit_flags (emit_form a)) (same_Some asked.Sharing it (asks found emit_flags it same is)) shared))
-    (none_or_one (codes "--share") words rest found it h is)
+    ⊎_elim (λ same. emit_from found [] asked.Nothing it same refl verilog is)
+    (λ one. ⊎_elim (λ same. emit_from found (codes "--share" ∷ []) asked.Sharing it same refl shared is)
+    (λ same. emit_from found (codes "--blif" ∷ []) asked.Bits it same refl blif is) one)
+    (none_or_one_of (codes "--share") (codes "--blif") words rest found it h is)
 
 -- what the words are of which this is the rest, by its first word
 abbrev Lifts : Asked → List Text → Command → Type 0
@@ -123,12 +137,14 @@ sim_is_asked _ _ waves = (refl, refl)
 asked_emit : EmitForm → Asked
 asked_emit Verilog = asked.Nothing
 asked_emit Shared = asked.Sharing
+asked_emit Blif = asked.Bits
 
 emit_is_asked : (found : List Text) (form : EmitForm) → IsEmitForm found form
     → (asked_of found ≡ Some (asked_emit form)) × (form ≡ emit_form (asked_emit form))
 unfolding asked_emit
 emit_is_asked _ _ verilog = (refl, refl)
 emit_is_asked _ _ shared = (refl, refl)
+emit_is_asked _ _ blif = (refl, refl)
 
 lowers : (all : List Text) (c : Command) → IsCommand all c → Lowers all c
 lowers _ _ (emit words rest found file budget form h is f w) =

@@ -1,5 +1,5 @@
 -- Words are taken apart in one way: the flags among them, and the rest.
-use Rattle.std.proofs.Common.{◌≡◌, ◌∙◌, sym, refl, ap, Bool, true, false, true≢false, ◌||◌, List, [], ◌∷◌, ◌++◌, codes, subst, ⊎_elim, append_assoc}
+use Rattle.std.proofs.Common.{◌≡◌, ◌∙◌, sym, refl, ap, Bool, true, false, true≢false, ◌||◌, List, [], ◌∷◌, ◌++◌, codes, subst, ◌⊎◌, inl, inr, ⊎_elim, append_assoc}
 use Rattle.std.specs.Char.{encode_utf8}
 use Rattle.std.specs.List.{All}
 use Rattle.std.specs.Prelude.{if◌then◌else◌, ◌≢◌}
@@ -177,15 +177,28 @@ share_text : IsUtf8 (codes "--share")
 unfolding encode_utf8
 share_text = (codes "--share", (refl, refl))
 
+blif_text : IsUtf8 (codes "--blif")
+unfolding encode_utf8
+blif_text = (codes "--blif", (refl, refl))
+
 -- one flag is that one
 pub is_the_flag : (it w : Text) → is_flag (it ∷ []) w ≡ true → w ≡ it
 is_the_flag it w is = (bytes_eq-Decides w it).0 (sym (or_false (bytes_eq w it)) ∙ is)
+
+-- one of two flags is the first or the second
+pub is_one_flag : (it next w : Text) → is_flag (it ∷ next ∷ []) w ≡ true → (w ≡ it) ⊎ (w ≡ next)
+is_one_flag it next w is =
+    ⊎_elim (λ same. inl ((bytes_eq-Decides w it).0 same))
+    (λ isnt. inr (is_the_flag next w (sym (ap (λ b. b || is_flag (next ∷ []) w) isnt) ∙ is)))
+    (is_or_not (bytes_eq w it))
 
 simulate_flag_text : (w : Text) → is_flag simulate_flags w ≡ true → IsUtf8 w
 simulate_flag_text w is = subst IsUtf8 (sym (is_the_flag (codes "--vcd") w is)) vcd_text
 
 emit_flag_text : (w : Text) → is_flag emit_flags w ≡ true → IsUtf8 w
-emit_flag_text w is = subst IsUtf8 (sym (is_the_flag (codes "--share") w is)) share_text
+emit_flag_text w is =
+    ⊎_elim (λ same. subst IsUtf8 (sym same) share_text) (λ same. subst IsUtf8 (sym same) blif_text)
+    (is_one_flag (codes "--share") (codes "--blif") w is)
 
 no_flag_text : (w : Text) → is_flag [] w ≡ true → IsUtf8 w
 no_flag_text w is = absurd (true≢false (sym is))

@@ -2,7 +2,7 @@
 use Rattle.std.specs.Prelude.{◌≡◌, ◌≢◌, ℕ, Bool, true, false, ◌||◌, List, [], ◌∷◌, codes}
 use Rattle.std.specs.Str.{bytes_eq}
 use Rattle.chw_words.specs.declared.command.EmitForm.{EmitForm}
-use Rattle.chw_words.specs.declared.command.EmitForm.TheVariants.{Verilog, Shared}
+use Rattle.chw_words.specs.declared.command.EmitForm.TheVariants.{Verilog, Shared, Blif}
 use Rattle.chw_words.specs.declared.command.SimForm.{SimForm}
 use Rattle.chw_words.specs.declared.command.SimForm.TheVariants.{Lines, Waves}
 
@@ -35,9 +35,10 @@ pub data IsSimForm : (found : List (List ℕ)) → SimForm → Type 0 where
 
 -- the flags of `emit`
 abbrev pub emit_flags : List (List ℕ)
-emit_flags = codes "--share" ∷ []
+emit_flags = codes "--share" ∷ codes "--blif" ∷ []
 
 -- the flags ask for this form of a net
 pub data IsEmitForm : (found : List (List ℕ)) → EmitForm → Type 0 where
   verilog : IsEmitForm [] Verilog
   shared : IsEmitForm (codes "--share" ∷ []) Shared
+  blif : IsEmitForm (codes "--blif" ∷ []) Blif

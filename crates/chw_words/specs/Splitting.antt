@@ -8,7 +8,7 @@ use Rattle.chw_words.specs.declared.command.Command.{Command}
 use Rattle.chw_words.specs.declared.command.Command.TheVariants.{Emit, Simulate, Check}
 use Rattle.chw_words.specs.declared.command.Command.TheVariants.{Normalise, Run, Make}
 use Rattle.chw_words.specs.declared.command.EmitForm.{EmitForm}
-use Rattle.chw_words.specs.declared.command.EmitForm.TheVariants.{Verilog, Shared}
+use Rattle.chw_words.specs.declared.command.EmitForm.TheVariants.{Verilog, Shared, Blif}
 use Rattle.chw_words.specs.declared.command.SimForm.{SimForm}
 use Rattle.chw_words.specs.declared.command.SimForm.TheVariants.{Lines, Waves}
 use Rattle.chw_words.specs.declared.flags.Asked.{Asked}
@@ -61,8 +61,9 @@ AreNoneUnflagged words = (command : Command) → IsUnflagged words command → �
 abbrev pub asked_of : (found : List (List ℕ)) → Option Asked
 asked_of [] = Some asked.Nothing
 asked_of (word ∷ []) =
-    if is_flag simulate_flags word then Some asked.Waves
-    else (if is_flag emit_flags word then Some asked.Sharing else None)
+    if bytes_eq word (codes "--vcd") then Some asked.Waves
+    else (if bytes_eq word (codes "--share") then Some asked.Sharing
+    else (if bytes_eq word (codes "--blif") then Some asked.Bits else None))
 asked_of (word ∷ other ∷ words) = None
 
 -- the form of a simulation, by what is asked for
@@ -73,6 +74,7 @@ sim_form it = Lines
 -- the form of a net, by what is asked for
 abbrev pub emit_form : Asked → EmitForm
 emit_form asked.Sharing = Shared
+emit_form asked.Bits = Blif
 emit_form it = Verilog
 
 -- the command in the form that is asked for, where it has forms

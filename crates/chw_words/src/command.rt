@@ -19,6 +19,8 @@ pub enum EmitForm {
     Verilog,
     /// With equal wires shared, as one module.
     Shared,
+    /// In single bits, as BLIF.
+    Blif,
 }
 
 /// A command of the program.

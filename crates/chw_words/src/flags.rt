@@ -2,7 +2,7 @@
 ghost use Rattle.std.specs.Prelude.{◌≡◌, ℕ, false, List, ◌∷◌, ◌++◌, map, codes};
 ghost use Rattle.std.specs.Prelude.{IfOk, OnOk};
 ghost use Rattle.std.specs.Str.{bytes_eq};
-ghost use Rattle.chw_words.specs.Flags.{is_flag as is_flag_of};
+ghost use Rattle.chw_words.specs.Flags.{emit_flags, is_flag as is_flag_of};
 ghost use Rattle.chw_words.specs.Splitting.{asked_of, flags_of, found_from, rest_from};
 ghost use Rattle.chw_words.specs.Splitting.{emit_form, sim_form};
 
@@ -19,6 +19,8 @@ pub(crate) enum Asked {
     Waves,
     /// Equal wires of a net to be shared.
     Sharing,
+    /// A net in single bits.
+    Bits,
 }
 
 impl Asked {
@@ -28,6 +30,7 @@ impl Asked {
     {
         match self {
             Asked::Sharing => EmitForm::Shared,
+            Asked::Bits => EmitForm::Blif,
             Asked::Nothing | Asked::Waves => EmitForm::Verilog,
         }
     }
@@ -38,7 +41,7 @@ impl Asked {
     {
         match self {
             Asked::Waves => SimForm::Waves,
-            Asked::Nothing | Asked::Sharing => SimForm::Lines,
+            Asked::Nothing | Asked::Sharing | Asked::Bits => SimForm::Lines,
         }
     }
 }
@@ -52,6 +55,20 @@ pub(crate) struct Split<'a> {
     behind: bool,
 }
 
+// Whether the word is this one.
+fn is_word(word: &str, it: &str) -> bool
+    ensures { result ≡ bytes_eq word.now it.now }
+{
+    word.as_bytes() == it.as_bytes()
+}
+
+// Whether the word is a flag of `emit`.
+fn is_emit_flag(word: &str) -> bool
+    ensures { result ≡ is_flag_of emit_flags word.now }
+{
+    is_word(word, "--share") || is_word(word, "--blif")
+}
+
 // Whether the word is a flag of the command of this name.
 fn is_flag(command: &str, word: &str) -> bool
     ensures { result ≡ is_flag_of (flags_of command.now) word.now }
@@ -59,7 +76,7 @@ fn is_flag(command: &str, word: &str) -> bool
     if command.as_bytes() == "simulate".as_bytes() {
         word.as_bytes() == "--vcd".as_bytes()
     } else {
-        command.as_bytes() == "emit".as_bytes() && word.as_bytes() == "--share".as_bytes()
+        command.as_bytes() == "emit".as_bytes() && is_emit_flag(word)
     }
 }
 
@@ -67,7 +84,7 @@ fn is_flag(command: &str, word: &str) -> bool
 fn wants_value(word: &str) -> bool
     ensures { result ≡ bytes_eq word.now (codes "--budget") }
 {
-    word.as_bytes() == "--budget".as_bytes()
+    is_word(word, "--budget")
 }
 
 impl<'a> Split<'a> {
@@ -132,10 +149,12 @@ pub(crate) fn asked_for(found: &[&str]) -> Option<Asked>
     };
     if !others.is_empty() {
         None
-    } else if is_flag("simulate", first) {
+    } else if is_word(first, "--vcd") {
         Some(Asked::Waves)
-    } else if is_flag("emit", first) {
+    } else if is_word(first, "--share") {
         Some(Asked::Sharing)
+    } else if is_word(first, "--blif") {
+        Some(Asked::Bits)
     } else {
         None
     }
