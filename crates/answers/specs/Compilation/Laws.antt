@@ -15,6 +15,7 @@ use Rattle.netlist.specs.declared.net.Net.{Net}
 use Rattle.share_laws.specs.Shares.{Shares}
 use Rattle.answers.specs.Compilation.Compiling.{EndsSmall, CompilesTo, EndsIn, HasCounts}
 use Rattle.answers.specs.Compilation.Compiling.{IsCompileFault}
+use Rattle.answers.specs.Compilation.SingleBits.{BitsMean}
 use Rattle.answers.specs.declared.compiled.fault.CompileFault.{CompileFault}
 
 -- the state in which a run ends is one to which so many first steps lead, and it holds no more made
@@ -63,3 +64,8 @@ abbrev pub SharedNetMeans : Type 0
 SharedNetMeans =
     (p : Program) (flat shared : Flat) → Sound flat → HasNoLoop flat → Shares flat shared
     → NetMeans p flat → NetMeans p shared
+
+-- the net of single bits of a sound flat net without a loop means what that net means
+abbrev pub SingleBitsMean : Type 0
+SingleBitsMean =
+    (p : Program) (flat : Flat) → Sound flat → HasNoLoop flat → NetMeans p flat → BitsMean p flat

@@ -1,8 +1,10 @@
 //! The laws of what is compiled, each as the contract of a call that does nothing.
 ghost use Rattle.answers.specs.Compilation.Laws.{CompiledEndsSmall, EndsAreRuns};
 ghost use Rattle.answers.specs.Compilation.Laws.{NothingRefusesACompile, OneCompiled, OneCount};
-ghost use Rattle.answers.specs.Compilation.Laws.{SharedNetMeans, SmallEndsCompile};
+ghost use Rattle.answers.specs.Compilation.Laws.{SharedNetMeans, SingleBitsMean};
+ghost use Rattle.answers.specs.Compilation.Laws.{SmallEndsCompile};
 
+use bit_laws::laws::single_bits_keep_bits;
 use chw_meaning::laws::at_most_one_meaning;
 use chw_norm::laws::{last_states_are_typed, nothing_refuses_a_normal_run, one_last_state};
 use ended_laws::laws::none_is_stuck;
@@ -62,4 +64,13 @@ pub fn shared_net_means()
 {
     at_most_one_meaning();
     sharing_keeps_bits();
+}
+
+/// Where a sound flat net without a loop has the bits of what a program means, its net of single
+/// bits has each of them.
+pub fn single_bits_mean()
+    ensures { SingleBitsMean }
+{
+    at_most_one_meaning();
+    single_bits_keep_bits();
 }
