@@ -2,8 +2,7 @@
 use Rattle.std.proofs.Common.{◌≡◌, ℕ, List, Result, Ok, Err}
 use Rattle.chw_base.specs.Files.{Files}
 use Rattle.chw_cli.specs.Answer.{CommandAnswer, EmitAnswer, NormaliseAnswer, RunAnswer, SimulateAnswer}
-use Rattle.chw_cli.specs.Descriptions.{IsCompilable}
-use Rattle.chw_cli.specs.Exact.{AreHeld, BreakNothing, HasNormalRun, Misses}
+use Rattle.chw_cli.specs.Exact.{AreHeld, BreakNothing, HasNormalRun, IsEmittable, Misses}
 use Rattle.chw_cli.specs.Lines.{status_of}
 use Rattle.chw_cli.specs.Reads.{GoesOn, Read, description_in, stimulus_in, verilog_in, wants}
 use Rattle.chw_cli.specs.declared.refusal.Refusal.{Refusal}
@@ -69,7 +68,7 @@ NotRefused = (files : Files) (command : Command) (texts : List (List ℕ)) (read
 
 pub not_refused : Laws → NotRefused
 not_refused l files (Emit file budget form) texts reads r held_texts breaks held_reads a =
-    one_text_is_answered l.sound l.same l.named l.alone l.typed (IsCompilable budget) (λ text tree answer. EmitAnswer tree budget form answer)
+    one_text_is_answered l.sound l.same l.named l.alone l.typed (IsEmittable budget form) (λ text tree answer. EmitAnswer tree budget form answer)
     (λ text tree r d suits e. good_is_emitted l.same l.alone l.compiles budget form text tree r d suits e) files (Emit file budget form) (description_in file) texts reads r
     held_texts breaks held_reads a
 not_refused l files (Simulate file stimulus budget form) texts reads r held_texts breaks held_reads a =

@@ -15,6 +15,7 @@ pub mod Reasons
 pub mod Runs
 pub mod SharedNets
 pub mod Simulating
+pub mod SingleBits
 pub mod Telling
 pub mod TwoTexts
 pub mod WavesRead

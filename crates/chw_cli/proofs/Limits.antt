@@ -3,7 +3,7 @@ use Rattle.std.proofs.Common.{◌≡◌, [], ◌∷◌, ◌++◌, codes, ap, ◌
 use Rattle.std.specs.Prelude.{decimal}
 use Rattle.std.proofs.lemmas.Fmt.{decimal_digit, decimal_step}
 use Rattle.chw_cli.specs.Lines.{line_of}
-use Rattle.chw_cli.specs.declared.refusal.Refusal.TheVariants.{DeepBody, Depth, FullTable, LongText, TooLarge}
+use Rattle.chw_cli.specs.declared.refusal.Refusal.TheVariants.{Bits, DeepBody, Depth, FullTable, LongText, TooLarge}
 
 text_limit : decimal 4194304 ≡ codes "4194304"
 text_limit =
@@ -29,6 +29,15 @@ wires =
     ∙ ap (λ ds. ds ++ 48 ∷ []) (decimal_step 200 (omega arith) (omega arith)
     ∙ ap (λ ds. ds ++ 48 ∷ []) (decimal_step 20 (omega arith) (omega arith)
     ∙ ap (λ ds. ds ++ 48 ∷ []) (decimal_digit 2 (omega arith))))))
+
+bit_nodes : decimal 500000 ≡ codes "500000"
+bit_nodes =
+    decimal_step 500000 (omega arith) (omega arith)
+    ∙ ap (λ ds. ds ++ 48 ∷ []) (decimal_step 50000 (omega arith) (omega arith)
+    ∙ ap (λ ds. ds ++ 48 ∷ []) (decimal_step 5000 (omega arith) (omega arith)
+    ∙ ap (λ ds. ds ++ 48 ∷ []) (decimal_step 500 (omega arith) (omega arith)
+    ∙ ap (λ ds. ds ++ 48 ∷ []) (decimal_step 50 (omega arith) (omega arith)
+    ∙ ap (λ ds. ds ++ 48 ∷ []) (decimal_digit 5 (omega arith))))))
 
 made_depth : decimal 2000 ≡ codes "2000"
 made_depth =
@@ -58,3 +67,6 @@ deep_body_line = ap (λ ds. codes "chw: E12 depth " ++ ds ++ codes "\n") made_de
 
 pub full_table_line : line_of FullTable ≡ codes "chw: E17 size made 4096\n"
 full_table_line = ap (λ ds. codes "chw: E17 size made " ++ ds ++ codes "\n") made_definitions
+
+pub bits_line : line_of Bits ≡ codes "chw: E21 bits 500000\n"
+bits_line = ap (λ ds. codes "chw: E21 bits " ++ ds ++ codes "\n") bit_nodes

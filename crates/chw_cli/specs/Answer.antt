@@ -1,18 +1,21 @@
 -- What the program answers to words, by what was read: bytes for `out`, or a refusal.
 use Rattle.std.specs.Prelude.{◌≡◌, ℕ, ◌≤◌, List, [], ◌∷◌, length, map, Some, Result, Ok, Err, ◌⊎◌}
 use Rattle.std.specs.List.{slice_get}
+use Rattle.bit_laws.specs.Blast.{blast}
+use Rattle.blif_text.specs.Printed.{blif_text}
 use Rattle.chw_base.specs.declared.outcome.Or.{Or}
 use Rattle.chw_base.specs.declared.outcome.Or.TheVariants.{Fault}
 use Rattle.chw_base.specs.declared.shelf.Fetched.{Fetched}
 use Rattle.chw_base.specs.declared.shelf.Fetched.TheVariants.{TooLong, Absent}
 use Rattle.chw_base.specs.declared.shelf.ShelfFault.{ShelfFault}
+use Rattle.chw_cli.specs.Bits.{DenotesBits, HasFewBits, HasManyBits, HasOneBitEach}
 use Rattle.chw_cli.specs.Descriptions.{Compiles, HasProgram, IsTypedText, IsWrongText}
 use Rattle.chw_cli.specs.Faults.{refusal_of, refusal_of_compile, refusal_of_run, refusal_of_sim}
 use Rattle.chw_cli.specs.Making.{MakeAnswer}
 use Rattle.chw_cli.specs.Reads.{Read, Wanted, wants, whole}
 use Rattle.chw_cli.specs.Reads.Read.{fetched}
 use Rattle.chw_cli.specs.declared.refusal.Refusal.{Refusal}
-use Rattle.chw_cli.specs.declared.refusal.Refusal.TheVariants.{Words, Read as Unread, State, Stimulus}
+use Rattle.chw_cli.specs.declared.refusal.Refusal.TheVariants.{Words, Read as Unread, State, Stimulus, Bits}
 use Rattle.chw_grammar.specs.declared.program.Tree.{Tree}
 use Rattle.chw_grammar.specs.Text.{Text}
 use Rattle.chw_norm.specs.Running.{Ends}
@@ -23,7 +26,7 @@ use Rattle.chw_words.specs.Commands.{IsCommand, AreNoCommand}
 use Rattle.chw_words.specs.declared.command.Command.{Command}
 use Rattle.chw_words.specs.declared.command.Command.TheVariants.{Emit, Simulate, Check, Normalise, Run, Make}
 use Rattle.chw_words.specs.declared.command.EmitForm.{EmitForm}
-use Rattle.chw_words.specs.declared.command.EmitForm.TheVariants.{Verilog, Shared}
+use Rattle.chw_words.specs.declared.command.EmitForm.TheVariants.{Verilog, Shared, Blif}
 use Rattle.chw_words.specs.declared.command.SimForm.{SimForm}
 use Rattle.judge.specs.Lines.{state_line}
 use Rattle.judge.specs.States.{IsFinished, RefusesState}
@@ -32,6 +35,7 @@ use Rattle.netlist.specs.declared.net.Flat.{Flat}
 use Rattle.norm_lines.specs.Lines.{normal_lines}
 use Rattle.rewriting.specs.Runs.{Step}
 use Rattle.answers.specs.Compilation.Compiling.{CompilesTo, IsCompileFault}
+use Rattle.answers.specs.Compilation.SingleBits.{BitsMean}
 use Rattle.answers.specs.declared.compiled.fault.CompileFault.{CompileFault}
 use Rattle.net_means.specs.Outputs.{NetMeans}
 use Rattle.net_flat.specs.Flattened.{IsFlatOf}
@@ -105,18 +109,45 @@ pub record IsSharedFor (p : Program) (budget : ℕ) (net : Net) : Type 0 where
   pub no_loop : HasNoLoop shared
   pub means : NetMeans p shared
 
--- the net is such a net, by the form that is asked for
-abbrev pub IsNetIn : EmitForm → Program → ℕ → Net → Type 0
-IsNetIn Verilog = IsNetFor
-IsNetIn Shared = IsSharedFor
+-- the text is that of the net of single bits of a flat net to which the program is compiled by so
+-- many steps at most, which is sound: the net of single bits has no more nodes than may be; the
+-- text, read again, denotes it and no other; at each history of the program its outputs have the
+-- bits of what they mean, and no name has two bits
+pub record AreBitsFor (p : Program) (budget : ℕ) (text : List ℕ) : Type 0 where
+  pub net : Net
+  pub flat : Flat
+  pub compiles : CompilesTo p budget net flat
+  pub first_order : AreFirstOrder p compiles.net_is.state
+  pub well_formed : WellFormed net
+  pub sound : Sound flat
+  pub few : HasFewBits flat
+  pub same : text ≡ blif_text (blast flat)
+  pub bits : DenotesBits text (blast flat)
+  pub once : HasOneBitEach flat
+  pub mean : BitsMean p flat
 
--- the answer of `emit` to a program: the text of such a net, or why it can't be compiled
+-- the net is such a net, by the form that is asked for; or one of which the single bits are written
+abbrev pub IsNetIn : EmitForm → Program → ℕ → Net → Type 0
+IsNetIn Verilog p budget net = IsNetFor p budget net
+IsNetIn Shared p budget net = IsSharedFor p budget net
+IsNetIn Blif p budget net = (flat : Flat) × CompilesTo p budget net flat
+
+-- the text is that of such a net, or of single bits, by the form that is asked for
+abbrev pub IsTextIn : EmitForm → Program → ℕ → List ℕ → Type 0
+IsTextIn Verilog p budget text = (net : Net) × IsNetFor p budget net × (text ≡ net_text net)
+IsTextIn Shared p budget text = (net : Net) × IsSharedFor p budget net × (text ≡ net_text net)
+IsTextIn Blif p budget text = AreBitsFor p budget text
+
+-- the answer of `emit` to a program: such a text; or why the program can't be compiled; or, where
+-- single bits are asked for, that there are too many
 pub data CompileAnswer (p : Program) (budget : ℕ) (form : EmitForm)
     : Result (List ℕ) Refusal → Type 0 where
   not_compiled : (fault : CompileFault) → IsCompileFault p budget fault
       → CompileAnswer p budget form (Err (refusal_of_compile p fault))
-  compiled : (net : Net) → IsNetIn form p budget net
-      → CompileAnswer p budget form (Ok (net_text net))
+  compiled : (text : List ℕ) → IsTextIn form p budget text
+      → CompileAnswer p budget form (Ok text)
+  many_bits : (net : Net) (flat : Flat) → form ≡ Blif → CompilesTo p budget net flat
+      → HasManyBits flat → CompileAnswer p budget form (Err Bits)
 
 -- the answer of `emit` to a description: that to its program
 pub record EmitAnswer (tree : Tree) (budget : ℕ) (form : EmitForm)

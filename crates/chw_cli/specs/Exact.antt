@@ -3,8 +3,9 @@ use Rattle.std.specs.Prelude.{◌≡◌, ◌≤◌, ℕ, List, [], ◌∷◌, le
 use Rattle.chw_base.specs.Files.{Files, file_of}
 use Rattle.chw_clock.specs.declared.event.Event.{Event}
 use Rattle.chw_clock.specs.declared.event.Ports.{Ports}
-use Rattle.chw_cli.specs.Answer.{IsNetIn}
-use Rattle.chw_cli.specs.Descriptions.{CanCompile, HasProgram, IsCompilable, IsDescription, IsTypedText}
+use Rattle.chw_cli.specs.Answer.{IsNetIn, IsTextIn}
+use Rattle.chw_cli.specs.Bits.{HasFewBits}
+use Rattle.chw_cli.specs.Descriptions.{CanCompile, HasProgram, IsDescription, IsTypedText}
 use Rattle.chw_cli.specs.Reads.{GoesOn, Wanted, wants}
 use Rattle.chw_cli.specs.declared.status.Status.{Status}
 use Rattle.chw_cli.specs.declared.status.Status.TheVariants as status
@@ -17,7 +18,9 @@ use Rattle.chw_words.specs.declared.budget.TheConstants.{MOST_BUDGET}
 use Rattle.chw_words.specs.declared.command.Command.{Command}
 use Rattle.chw_words.specs.declared.command.Command.TheVariants.{Emit, Simulate, Check, Normalise, Run, Make}
 use Rattle.chw_words.specs.declared.command.EmitForm.{EmitForm}
+use Rattle.chw_words.specs.declared.command.EmitForm.TheVariants.{Blif}
 use Rattle.judge.specs.States.{IsBlockedNowhere}
+use Rattle.answers.specs.Compilation.Compiling.{CompilesTo}
 use Rattle.answers.specs.MakeAnswer.Events.{make_stimulus}
 use Rattle.make_text.specs.MakeText.{make_text}
 use Rattle.normal_forms.specs.Uses.{IsAcyclic}
@@ -38,6 +41,16 @@ Ends wanted s = (s ≡ wanted) ⊎ (s ≡ status.Memory)
 pub data BreaksNone (Suits : List ℕ → Type 0) : List (List ℕ) → Type 0 where
   typed : (text : List ℕ) (tree : Tree) → IsTypedText text tree → Suits text
       → BreaksNone Suits (text ∷ [])
+
+-- where single bits are asked for, each flat net to which the program is compiled has few of them
+abbrev pub FitsForm : EmitForm → Program → ℕ → Type 0
+FitsForm Blif p budget =
+    (net : Net) (flat : Flat) → CompilesTo p budget net flat → HasFewBits flat
+FitsForm _ p budget = Unit {0}
+
+-- the program of the text can be compiled by so many steps at most, and there are few enough bits
+abbrev pub IsEmittable : ℕ → EmitForm → List ℕ → Type 0
+IsEmittable budget form text = (p : Program) × CanCompile text budget p × FitsForm form p budget
 
 -- the program of the text has a run of so many steps at most to a state in which no step is left,
 -- and which is blocked nowhere and acyclic; no step leads to a body over the limit of depth, or to
@@ -75,7 +88,7 @@ pub data MakesWith (text stimulus : List ℕ) : List (List ℕ) → Type 0 where
 
 -- the texts of the files of a command break no restriction
 abbrev pub BreakNothing : Command → List (List ℕ) → Type 0
-BreakNothing (Emit file budget form) = BreaksNone (IsCompilable budget)
+BreakNothing (Emit file budget form) = BreaksNone (IsEmittable budget form)
 BreakNothing (Simulate file stimulus budget form) = SimulatesWith budget
 BreakNothing (Check file) = BreaksNone (λ text. Unit {0})
 BreakNothing (Normalise file budget) = BreaksNone (HasNormalRun budget)
@@ -126,3 +139,9 @@ abbrev pub OneNetIn : Type 0
 OneNetIn =
     (form : EmitForm) (p : Program) (budget other : ℕ) (a b : Net)
     → IsNetIn form p budget a → IsNetIn form p other b → a ≡ b
+
+-- and so one text
+abbrev pub OneTextIn : Type 0
+OneTextIn =
+    (form : EmitForm) (p : Program) (budget other : ℕ) (a b : List ℕ)
+    → IsTextIn form p budget a → IsTextIn form p other b → a ≡ b

@@ -1,4 +1,5 @@
 pub mod Answer
+pub mod Bits
 pub mod Delivery
 pub mod Descriptions
 pub mod Exact

@@ -1,10 +1,11 @@
 -- The statuses with their codes, and the refusals with their statuses and lines.
 use Rattle.std.specs.Prelude.{ℕ, List, ◌++◌, codes, decimal}
 use Rattle.std.specs.List.{flat_map}
+use Rattle.bit_blast.specs.declared.limit.TheConstants.{BIT_NODES}
 use Rattle.chw_base.specs.declared.limits.TheConstants.{DESCRIPTION_BYTES, FLAT_WIRES, MADE_DEFINITIONS, MADE_DEPTH, NESTING}
 use Rattle.chw_base.specs.declared.index.WireId.{WireId}
 use Rattle.chw_cli.specs.declared.refusal.Refusal.{Refusal}
-use Rattle.chw_cli.specs.declared.refusal.Refusal.TheVariants.{Words, Read, LongText, Lex, Syntax, Depth, Names, Types, DeepBody, FullTable, Spent, State, Verilog, Stimulus, Value, TooLarge, Loop, Write, Memory}
+use Rattle.chw_cli.specs.declared.refusal.Refusal.TheVariants.{Words, Read, LongText, Lex, Syntax, Depth, Names, Types, DeepBody, FullTable, Spent, State, Verilog, Stimulus, Value, TooLarge, Loop, Bits, Write, Memory}
 use Rattle.chw_cli.specs.declared.status.Status.{Status}
 use Rattle.chw_check.specs.declared.fault.TypeFault.{TypeFault}
 use Rattle.chw_check.specs.declared.fault.TypeFault.TheVariants.{Kind, Typing, Missing, NoDefault, NotPorts}
@@ -46,6 +47,7 @@ status_of (Stimulus fault) = status.Stimulus
 status_of (Value line) = status.Stimulus
 status_of TooLarge = status.Refused
 status_of (Loop cycle) = status.Refused
+status_of Bits = status.Refused
 status_of Write = status.Write
 status_of Memory = status.Memory
 
@@ -120,6 +122,7 @@ line_of (Stimulus fault) = stim_words fault.code ++ decimal fault.line ++ codes 
 line_of (Value line) = codes "chw: S04 line " ++ decimal line ++ codes "\n"
 line_of TooLarge = codes "chw: E17 size wires " ++ decimal FLAT_WIRES ++ codes "\n"
 line_of (Loop cycle) = codes "chw: E16 loop" ++ wire_texts cycle ++ codes "\n"
+line_of Bits = codes "chw: E21 bits " ++ decimal BIT_NODES ++ codes "\n"
 line_of Write = codes "chw: write\n"
 line_of Memory = codes "chw: memory\n"
 

@@ -1,6 +1,7 @@
 -- How the refusals of other crates become refusals of the program, and why a description is
 -- refused.
 use Rattle.std.specs.Prelude.{◌≡◌, ℕ, List, [], Err, ◌⊎◌}
+use Rattle.bit_blast.specs.declared.limit.TooMany.{TooMany}
 use Rattle.chw_base.specs.declared.outcome.Or.{Or}
 use Rattle.chw_base.specs.declared.outcome.Or.TheVariants.{Memory, Fault}
 use Rattle.chw_cli.specs.Answer.{CompileAnswer, EmitAnswer, NormaliseAnswer}
@@ -69,6 +70,10 @@ of_stim_fault (Fault f) = refusal.Stimulus f
 abbrev pub of_sim_fault : Or SimFault → Refusal
 of_sim_fault Memory = refusal.Memory
 of_sim_fault (Fault f) = refusal_of_sim f
+
+abbrev pub of_bits_fault : Or TooMany → Refusal
+of_bits_fault Memory = refusal.Memory
+of_bits_fault (Fault f) = refusal.Bits
 
 -- the refusal of a program that can't be compiled: its own, or want of memory
 abbrev pub IsCompileRefusal : Program → CompileFault → Refusal → Type 0

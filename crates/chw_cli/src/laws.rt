@@ -3,7 +3,7 @@ ghost use Rattle.std.specs.Prelude.{◌≡◌, ℕ, List};
 ghost use Rattle.chw_base.specs.Faults.{Rose};
 ghost use Rattle.chw_cli.specs.Delivery.{WritesAll, StopsAt};
 ghost use Rattle.chw_cli.specs.Descriptions.{CompilableIsCompiled};
-ghost use Rattle.chw_cli.specs.Exact.{OneNetIn};
+ghost use Rattle.chw_cli.specs.Exact.{OneNetIn, OneTextIn};
 ghost use Rattle.chw_cli.specs.Outcome.{Outcome, Told};
 ghost use Rattle.chw_cli.specs.Reads.{Asks};
 ghost use Rattle.chw_cli.specs.declared.status.Status.{Status};
@@ -88,9 +88,11 @@ pub fn compilable_is_compiled()
     small_ends_compile();
 }
 
-/// In each form there is one net at most of which `emit` writes the text, and so one text.
+/// In each form there is one net at most of which `emit` writes the text or the single bits, and so
+/// one text.
 pub fn one_net_is_emitted()
-    ensures { OneNetIn }
+    ensures net { OneNetIn }
+    ensures text { OneTextIn }
 {
     one_compiled();
     one_shared_net();

@@ -1,9 +1,10 @@
 //! Why the program gave no answer.
 ghost use Rattle.std.specs.Prelude.{◌≡◌};
-ghost use Rattle.chw_cli.specs.Refusals.{of_circuit_fault, of_lex_fault, of_name_fault, of_parse_fault, of_run_fault, of_sim_fault, of_stim_fault, of_type_fault, of_words_fault};
+ghost use Rattle.chw_cli.specs.Refusals.{of_bits_fault, of_circuit_fault, of_lex_fault, of_name_fault, of_parse_fault, of_run_fault, of_sim_fault, of_stim_fault, of_type_fault, of_words_fault};
 ghost use Rattle.chw_cli.specs.declared.refusal.Refusal.TheVariants.{Memory};
 
 use answers::sim_answer::SimFault;
+use bit_blast::TooMany;
 use chw_base::{Name, NoMemory, Or, Seq, WireId};
 use chw_check::TypeFault;
 use chw_lexer::LexFault;
@@ -56,6 +57,8 @@ pub enum Refusal {
     /// These flat wires drive each other in a circle that passes no register and no RAM, the one
     /// with the least number first.
     Loop(Seq<WireId>),
+    /// The net of single bits has more nodes than the limit.
+    Bits,
     /// The answer couldn't be written.
     Write,
     /// Memory was wanting.
@@ -171,6 +174,17 @@ impl From<Or<SimFault>> for Refusal {
             Or::Memory => Refusal::Memory,
             Or::Fault(SimFault::Stimulus(fault)) => Refusal::Stimulus(fault),
             Or::Fault(SimFault::Value { line }) => Refusal::Value(line),
+        }
+    }
+}
+
+impl From<Or<TooMany>> for Refusal {
+    ghost from_gives = { λ e r. r ≡ of_bits_fault e };
+
+    fn from(error: Or<TooMany>) -> Refusal {
+        match error {
+            Or::Memory => Refusal::Memory,
+            Or::Fault(_) => Refusal::Bits,
         }
     }
 }

@@ -74,6 +74,7 @@ pub(crate) fn tell<E: Sink>(alloc: Global, refusal: &Refusal, err: &mut E) -> St
         Refusal::State(line) => put_bytes(alloc, line.as_slice(), Status::Refused, err),
         Refusal::TooLarge => put_line(alloc, "chw: E17 size wires 200000\n", Status::Refused, err),
         Refusal::Loop(cycle) => tell_loop(alloc, cycle, err),
+        Refusal::Bits => put_line(alloc, "chw: E21 bits 500000\n", Status::Refused, err),
         Refusal::Write => put_line(alloc, "chw: write\n", Status::Write, err),
         Refusal::Memory => put_line(alloc, "chw: memory\n", Status::Memory, err),
     }

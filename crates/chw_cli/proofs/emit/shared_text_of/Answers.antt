@@ -1,4 +1,4 @@
-use Rattle.std.proofs.Common.{Ok, sym, subst}
+use Rattle.std.proofs.Common.{Ok, refl, sym, subst}
 use Rattle.std.proofs.lemmas.Result.{err_from_is_err_and}
 use Rattle.chw_cli.specs.Answer.{CompileAnswer}
 use Rattle.chw_cli.specs.Answer.CompileAnswer.{compiled}
@@ -28,25 +28,28 @@ returns-clause-emitted c =
     let denoted : VText (net_text net) net =
     subst (λ text. VText text net) c.in_ok-readable_text.ensures.text c.in_ok-readable_text.ensures.denotes in
     subst (λ bytes. CompileAnswer c.args.program.now c.args.budget Shared (Ok bytes)) (sym c.in_ok-readable_text.ensures.text)
-    (compiled net
-    (record {
-      from = made.net;
-      flat = made.flat;
-      compiles = is.compiles;
-      first_order = λ m it at.
-          c.normal_is_first_order.ensures c.args.program.now is.compiles.net_is.state m it
-          is.compiles.net_is.finished.normal at;
-      from_sound = is.sound;
-      shared = shared.shared;
-      shares = shared.shares;
-      same = shared.same;
-      well_formed = shared.well_formed;
-      text = record {
-        denotes = denoted;
-        only = λ other h. c.one_net.ensures (net_text net) other net h denoted;
-      };
-      flattens = shared.flattens;
-      sound = shared.sound;
-      no_loop = shared.no_loop;
-      means = c.shared_net_means.ensures c.args.program.now made.flat shared.shared is.sound is.compiles.circuit.no_loop shared.shares is.means;
-    }))
+    (compiled (net_text net) (
+      net,
+      record {
+        from = made.net;
+        flat = made.flat;
+        compiles = is.compiles;
+        first_order = λ m it at.
+            c.normal_is_first_order.ensures c.args.program.now is.compiles.net_is.state m it
+            is.compiles.net_is.finished.normal at;
+        from_sound = is.sound;
+        shared = shared.shared;
+        shares = shared.shares;
+        same = shared.same;
+        well_formed = shared.well_formed;
+        text = record {
+          denotes = denoted;
+          only = λ other h. c.one_net.ensures (net_text net) other net h denoted;
+        };
+        flattens = shared.flattens;
+        sound = shared.sound;
+        no_loop = shared.no_loop;
+        means = c.shared_net_means.ensures c.args.program.now made.flat shared.shared is.sound is.compiles.circuit.no_loop shared.shares is.means;
+      },
+      refl,
+    ))

@@ -1,4 +1,4 @@
-use Rattle.std.proofs.Common.{Ok, sym, subst}
+use Rattle.std.proofs.Common.{Ok, refl, sym, subst}
 use Rattle.std.proofs.lemmas.Result.{err_from_is_err_and}
 use Rattle.chw_cli.specs.Answer.{CompileAnswer}
 use Rattle.chw_cli.specs.Answer.CompileAnswer.{compiled}
@@ -20,18 +20,21 @@ returns-clause-emitted c =
     let denoted : VText (net_text made.net) made.net =
     subst (λ text. VText text made.net) c.in_ok-readable_text.ensures.text c.in_ok-readable_text.ensures.denotes in
     subst (λ bytes. CompileAnswer c.args.program.now c.args.budget Verilog (Ok bytes)) (sym c.in_ok-readable_text.ensures.text)
-    (compiled made.net
-    (record {
-      flat = made.flat;
-      compiles = is.compiles;
-      first_order = λ m it at.
-          c.normal_is_first_order.ensures c.args.program.now is.compiles.net_is.state m it
-          is.compiles.net_is.finished.normal at;
-      well_formed = is.well_formed;
-      text = record {
-        denotes = denoted;
-        only = λ other h. c.one_net.ensures (net_text made.net) other made.net h denoted;
-      };
-      sound = is.sound;
-      means = is.means;
-    }))
+    (compiled (net_text made.net) (
+      made.net,
+      record {
+        flat = made.flat;
+        compiles = is.compiles;
+        first_order = λ m it at.
+            c.normal_is_first_order.ensures c.args.program.now is.compiles.net_is.state m it
+            is.compiles.net_is.finished.normal at;
+        well_formed = is.well_formed;
+        text = record {
+          denotes = denoted;
+          only = λ other h. c.one_net.ensures (net_text made.net) other made.net h denoted;
+        };
+        sound = is.sound;
+        means = is.means;
+      },
+      refl,
+    ))

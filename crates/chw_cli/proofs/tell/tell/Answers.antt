@@ -1,6 +1,6 @@
 use Rattle.std.proofs.Common.{refl, ap, sym}
 use Rattle.chw_cli.specs.Telling.{place_line}
-use Rattle.chw_cli.proofs.Limits.{deep_body_line, depth_line, long_text_line, too_large_line, full_table_line}
+use Rattle.chw_cli.proofs.Limits.{bits_line, deep_body_line, depth_line, long_text_line, too_large_line, full_table_line}
 use Rattle.chw_cli.proofs.Telling.{told_by}
 use Rattle.chw_cli.proofs.tell.tell.Goals as goal
 
@@ -15,6 +15,10 @@ returns-in-LongText g c =
 pub returns-in-TooLarge : goal.returns-in-TooLarge
 returns-in-TooLarge g c =
     told_by g.E.Sink.put_gives g.E.Sink.written g.E.Sink.faults c.args.refusal.now _ c.in-TooLarge.is _ ⊥ _ _ _ _ (sym too_large_line) refl (λ no. absurd no) c.put_line-in-TooLarge.ensures
+
+pub returns-in-Bits : goal.returns-in-Bits
+returns-in-Bits g c =
+    told_by g.E.Sink.put_gives g.E.Sink.written g.E.Sink.faults c.args.refusal.now _ c.in-Bits.is _ ⊥ _ _ _ _ (sym bits_line) refl (λ no. absurd no) c.put_line-in-Bits.ensures
 
 pub returns-in-Write : goal.returns-in-Write
 returns-in-Write g c =
