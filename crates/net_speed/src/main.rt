@@ -1,9 +1,10 @@
 //! Makes a large net, goes with it as far as a word says, and writes how many items were made last.
-//! It is there to be timed: bench/flat.sh, bench/read.sh and bench/share.sh do.
+//! It is there to be timed: bench/flat.sh, bench/read.sh, bench/share.sh and bench/blif.sh do.
 //!
 //! Its words are a form of net, `chain`, `tower`, `ports` or `twice`, how many wires it has, and how
 //! far to go: `made`, `judged`, `flat`, `ordered`, `shared`, `printed` or `read`, which reads the
-//! printed text. After `text` it writes the printed text itself.
+//! printed text. After `text` it writes the printed text itself. `blasted` makes the nodes of the
+//! net of single bits, and `bits` prints them too.
 //!
 //! The form `waves` is a text of waves of so many events, in place of a net.
 //! It is `printed`, `read`, or written after `text`. bench/waves.sh times it.
@@ -16,6 +17,8 @@ ghost use Rattle.netlist.specs.Sound.{Sound};
 mod nets;
 mod wave_texts;
 
+use bit_blast::blast;
+use blif_text::print as print_bits;
 use chw_base::{NoMemory, Or};
 use net_flat::flatten::flatten;
 use net_rules::well_formed::well_formed;
@@ -43,6 +46,8 @@ enum Stage {
     Flat,
     Ordered,
     Shared,
+    Blasted,
+    Bits,
     Printed,
     Read,
     Text,
@@ -59,7 +64,7 @@ enum Written {
 enum Trouble {
     Words,
     Memory,
-    /// The net isn't well formed, is too large, or has a loop.
+    /// The net isn't well formed, is too large, or has a loop or too many bits.
     Net,
 }
 
@@ -134,6 +139,8 @@ fn stage_of(word: &str) -> Option<Stage> {
         "flat" => Some(Stage::Flat),
         "ordered" => Some(Stage::Ordered),
         "shared" => Some(Stage::Shared),
+        "blasted" => Some(Stage::Blasted),
+        "bits" => Some(Stage::Bits),
         "printed" => Some(Stage::Printed),
         "read" => Some(Stage::Read),
         "text" => Some(Stage::Text),
@@ -141,7 +148,7 @@ fn stage_of(word: &str) -> Option<Stage> {
     }
 }
 
-// Goes with a net as far as this stage, and counts what was made last: modules, wires, cells or bytes.
+// Goes with a net as far as this stage, and counts what was made last: modules, wires, cells, nodes or bytes.
 fn go(alloc: Global, net: &Net, stage: Stage) -> Result<usize, Trouble> {
     if let Stage::Made = stage {
         return Ok(net.modules.len());
@@ -166,6 +173,7 @@ fn further(alloc: Global, net: &Net, stage: Stage) -> Result<usize, Trouble>
         },
         Stage::Ordered => cells_ordered(alloc, net),
         Stage::Shared => cells_left(alloc, net),
+        Stage::Blasted | Stage::Bits => bits_made(alloc, net, stage),
         Stage::Printed | Stage::Text => Ok(print(alloc, net)?.len()),
         Stage::Read => modules_read(alloc, net),
     }
@@ -220,6 +228,31 @@ fn cells_left_of(alloc: Global, flat: &Flat) -> Result<usize, Trouble>
                 None => Ok(0),
             }
         }
+        Err(Or::Memory) => Err(Trouble::Memory),
+        Err(Or::Fault(_)) => Err(Trouble::Net),
+    }
+}
+
+// How many nodes the net of single bits has, or how long its text is.
+fn bits_made(alloc: Global, net: &Net, stage: Stage) -> Result<usize, Trouble>
+    requires { WellFormed net.now }
+{
+    match flatten(alloc, net) {
+        Ok(flat) => bits_made_of(alloc, &flat, stage),
+        Err(Or::Memory) => Err(Trouble::Memory),
+        Err(Or::Fault(_)) => Err(Trouble::Net),
+    }
+}
+
+// The same of its flat net.
+fn bits_made_of(alloc: Global, flat: &Flat, stage: Stage) -> Result<usize, Trouble>
+    requires { Sound flat.now }
+{
+    match blast(alloc, flat) {
+        Ok(nodes) => match stage {
+            Stage::Bits => Ok(print_bits(alloc, flat, nodes.as_slice())?.len()),
+            _ => Ok(nodes.len()),
+        },
         Err(Or::Memory) => Err(Trouble::Memory),
         Err(Or::Fault(_)) => Err(Trouble::Net),
     }
