@@ -56,6 +56,7 @@ fn emit_word(form: EmitForm) -> &'static str {
     match form {
         EmitForm::Verilog => "",
         EmitForm::Shared => " as shared",
+        EmitForm::Blif => " as bits",
     }
 }
 
