@@ -42,6 +42,9 @@ NET_LINES = r"""
 E16 loop \d+( \d+)*
 E17 size wires 200000
 """
+BIT_LINES = """
+E21 bits 500000
+"""
 
 
 def any_of(lines):
@@ -50,7 +53,7 @@ def any_of(lines):
 
 LINES = {
     0: r"",
-    1: any_of(DESCRIPTION_LINES + REWRITING_LINES + NET_LINES),
+    1: any_of(DESCRIPTION_LINES + REWRITING_LINES + NET_LINES + BIT_LINES),
     2: r"chw: words\n",
     3: r"chw: read .*\n",
     4: r"chw: write\n",
@@ -62,7 +65,7 @@ LINES = {
 OF_A_DESCRIPTION = {"check": "", "normalise": REWRITING_LINES, "emit": REWRITING_LINES + NET_LINES, "simulate": REWRITING_LINES + NET_LINES}
 # The lines of status 1, and the other statuses, that each command may end with.
 REFUSALS = {it: any_of(DESCRIPTION_LINES + more) for it, more in OF_A_DESCRIPTION.items()}
-REFUSALS |= {"run": any_of(NET_LINES), "make": LINES[1]}
+REFUSALS |= {"run": any_of(NET_LINES), "make": REFUSALS["emit"], "emit --blif": LINES[1]}
 STATUSES = {"check": "01346", "normalise": "013456", "emit": "013456", "simulate": "0134567", "run": "0134678", "make": "01456"}
 
 
@@ -137,8 +140,9 @@ def fault_of(words, ended):
     command = os.fsdecode(words[0]) if words else ""
     if status != 2 and str(status) not in STATUSES.get(command, ""):
         return f"status {status}, which `{command}` never has"
-    if status == 1 and not re.fullmatch(REFUSALS[command], line):
-        return f"the line {line[:200]!r}, which `{command}` never has"
+    form = f"{command} --blif" if "--blif" in words[1:] else command
+    if status == 1 and not re.fullmatch(REFUSALS[form], line):
+        return f"the line {line[:200]!r}, which `{form}` never has"
     if out and status not in (0, 4, 6):
         return f"status {status} and {len(out)} bytes of output"
     return None
