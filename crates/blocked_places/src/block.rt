@@ -1,5 +1,5 @@
 //! What blocks a term at a place.
-ghost use Rattle.std.specs.Prelude.{[], reverse, IfOk};
+ghost use Rattle.std.specs.Prelude.{◌≡◌, [], reverse, IfOk};
 ghost use Rattle.chw_types.specs.References.{HasNoCycle};
 ghost use Rattle.chw_typing.specs.Scopes.{setting_in};
 ghost use Rattle.rewriting.specs.Origins.{origins_of};
@@ -17,6 +17,7 @@ use chw_terms::{Place, Scene, Term};
 use chw_types::Ty;
 use std::alloc::Global;
 use term_types::Signature;
+use type_widths::Widths;
 
 /// What blocks a place.
 #[derive(Drop)]
@@ -32,19 +33,22 @@ pub enum Block {
 /// What blocks a term at an active place, of several the first by rank. Nothing comes exactly where nothing blocks it.
 ///
 /// No data type leads back to itself and the scene is sound, as in every typed program. Terms have the types of the variables in scope at
-/// the place. The signature is that of the scene's program.
+/// the place. The signature is that of the scene's program, and the widths are over its data types.
 /// Where a number would pass 32 bits, the answer is want of memory.
 pub fn block_at(
     alloc: Global,
     scene: &Scene,
     signature: &Signature,
+    widths: &mut Widths<'_>,
     place: &Place,
     at: &Term,
 ) -> Result<Option<Block>, NoMemory>
     requires order { HasNoCycle scene.now.program.now.datas }
     requires ready { IsReady (setting_in scene.now) [] (reverse place.now.vars) }
     requires table { IsSignature scene.now.program.now signature.now }
-    ensures { IfOk result (AnswersBlock (origins_of scene.now) (spot_of place.now) at.now) }
+    requires widths { widths.old ≡ scene.now.program.now.datas }
+    ensures first { IfOk result (AnswersBlock (origins_of scene.now) (spot_of place.now) at.now) }
+    ensures same { widths.new ≡ widths.old }
 {
     let datas = scene.program.datas.as_slice();
     if let Some(bindings) = cycle_at(alloc, datas, place.mode, at)? {
@@ -53,7 +57,7 @@ pub fn block_at(
     if let Some(ty) = payload_at(alloc, datas, at)? {
         return Ok(Some(Block::Payload { ty }));
     }
-    match limit_at(alloc, scene, signature, place, at)? {
+    match limit_at(alloc, scene, signature, widths, place, at)? {
         Some(what) => Ok(Some(Block::Limit { what })),
         None => Ok(None),
     }

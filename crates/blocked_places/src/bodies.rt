@@ -21,6 +21,7 @@ use rewriting::place_laws::place_of_scene_is_typed;
 use rewriting::scene_laws::settings_of_scenes;
 use std::alloc::Global;
 use term_types::Signature;
+use type_widths::Widths;
 
 /// A blocked place of a body: its path, and what blocks it.
 #[derive(Drop)]
@@ -34,6 +35,7 @@ pub struct BlockedPart {
 fn in_lambdas(
     alloc: Global,
     ground: &Ground,
+    widths: &mut Widths<'_>,
     at: &Term,
     ty: &Ty,
     place: &mut Place,
@@ -41,22 +43,24 @@ fn in_lambdas(
     requires ground { IsGround ground.now }
     requires result { place.old.result ≡ true }
     requires typed { LeadsToTyped (setting_in ground.now.scene.now) place.old.mode (reverse place.old.vars) at.now ty.now }
-    ensures { IfOk result (FindsFirst (InBody (origins_of ground.now.scene.now) place.old.mode (reverse place.old.vars) at.now ty.now)) }
+    requires widths { widths.old ≡ ground.now.scene.now.program.now.datas }
+    ensures first { IfOk result (FindsFirst (InBody (origins_of ground.now.scene.now) place.old.mode (reverse place.old.vars) at.now ty.now)) }
+    ensures same { widths.new ≡ widths.old }
 {
     let TyNode::Fun(_, to) = &ty.node else {
-        return first_from(alloc, ground, at, place);
+        return first_from(alloc, ground, widths, at, place);
     };
     let Head::Lam(of, body) = &at.head else {
         return Ok(None);
     };
-    if let Some(what) = passed(alloc, ground.scene.program.datas.as_slice(), of)? {
+    if let Some(what) = passed(alloc, widths, of)? {
         return Ok(Some(Trail {
             back: Vec::new(alloc),
             block: Block::Limit { what },
         }));
     }
     enter(place, vec![in alloc; of.copy(alloc)?]?)?;
-    let found = in_lambdas(alloc, ground, body, to, place)?;
+    let found = in_lambdas(alloc, ground, widths, body, to, place)?;
     behind_child(found, 0)
 }
 
@@ -78,49 +82,67 @@ fn part_of(found: Option<Trail>) -> Option<BlockedPart>
 }
 
 // What blocks first at the leading lambdas of a made definition's body or below them.
-fn in_made(alloc: Global, ground: &Ground, it: &Made) -> Result<Option<Trail>, NoMemory>
+fn in_made(
+    alloc: Global,
+    ground: &Ground,
+    widths: &mut Widths<'_>,
+    it: &Made,
+) -> Result<Option<Trail>, NoMemory>
     requires ground { IsGround ground.now }
     requires typed { LeadsToTyped (setting_in ground.now.scene.now) (mode_of it.now.sort) [] it.now.body it.now.ty }
-    ensures { IfOk result (FindsFirst (InBody (origins_of ground.now.scene.now) (mode_of it.now.sort) [] it.now.body it.now.ty)) }
+    requires widths { widths.old ≡ ground.now.scene.now.program.now.datas }
+    ensures first { IfOk result (FindsFirst (InBody (origins_of ground.now.scene.now) (mode_of it.now.sort) [] it.now.body it.now.ty)) }
+    ensures same { widths.new ≡ widths.old }
 {
     let mut place = Place {
         mode: mode_of(it.sort),
         result: true,
         vars: GapBuffer::of(alloc, Vec::new(alloc)),
     };
-    in_lambdas(alloc, ground, &it.body, &it.ty, &mut place)
+    in_lambdas(alloc, ground, widths, &it.body, &it.ty, &mut place)
 }
 
 // The first blocked place of a made definition of a scene.
-fn in_scene(alloc: Global, ground: &Ground, it: &Made) -> Result<Option<BlockedPart>, NoMemory>
+fn in_scene(
+    alloc: Global,
+    ground: &Ground,
+    widths: &mut Widths<'_>,
+    it: &Made,
+) -> Result<Option<BlockedPart>, NoMemory>
     requires ground { IsGround ground.now }
     requires typed { IsTypedScene ground.now.scene.now }
     requires made { (m : ℕ) × (slice_get ground.now.scene.now.made.now m ≡ Some it.now) }
-    ensures { IfOk result (AnswersBody (origins_of ground.now.scene.now) (made_of it.now) it.now.body) }
+    requires widths { widths.old ≡ ground.now.scene.now.program.now.datas }
+    ensures first { IfOk result (AnswersBody (origins_of ground.now.scene.now) (made_of it.now) it.now.body) }
+    ensures same { widths.new ≡ widths.old }
 {
     place_of_scene_is_typed();
-    let found = in_made(alloc, ground, it)?;
+    let found = in_made(alloc, ground, widths, it)?;
     Ok(part_of(found))
 }
 
 /// The first blocked place of the body of a made definition, by path and then by what blocks. Nothing comes exactly where nothing blocks
 /// it.
 ///
-/// The scene is typed, the made definition is one of it, and the signature is that of its program.
+/// The scene is typed, the made definition is one of it, the signature is that of its program, and
+/// the widths are over its data types.
 /// Where a number would pass 32 bits, the answer is want of memory.
 pub fn first_blocked(
     alloc: Global,
     scene: &Scene,
     signature: &Signature,
+    widths: &mut Widths<'_>,
     it: &Made,
 ) -> Result<Option<BlockedPart>, NoMemory>
     requires typed { IsTypedScene scene.now }
     requires table { IsSignature scene.now.program.now signature.now }
     requires made { (m : ℕ) × (slice_get scene.now.made.now m ≡ Some it.now) }
-    ensures { IfOk result (AnswersBody (origins_of scene.now) (made_of it.now) it.now.body) }
+    requires widths { widths.old ≡ scene.now.program.now.datas }
+    ensures first { IfOk result (AnswersBody (origins_of scene.now) (made_of it.now) it.now.body) }
+    ensures same { widths.new ≡ widths.old }
 {
     settings_of_scenes();
     data_types_in_order();
     let ground = Ground { scene, signature };
-    in_scene(alloc, &ground, it)
+    in_scene(alloc, &ground, widths, it)
 }

@@ -1,6 +1,5 @@
 //! The first limit that is passed at a place.
 ghost use Rattle.std.specs.Prelude.{◌≡◌, [], reverse, IfOk};
-ghost use Rattle.chw_types.specs.References.{HasNoCycle};
 ghost use Rattle.chw_terms.specs.TermTree.{TermTree, letrec, prim};
 ghost use Rattle.chw_terms.specs.TermView.{group_of, applied};
 ghost use Rattle.chw_typing.specs.Scopes.{setting_in};
@@ -22,19 +21,22 @@ use chw_typing::found_laws::{found_is_type, one_found};
 use rewriting::scene_laws::settings_of_scenes;
 use std::alloc::Global;
 use term_types::{Signature, type_in_scope};
+use type_widths::Widths;
 
 // The limit that the type of a term passes.
 fn type_limit(
     alloc: Global,
     scene: &Scene,
     signature: &Signature,
+    widths: &mut Widths<'_>,
     place: &Place,
     at: &Term,
 ) -> Result<Option<NoLayout>, NoMemory>
-    requires order { HasNoCycle scene.now.program.now.datas }
     requires ready { IsReady (setting_in scene.now) [] (reverse place.now.vars) }
     requires table { IsSignature scene.now.program.now signature.now }
-    ensures { IfOk result (FindsOf TermTree (TypePasses (origins_of scene.now) (spot_of place.now)) at.now) }
+    requires widths { widths.old ≡ scene.now.program.now.datas }
+    ensures limit { IfOk result (FindsOf TermTree (TypePasses (origins_of scene.now) (spot_of place.now)) at.now) }
+    ensures same { widths.new ≡ widths.old }
 {
     settings_of_scenes();
     found_is_type();
@@ -42,7 +44,7 @@ fn type_limit(
     let Some(ty) = type_in_scope(alloc, scene, signature, &place.vars, at)? else {
         return Ok(None);
     };
-    passed(alloc, scene.program.datas.as_slice(), &ty)
+    passed(alloc, widths, &ty)
 }
 
 // The limit of the first size of a primitive on these arguments that passes one, where its sizes count.
@@ -72,12 +74,14 @@ fn part_limit(
     alloc: Global,
     scene: &Scene,
     signature: &Signature,
+    widths: &mut Widths<'_>,
     place: &Place,
     at: &Term,
 ) -> Result<Option<NoLayout>, NoMemory>
-    requires order { HasNoCycle scene.now.program.now.datas }
     requires table { IsSignature scene.now.program.now signature.now }
-    ensures { IfOk result (FindsPartLimit (origins_of scene.now) (spot_of place.now) at.now) }
+    requires widths { widths.old ≡ scene.now.program.now.datas }
+    ensures limit { IfOk result (FindsPartLimit (origins_of scene.now) (spot_of place.now) at.now) }
+    ensures same { widths.new ≡ widths.old }
 {
     match &at.head {
         Head::PrimOf(which) => size_limit(alloc, scene, signature, place, *which, &at.args),
@@ -85,7 +89,7 @@ fn part_limit(
             if !at.args.is_empty() {
                 return Ok(None);
             }
-            first_binding(alloc, scene.program.datas.as_slice(), bindings)
+            first_binding(alloc, widths, bindings)
         }
         _ => Ok(None),
     }
@@ -96,17 +100,19 @@ pub(crate) fn limit_at(
     alloc: Global,
     scene: &Scene,
     signature: &Signature,
+    widths: &mut Widths<'_>,
     place: &Place,
     at: &Term,
 ) -> Result<Option<NoLayout>, NoMemory>
-    requires order { HasNoCycle scene.now.program.now.datas }
     requires ready { IsReady (setting_in scene.now) [] (reverse place.now.vars) }
     requires table { IsSignature scene.now.program.now signature.now }
-    ensures { IfOk result (FindsLimit (origins_of scene.now) (spot_of place.now) at.now) }
+    requires widths { widths.old ≡ scene.now.program.now.datas }
+    ensures limit { IfOk result (FindsLimit (origins_of scene.now) (spot_of place.now) at.now) }
+    ensures same { widths.new ≡ widths.old }
 {
-    let own = type_limit(alloc, scene, signature, place, at)?;
+    let own = type_limit(alloc, scene, signature, widths, place, at)?;
     if own.is_some() {
         return Ok(own);
     }
-    part_limit(alloc, scene, signature, place, at)
+    part_limit(alloc, scene, signature, widths, place, at)
 }

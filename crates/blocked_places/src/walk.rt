@@ -16,27 +16,32 @@ use chw_base::NoMemory;
 use chw_terms::{Place, Term};
 use std::alloc::Global;
 use std::mem;
+use type_widths::Widths;
 
-/// What blocks first at a place or below it. The place is the same afterwards.
+/// What blocks first at a place or below it. The place is the same afterwards. The widths are over
+/// the data types of the ground.
 #[cycle(walk)]
 pub(crate) fn first_from(
     alloc: Global,
     ground: &Ground,
+    widths: &mut Widths<'_>,
     at: &Term,
     place: &mut Place,
 ) -> Result<Option<Trail>, NoMemory>
     requires ground { IsGround ground.now }
     requires typed { IsTypedAt (setting_in ground.now.scene.now) (spot_of place.old) at.now }
+    requires widths { widths.old ≡ ground.now.scene.now.program.now.datas }
     ensures first { IfOk result (FindsFirst (IsActiveBlock (origins_of ground.now.scene.now) (spot_of place.old) at.now)) }
     ensures place { OnOk result (place.new ≡ place.old) }
+    ensures same { widths.new ≡ widths.old }
 {
-    if let Some(block) = block_at(alloc, ground.scene, ground.signature, place, at)? {
+    if let Some(block) = block_at(alloc, ground.scene, ground.signature, widths, place, at)? {
         return Ok(Some(Trail {
             back: Vec::new(alloc),
             block,
         }));
     }
-    below(alloc, ground, at, place)
+    below(alloc, ground, widths, at, place)
 }
 
 // What blocks first below a place.
@@ -44,13 +49,16 @@ pub(crate) fn first_from(
 fn below(
     alloc: Global,
     ground: &Ground,
+    widths: &mut Widths<'_>,
     at: &Term,
     place: &mut Place,
 ) -> Result<Option<Trail>, NoMemory>
     requires ground { IsGround ground.now }
     requires typed { IsTypedAt (setting_in ground.now.scene.now) (spot_of place.old) at.now }
+    requires widths { widths.old ≡ ground.now.scene.now.program.now.datas }
     ensures first { IfOk result (FindsFirst (IsBlockBelow (origins_of ground.now.scene.now) (spot_of place.old) at.now)) }
     ensures place { OnOk result (place.new ≡ place.old) }
+    ensures same { widths.new ≡ widths.old }
 {
     let count = count_parts(place.mode, at);
     if count == 0 {
@@ -58,7 +66,7 @@ fn below(
     }
     let outside = place.vars.len();
     enter_group(alloc, place, group_around_parts(at))?;
-    let found = first_part(alloc, ground, at, count, place)?;
+    let found = first_part(alloc, ground, widths, at, count, place)?;
     leave(place, outside);
     Ok(found)
 }
@@ -69,6 +77,7 @@ fn below(
 fn first_part(
     alloc: Global,
     ground: &Ground,
+    widths: &mut Widths<'_>,
     at: &Term,
     count: usize,
     place: &mut Place,
@@ -78,11 +87,13 @@ fn first_part(
     requires typed { IsTypedAt (setting_in ground.now.scene.now) (around place.old at.now) at.now }
     requires all { AreAmongFirst place.old.mode at.now count }
     requires arguments { AreAmongArguments at.now count }
+    requires widths { widths.old ≡ ground.now.scene.now.program.now.datas }
     ensures first { IfOk result (FindsFirst (IsBlockBelow (origins_of ground.now.scene.now) (around place.old at.now) at.now)) }
     ensures place { OnOk result (place.new ≡ place.old) }
+    ensures same { widths.new ≡ widths.old }
 {
     for number in 0..count {
-        let found = in_part(alloc, ground, at, number, place)?;
+        let found = in_part(alloc, ground, widths, at, number, place)?;
         if found.is_some() {
             return Ok(found);
         }
@@ -95,6 +106,7 @@ fn first_part(
 fn in_part(
     alloc: Global,
     ground: &Ground,
+    widths: &mut Widths<'_>,
     at: &Term,
     number: usize,
     place: &mut Place,
@@ -103,14 +115,16 @@ fn in_part(
     requires inside { IsInside place.old at.now }
     requires typed { IsTypedAt (setting_in ground.now.scene.now) (around place.old at.now) at.now }
     requires number { IsAmong (arguments_of at.now) number }
+    requires widths { widths.old ≡ ground.now.scene.now.program.now.datas }
     ensures first { IfOk result (FindsFirst (IsBlockAtPart (origins_of ground.now.scene.now) (around place.old at.now) at.now (path_to at.now number))) }
     ensures place { OnOk result (place.new ≡ place.old) }
+    ensures same { widths.new ≡ widths.old }
 {
     let path = path_to(at.args.len(), number)?;
     let Some(part) = part_at(alloc, ground, at, number, place)? else {
         return Ok(None);
     };
-    let found = first_at(alloc, ground, part, place)?;
+    let found = first_at(alloc, ground, widths, part, place)?;
     behind(found, path)
 }
 
@@ -119,13 +133,16 @@ fn in_part(
 fn first_at(
     alloc: Global,
     ground: &Ground,
+    widths: &mut Widths<'_>,
     part: Part,
     place: &mut Place,
 ) -> Result<Option<Trail>, NoMemory>
     requires ground { IsGround ground.now }
     requires typed { IsTypedAt (setting_in ground.now.scene.now) (spot_in (reverse place.old.vars) part) part.term.now }
+    requires widths { widths.old ≡ ground.now.scene.now.program.now.datas }
     ensures first { IfOk result (FindsFirst (IsActiveBlock (origins_of ground.now.scene.now) (spot_in (reverse place.old.vars) part.entry) part.entry.term.now)) }
     ensures place { OnOk result (place.new ≡ place.old) }
+    ensures same { widths.new ≡ widths.old }
 {
     let Part {
         term,
@@ -137,7 +154,7 @@ fn first_at(
     let outer_mode = mem::replace(&mut place.mode, mode);
     let outer_result = mem::replace(&mut place.result, gives);
     enter(place, more)?;
-    let found = first_from(alloc, ground, term, place)?;
+    let found = first_from(alloc, ground, widths, term, place)?;
     leave(place, outside);
     place.mode = outer_mode;
     place.result = outer_result;

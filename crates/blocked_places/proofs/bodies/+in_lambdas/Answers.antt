@@ -24,10 +24,11 @@ first_from-requires t c =
     record {
       ground = c.requires.ground;
       typed = typed_there (setting_in c.args.ground.now.scene.now) place.mode (reverse place.vars) c.args.at.now c.args.ty.now none c.requires.typed;
+      widths = c.requires.widths;
     }
 
-pub returns-in_default : goal.returns-in_default
-returns-in_default t c =
+pub returns-in_default-clause-first : goal.returns-in_default-clause-first
+returns-in_default-clause-first t c =
     let o = origins_of c.args.ground.now.scene.now in
     let s = setting_in c.args.ground.now.scene.now in
     let none = λ (a b : TypeTree). λ (is : c.args.ty.now ≡ fun a b). no_function_type c.ty.inside.node c.in_default.not-Fun a b (c.ty.view_is ∙ is) in
@@ -39,8 +40,8 @@ returns-in_default t c =
     (subst (λ r. FindsFirst (IsActiveBlock o (spot place.mode r vars) e) answer) c.requires.result is))
     c.first_from.ensures.first
 
-pub returns-in_default-head : goal.returns-in_default-head
-returns-in_default-head t c path b x =
+pub returns-in_default-head-clause-first : goal.returns-in_default-head-clause-first
+returns-in_default-head-clause-first t c path b x =
     let s = setting_in c.args.ground.now.scene.now in
     let place = c.args.place.now in
     let vars = reverse place.vars in
@@ -52,8 +53,8 @@ returns-in_default-head t c path b x =
     no_function s place.mode vars e from to leads
     (λ a body is. no_lambda_term c.at.inside.head c.at.inside.args.items c.in_default-head.not-Lam a body (c.at.view_is ∙ is))
 
-pub returns-in-Some : goal.returns-in-Some
-returns-in-Some t c =
+pub returns-in-Some-clause-first : goal.returns-in-Some-clause-first
+returns-in-Some-clause-first t c =
     let o = origins_of c.args.ground.now.scene.now in
     let s = setting_in c.args.ground.now.scene.now in
     let place = c.args.place.now in
@@ -67,8 +68,8 @@ returns-in-Some t c =
     let function : c.args.ty.now ≡ fun from to = sym (ap type_of (sym c.in-Fun.is) ∙ c.ty.view_is) in
     let term : e ≡ applied (lam of body) args = sym (ap (λ h. applied (tree_of h) args) (sym c.in-Lam.is) ∙ c.at.view_is) in
     let passes =
-    subst (λ datas. Passes datas of c.in-Some.what) c.as_slice.ensures
-    (subst (FindsOf TypeTree (Passes c.as_slice.result.now) of) c.in-Some.is c.in_ok-what.ensures) in
+    subst (λ datas. Passes datas of c.in-Some.what) c.requires.widths
+    (subst (FindsOf TypeTree (Passes c.args.widths.now) of) c.in-Some.is c.in_ok-what.ensures.limit) in
     found_lambda o s place.mode vars e of body args from to c.args.ty.now c.new.result.items c.in-Some.what term function c.requires.typed
     passes c.new.ensures.items
 
@@ -99,15 +100,18 @@ in_lambdas-requires t c =
         c.requires.ground,
         (
           subst (λ p. p.result ≡ true) (sym entered) c.requires.result,
-          subst (λ p. LeadsToTyped s p.mode (reverse p.vars) c.deref.result.now c.deref-2.result.now) (sym entered)
-              (subst (λ b. LeadsToTyped s place.mode (reverse (place.vars ++ of ∷ [])) b c.deref-2.result.now) (sym inner)
-              (subst (λ u. LeadsToTyped s place.mode (reverse (place.vars ++ of ∷ [])) body u) (sym rest) there)),
+          (
+            subst (λ p. LeadsToTyped s p.mode (reverse p.vars) c.deref.result.now c.deref-2.result.now) (sym entered)
+                (subst (λ b. LeadsToTyped s place.mode (reverse (place.vars ++ of ∷ [])) b c.deref-2.result.now) (sym inner)
+                (subst (λ u. LeadsToTyped s place.mode (reverse (place.vars ++ of ∷ [])) body u) (sym rest) there)),
+            c.passed.ensures.same ∙ c.requires.widths,
+          ),
         ),
       ),
     )
 
-pub returns : goal.returns
-returns t c =
+pub returns-clause-first : goal.returns-clause-first
+returns-clause-first t c =
     let o = origins_of c.args.ground.now.scene.now in
     let s = setting_in c.args.ground.now.scene.now in
     let place = c.args.place.now in
@@ -126,13 +130,13 @@ returns t c =
     let entered : c.enter.new.place ≡ with_variables place (place.vars ++ of ∷ []) =
     c.in_ok-enter.ensures ∙ ap (λ ts. with_variables place (place.vars ++ ts)) (c.in_ok-vec.ensures.items ∙ ap (λ u. u ∷ []) c.in_ok-copy.ensures) in
     let none =
-    subst (λ datas. FindsOf TypeTree (Passes datas) of None) c.as_slice.ensures
-    (subst (FindsOf TypeTree (Passes c.as_slice.result.now) of) c.in_default-2.is c.in_ok-what.ensures) in
+    subst (λ datas. FindsOf TypeTree (Passes datas) of None) c.requires.widths
+    (subst (FindsOf TypeTree (Passes c.args.widths.now) of) c.in_default-2.is c.in_ok-what.ensures.limit) in
     let here =
     subst (λ u. FindsFirst (InBody o place.mode (of ∷ vars) body u) found) rest
     (subst (λ b. FindsFirst (InBody o place.mode (of ∷ vars) b c.deref-2.result.now) found) inner
     (subst (λ vs. FindsFirst (InBody o place.mode vs c.deref.result.now c.deref-2.result.now) found) (more_in_scope place.vars (of ∷ []))
-    (subst (λ p. FindsFirst (InBody o p.mode (reverse p.vars) c.deref.result.now c.deref-2.result.now) found) entered c.in_ok-found.ensures))) in
+    (subst (λ p. FindsFirst (InBody o p.mode (reverse p.vars) c.deref.result.now c.deref-2.result.now) found) entered c.in_ok-found.ensures.first))) in
     ok_more c.behind_child.result _ _
     (λ answer on. found_under o s place.mode vars e of body args from to c.args.ty.now found answer term function c.requires.typed none here on)
     c.behind_child.ensures

@@ -16,13 +16,14 @@ in_lambdas-requires c =
       typed =
           subst (λ m. LeadsToTyped s m (reverse c.of.result) it.body it.ty) (sym c.mode_of.ensures)
           (subst (λ vs. LeadsToTyped s (mode_of it.sort) (reverse vs) it.body it.ty) (sym empty) c.requires.typed);
+      widths = c.requires.widths;
     }
 
-pub returns : goal.returns
-returns c =
+pub returns-clause-first : goal.returns-clause-first
+returns-clause-first c =
     let o = origins_of c.args.ground.now.scene.now in
     let it = c.args.it.now in
     let empty : c.of.result ≡ [] = c.of.ensures ∙ c.new.ensures.items in
     subst (λ vs. IfOk c.in_lambdas.result (FindsFirst (InBody o (mode_of it.sort) (reverse vs) it.body it.ty))) empty
     (subst (λ m. IfOk c.in_lambdas.result (FindsFirst (InBody o m (reverse c.of.result) it.body it.ty))) c.mode_of.ensures
-    c.in_lambdas.ensures)
+    c.in_lambdas.ensures.first)

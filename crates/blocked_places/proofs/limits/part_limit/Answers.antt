@@ -13,15 +13,15 @@ use Rattle.blocked_places.proofs.Shapes.{letrec_alone, no_letrec, no_prim, no_bo
 use Rattle.blocked_places.proofs.Turns.{none_later, bindings_pass}
 use Rattle.blocked_places.proofs.limits.part_limit.Goals as goal
 
-pub returns-in_default : goal.returns-in_default
-returns-in_default c =
+pub returns-in_default-clause-limit : goal.returns-in_default-clause-limit
+returns-in_default-clause-limit c =
     let args = c.at.inside.args.items in
     none_later (origins_of c.args.scene.now) (spot_of c.args.place.now) c.args.at.now
     (λ g x q. no_letrec c.at.inside.head args c.in_default.not-LetRec g x (c.at.view_is ∙ q))
     (λ p more q. no_prim c.at.inside.head args c.in_default.not-PrimOf p more (c.at.view_is ∙ q))
 
-pub returns-then-not-is_empty : goal.returns-then-not-is_empty
-returns-then-not-is_empty c =
+pub returns-then-not-is_empty-clause-limit : goal.returns-then-not-is_empty-clause-limit
+returns-then-not-is_empty-clause-limit c =
     let args = c.at.inside.args.items in
     none_later (origins_of c.args.scene.now) (spot_of c.args.place.now) c.args.at.now
     (λ g x q.
@@ -29,8 +29,8 @@ returns-then-not-is_empty c =
     eqb-false _ _ (sym c.is_empty.ensures ∙ c.if-not-is_empty.true) (omega (arith, none, c.at.inside.args.ok.0)))
     (λ p more q. no_prim c.at.inside.head args (λ r h. no_both c.at.inside.head _ _ r c.in-LetRec.is h) p more (c.at.view_is ∙ q))
 
-pub returns-else-not-is_empty : goal.returns-else-not-is_empty
-returns-else-not-is_empty c =
+pub returns-else-not-is_empty-clause-limit : goal.returns-else-not-is_empty-clause-limit
+returns-else-not-is_empty-clause-limit c =
     let o = origins_of c.args.scene.now in
     let at = spot_of c.args.place.now in
     let args = c.at.inside.args.items in
@@ -43,6 +43,6 @@ returns-else-not-is_empty c =
     ok_more c.first_binding.result _ _
     (λ answer h. subst (λ e. FindsPartLimit o at e answer) (sym is)
     (bindings_pass o at bs body answer
-    (subst (λ ds. FindsFirstOf Binding (BindingPasses ds) bs answer) c.as_slice.ensures
-    (subst (λ xs. FindsFirstOf Binding (BindingPasses c.as_slice.result.now) xs answer) c.deref-in-LetRec.ensures.value h))))
-    c.first_binding.ensures
+    (subst (λ ds. FindsFirstOf Binding (BindingPasses ds) bs answer) c.requires.widths
+    (subst (λ xs. FindsFirstOf Binding (BindingPasses c.args.widths.now) xs answer) c.deref-in-LetRec.ensures.value h))))
+    c.first_binding.ensures.limit

@@ -12,8 +12,8 @@ use Rattle.blocked_places.proofs.Results.{ok_more}
 use Rattle.blocked_places.proofs.Turns.{type_passes}
 use Rattle.blocked_places.proofs.limits.type_limit.Goals as goal
 
-pub returns-in_default : goal.returns-in_default
-returns-in_default c l p =
+pub returns-in_default-clause-limit : goal.returns-in_default-clause-limit
+returns-in_default-clause-limit c l p =
     let scene = c.args.scene.now in
     let s = setting_in scene in
     let o = origins_of scene in
@@ -23,8 +23,8 @@ returns-in_default c l p =
     let has : HasType (setting_at o) [] at.vars e p.0 = c.found_is_type.ensures (setting_at o) [] at.vars e p.0 p.1 in
     none p.0 (subst (λ z. HasType z [] at.vars e p.0) (c.settings_of_scenes.ensures.setting scene) has)
 
-pub returns : goal.returns
-returns c =
+pub returns-clause-limit : goal.returns-clause-limit
+returns-clause-limit c =
     let scene = c.args.scene.now in
     let s = setting_in scene in
     let o = origins_of scene in
@@ -36,5 +36,5 @@ returns c =
     let here : Finds (setting_at o) [] at.vars e t = subst (λ z. Finds z [] at.vars e t) setting found in
     ok_more c.passed.result _ _
     (λ answer h. type_passes c.one_found.ensures o at e t answer here
-    (subst (λ datas. FindsOf TypeTree (Passes datas) t answer) c.as_slice.ensures h))
-    c.passed.ensures
+    (subst (λ datas. FindsOf TypeTree (Passes datas) t answer) c.requires.widths h))
+    c.passed.ensures.limit

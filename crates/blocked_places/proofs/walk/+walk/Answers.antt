@@ -26,21 +26,27 @@ first_from-returns-in-Some t c =
     let o = origins_of c.args.ground.now.scene.now in
     let at = spot_of c.args.place.now in
     let e = c.args.at.now in
-    let blocks = subst (AnswersBlock o at e) c.in-Some.is c.in_ok-block.ensures in
-    record { first = found_here o at e c.new.result.items (block_of c.in-Some.block) blocks c.new.ensures.items; place = refl }
+    let blocks = subst (AnswersBlock o at e) c.in-Some.is c.in_ok-block.ensures.first in
+    record {
+      first = found_here o at e c.new.result.items (block_of c.in-Some.block) blocks c.new.ensures.items;
+      place = refl;
+      same = c.block_at.ensures.same;
+    }
 
 pub first_from-below-requires : goal.first_from-below-requires
-first_from-below-requires t c = (omega (arith, c.decreases), (c.requires.ground, c.requires.typed))
+first_from-below-requires t c =
+    (omega (arith, c.decreases), (c.requires.ground, (c.requires.typed, c.block_at.ensures.same ∙ c.requires.widths)))
 
 pub first_from-returns : goal.first_from-returns
 first_from-returns t c =
     let o = origins_of c.args.ground.now.scene.now in
     let at = spot_of c.args.place.now in
     let e = c.args.at.now in
-    let free = subst (AnswersBlock o at e) c.in_default.is c.in_ok-block.ensures in
+    let free = subst (AnswersBlock o at e) c.in_default.is c.in_ok-block.ensures.first in
     record {
       first = ok_more c.below.result _ _ (λ answer is. found_below o at e answer free is) c.below.ensures.first;
       place = c.below.ensures.place;
+      same = c.below.ensures.same ∙ c.block_at.ensures.same;
     }
 
 -- below a place
@@ -53,6 +59,7 @@ below-returns-then-count-eq0 t c =
           let i = c.count_parts-count.ensures.first o at x.spot x.part x.term refl x.below in
           omega (arith, i.1, c.if-count-eq0.true);
       place = refl;
+      same = refl;
     }
 
 pub below-first_part-requires : goal.below-first_part-requires
@@ -73,7 +80,7 @@ below-first_part-requires t c =
             subst (λ p. IsTypedAt s (around p e) e) (sym entered) typed,
             (
               subst (λ (p : Place). AreAmongFirst p.mode e n) (sym entered) c.count_parts-count.ensures.first,
-              c.count_parts-count.ensures.arguments,
+              (c.count_parts-count.ensures.arguments, c.requires.widths),
             ),
           ),
         ),
@@ -94,6 +101,7 @@ below-returns t c =
           subst (λ at. FindsFirst (IsBlockBelow o at e) c.in_ok-found.found) (ap (λ p. around p e) entered ∙ around_inner place e)
           c.in_ok-found.ensures.first;
       place = c.leave.ensures ∙ (λ i. with_variables (after i) (take (outside i) (after i).vars)) ∙ left_again place (declares e);
+      same = c.first_part.ensures.same;
     }
 
 -- the parts in turn
@@ -101,7 +109,7 @@ pub first_part-loop-number-init : goal.first_part-loop-number-init
 first_part-loop-number-init t c =
     let o = origins_of c.args.ground.now.scene.now in
     let e = c.args.at.now in
-    record { same = refl; none = none_at_start o (around c.args.place.now e) e (path_to e) }
+    record { same = refl; widths = refl; none = none_at_start o (around c.args.place.now e) e (path_to e) }
 
 pub first_part-in_part-requires : goal.first_part-in_part-requires
 first_part-in_part-requires t c =
@@ -115,7 +123,7 @@ first_part-in_part-requires t c =
           subst (λ p. IsInside p e) same c.requires.inside,
           (
             subst (λ p. IsTypedAt s (around p e) e) same c.requires.typed,
-            c.requires.arguments c.loop-number.number c.loop-number-test.true,
+            (c.requires.arguments c.loop-number.number c.loop-number-test.true, c.loop-number.invariant.widths ∙ c.requires.widths),
           ),
         ),
       ),
@@ -137,6 +145,7 @@ first_part-returns-then-is_some t c =
           (λ i j l m. parts_in_order (arguments_of e) i j l (c.requires.arguments j m))
           c.loop-number.invariant.none here;
       place = c.in_ok-found.ensures.place ∙ c.loop-number.invariant.same;
+      same = c.in_part.ensures.same ∙ c.loop-number.invariant.widths;
     }
 
 pub first_part-loop-number-preserved : goal.first_part-loop-number-preserved
@@ -151,6 +160,7 @@ first_part-loop-number-preserved t c =
     let next : suc n ≡ n + 1 = omega arith in
     record {
       same = c.in_ok-found.ensures.place ∙ c.loop-number.invariant.same;
+      widths = c.in_part.ensures.same ∙ c.loop-number.invariant.widths;
       none =
           subst (NoneBefore o at e (path_to e)) next
           (none_up_to_next o at e (path_to e) n found (sym c.is_some.ensures ∙ c.if-is_some.false) c.loop-number.invariant.none here);
@@ -166,6 +176,7 @@ first_part-returns t c =
           none_at_all o at e (path_to e) c.args.count c.loop-number.number (λ p at' x b. c.requires.all o at at' p x refl b)
           c.loop-number-test.false c.loop-number.invariant.none;
       place = c.loop-number.invariant.same;
+      same = c.loop-number.invariant.widths;
     }
 
 -- one part
@@ -184,7 +195,7 @@ in_part-returns-in_default t c =
     let at = around c.args.place.now e in
     let path = path_to e c.args.number in
     let none : HasNoPart o at e path = subst (FindsPart o at e path (reverse c.args.place.now.vars)) c.in_default.is c.in_ok-part.ensures in
-    record { first = λ p b x. none x.spot x.term x.below; place = refl }
+    record { first = λ p b x. none x.spot x.term x.below; place = refl; same = refl }
 
 pub in_part-first_at-requires : goal.in_part-first_at-requires
 in_part-first_at-requires t c =
@@ -199,7 +210,7 @@ in_part-first_at-requires t c =
     let there : Below o at e path (spot_in vars part) x = subst (FindsPart o at e path vars) c.in-Some.is c.in_ok-part.ensures in
     let typed = below_typed scene at e c.requires.ground.sound c.requires.typed path (spot_in vars part) x there in
     let falls = below_falls o at (spot_in vars part) e x path there in
-    (omega (arith, c.decreases, falls), (c.requires.ground, typed))
+    (omega (arith, c.decreases, falls), (c.requires.ground, (typed, c.requires.widths)))
 
 pub in_part-returns : goal.in_part-returns
 in_part-returns t c =
@@ -224,6 +235,7 @@ in_part-returns t c =
           (subst (λ p. GoesOn p found answer) numbers on))
           c.behind.ensures;
       place = on_ok c.behind.result _ c.in_ok-found.ensures.place;
+      same = c.first_at.ensures.same;
     }
 
 -- a part with its mode and its variables
@@ -239,7 +251,7 @@ first_at-first_from-requires t c =
     let gives : c.replace-outer_result.new.dest ≡ part.gives = c.replace-outer_result.ensures.after in
     let entered : c.enter.new.place ≡ inner = c.in_ok-enter.ensures ∙ (λ i. record { mode = mode i; result = gives i; vars = place.vars ++ more }) in
     let typed = subst (λ vs. IsTypedAt s (spot part.mode part.gives vs) x) (sym (more_in_scope place.vars more)) c.requires.typed in
-    (omega (arith, c.decreases), (c.requires.ground, subst (λ p. IsTypedAt s (spot_of p) x) (sym entered) typed))
+    (omega (arith, c.decreases), (c.requires.ground, (subst (λ p. IsTypedAt s (spot_of p) x) (sym entered) typed, c.requires.widths)))
 
 pub first_at-returns : goal.first_at-returns
 first_at-returns t c =
@@ -263,4 +275,5 @@ first_at-returns t c =
           subst (λ at. FindsFirst (IsActiveBlock o at x) c.in_ok-found.found)
           (ap spot_of entered ∙ ap (spot part.mode part.gives) (more_in_scope place.vars more)) c.in_ok-found.ensures.first;
       place = λ i. record { mode = outer_mode i; result = outer_result i; vars = vars i };
+      same = c.first_from.ensures.same;
     }

@@ -9,6 +9,7 @@ use Rattle.blocked_places.proofs.walk.+walk.Given as goal
 abbrev pub invariant-first_part-loop-number : goal.invariant-first_part-loop-number
 invariant-first_part-loop-number l = record {
   same : l.place ≡ l.fn.place;
+  widths : l.widths ≡ l.fn.widths;
   none : NoneBefore (origins_of l.ground.scene.now) (around l.fn.place l.at) l.at (path_to l.at) l.number;
 }
 

@@ -1,4 +1,4 @@
-use Rattle.std.proofs.Common.{subst, arith}
+use Rattle.std.proofs.Common.{refl, ◌∙◌, subst, arith}
 use Rattle.type_ports.specs.declared.ports.Leaf.{Leaf}
 use Rattle.chw_types.specs.TypeTree.{TypeTree}
 use Rattle.blocked_places.specs.Firsts.{FindsOf}
@@ -7,25 +7,32 @@ use Rattle.blocked_places.proofs.Firsts.{none_at_start, none_up_to_next, none_in
 use Rattle.blocked_places.proofs.widths.first_leaf.Goals as goal
 
 pub loop-leaf-init : goal.loop-leaf-init
-loop-leaf-init c = none_at_start Leaf (IsLeafTooWide c.args.datas.now) c.args.leaves.now
+loop-leaf-init c = record { same = refl; none = none_at_start Leaf (IsLeafTooWide c.args.widths.now) c.args.leaves.now }
 
-pub returns-in-Some : goal.returns-in-Some
-returns-in-Some c =
-    let datas = c.args.datas.now in
+pub returns-in-Some-clause-limit : goal.returns-in-Some-clause-limit
+returns-in-Some-clause-limit c =
+    let datas = c.args.widths.now in
     let leaf = c.leaf-item.result in
-    let passes = subst (FindsOf TypeTree (IsTooWide datas) leaf.payload) c.in-Some.is c.in_ok-limit.ensures in
-    first_here Leaf (IsLeafTooWide datas) c.args.leaves.now c.loop-leaf.leaf-index leaf c.in-Some.limit c.loop-leaf-test.true c.leaf-item.is
-    passes c.loop-leaf.invariant
+    let so = c.loop-leaf.invariant in
+    let here = subst (λ ds. FindsOf TypeTree (IsTooWide ds) leaf.payload c.in_ok-limit.field-0) so.same c.in_ok-limit.ensures.limit in
+    let passes = subst (FindsOf TypeTree (IsTooWide datas) leaf.payload) c.in-Some.is here in
+    first_here Leaf (IsLeafTooWide datas) c.args.leaves.now c.loop-leaf.leaf-index leaf c.in-Some.limit c.loop-leaf-test.true
+    c.leaf-item.is passes so.none
 
 pub loop-leaf-preserved : goal.loop-leaf-preserved
 loop-leaf-preserved c =
-    let datas = c.args.datas.now in
+    let datas = c.args.widths.now in
     let leaf = c.leaf-item.result in
-    let none = subst (FindsOf TypeTree (IsTooWide datas) leaf.payload) c.in_default.is c.in_ok-limit.ensures in
-    none_up_to_next Leaf (IsLeafTooWide datas) c.args.leaves.now c.loop-leaf.leaf-index leaf c.loop-leaf-test.true c.leaf-item.is none
-    c.loop-leaf.invariant
+    let so = c.loop-leaf.invariant in
+    let here = subst (λ ds. FindsOf TypeTree (IsTooWide ds) leaf.payload c.in_ok-limit.field-0) so.same c.in_ok-limit.ensures.limit in
+    let none = subst (FindsOf TypeTree (IsTooWide datas) leaf.payload) c.in_default.is here in
+    record {
+      same = c.too_wide.ensures.same ∙ so.same;
+      none = none_up_to_next Leaf (IsLeafTooWide datas) c.args.leaves.now c.loop-leaf.leaf-index leaf c.loop-leaf-test.true
+          c.leaf-item.is none so.none;
+    }
 
-pub returns : goal.returns
-returns c =
-    none_in_all Leaf (IsLeafTooWide c.args.datas.now) c.args.leaves.now c.loop-leaf.leaf-index (omega (arith, c.loop-leaf-test.false))
-    c.loop-leaf.invariant
+pub returns-clause-limit : goal.returns-clause-limit
+returns-clause-limit c =
+    none_in_all Leaf (IsLeafTooWide c.args.widths.now) c.args.leaves.now c.loop-leaf.leaf-index
+    (omega (arith, c.loop-leaf-test.false)) c.loop-leaf.invariant.none
