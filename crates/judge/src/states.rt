@@ -12,10 +12,12 @@ use crate::judging::{Verdict, judge};
 use blocked_places::{Block, BlockedPart};
 use chw_base::{MadeId, NoMemory, Or, narrow};
 use chw_terms::{Made, Program, Scene};
+use chw_typing::named_laws::data_types_in_order;
 use ended_laws::laws::none_is_stuck;
 use normal_form::Normal;
 use std::alloc::Global;
 use term_types::Signature;
+use type_widths::Widths;
 
 /// A blocked place of a state: in which made definition, at which path of its body, and by what.
 #[derive(Drop)]
@@ -50,6 +52,7 @@ fn blocked_in(
     alloc: Global,
     scene: &Scene,
     signature: &Signature,
+    widths: &mut Widths<'_>,
     number: usize,
     it: &Made,
 ) -> Result<Option<BlockedAt>, NoMemory>
@@ -57,9 +60,11 @@ fn blocked_in(
     requires ended { HasNoStep all_rules scene.now.program.now scene.now.made.now }
     requires table { IsSignature scene.now.program.now signature.now }
     requires is { slice_get scene.now.made.now number ≡ Some it.now }
-    ensures { IfOk result (FindsBlockedIn scene.now.program.now scene.now.made.now number) }
+    requires widths { widths.old ≡ scene.now.program.now.datas }
+    ensures found { IfOk result (FindsBlockedIn scene.now.program.now scene.now.made.now number) }
+    ensures same { widths.new ≡ widths.old }
 {
-    match judge(alloc, scene, signature, it)? {
+    match judge(alloc, scene, signature, widths, it)? {
         Verdict::Normal => Ok(None),
         Verdict::Blocked(part) => Ok(Some(placed_in(number, part)?)),
     }
@@ -70,15 +75,17 @@ fn blocked_at(
     alloc: Global,
     scene: &Scene,
     signature: &Signature,
+    widths: &mut Widths<'_>,
 ) -> Result<Option<BlockedAt>, NoMemory>
     requires typed { IsTypedScene scene.now }
     requires ended { HasNoStep all_rules scene.now.program.now scene.now.made.now }
     requires table { IsSignature scene.now.program.now signature.now }
+    requires widths { widths.old ≡ scene.now.program.now.datas }
     ensures { IfOk result (FindsBlocked scene.now.program.now scene.now.made.now) }
 {
     let made = scene.made;
     for number in 0..made.len() {
-        let found = blocked_in(alloc, scene, signature, number, &made[number])?;
+        let found = blocked_in(alloc, scene, signature, widths, number, &made[number])?;
         if found.is_some() {
             return Ok(found);
         }
@@ -93,8 +100,10 @@ fn fault_of_bodies(alloc: Global, scene: &Scene) -> Result<Option<StateFault>, N
     ensures { IfOk result (FindsFault scene.now.program.now scene.now.made.now) }
 {
     none_is_stuck();
+    data_types_in_order();
     let signature = Signature::of(alloc, scene.program)?;
-    match blocked_at(alloc, scene, &signature)? {
+    let mut widths = Widths::of(alloc, scene.program.datas.as_slice());
+    match blocked_at(alloc, scene, &signature, &mut widths)? {
         Some(at) => Ok(Some(StateFault::Blocked(at))),
         None => Ok(None),
     }

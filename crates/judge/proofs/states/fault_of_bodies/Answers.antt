@@ -1,6 +1,16 @@
+use Rattle.std.proofs.Common.{sym, subst, ◌∙◌}
+use Rattle.chw_types.specs.References.{HasNoCycle}
 use Rattle.judge.proofs.Faults.{all_normal, blocked_fault}
 use Rattle.judge.proofs.Verdicts.{scene_state}
 use Rattle.judge.proofs.states.fault_of_bodies.Goals as goal
+
+pub of-widths-requires : goal.of-widths-requires
+of-widths-requires c =
+    subst HasNoCycle (sym c.as_slice.ensures)
+    ((c.data_types_in_order.ensures c.args.scene.now.program.now.datas).0 c.requires.typed.tidy.data_acyclic)
+
+pub blocked_at-requires-clause-widths : goal.blocked_at-requires-clause-widths
+blocked_at-requires-clause-widths c = c.of-widths.ensures ∙ c.as_slice.ensures
 
 pub returns-in-Some : goal.returns-in-Some
 returns-in-Some c =
