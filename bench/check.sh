@@ -3,7 +3,8 @@
 # Usage: bench/check.sh [definitions|arguments|brackets|letrecs|sums|calls|hard]
 #   definitions: up to 4,096 definitions, the limit, longer ones in the larger texts    arguments: applications of 150 arguments    brackets: 150 brackets, one in the other
 #   letrecs: bindings of a letrec    sums: widths that are long sums    calls: polymorphic calls
-#   hard: texts with great types, types that grow, and naturals of many products; the status, the time and the memory of each
+#   hard: texts with great types, types that grow, and naturals of many products; the status, the time and the memory of each, with normalise and emit
+#     for those of under 64 KiB and those of many leaves
 set -eu
 top=$(cd "$(dirname "$0")/.." && pwd)
 form=${1:-definitions}

@@ -1,9 +1,11 @@
 #!/usr/bin/env python3
-"""Runs `chw check` on descriptions that are hard on a checker, with the usual stack and with one of 4 MiB.
+"""Runs `chw check` on descriptions that are hard on a compiler, and `chw normalise` and `chw emit` on those of under 64 KiB and those
+of many leaves: with the usual stack and with one of 4 MiB.
 
     bench/hard.py PROGRAM FOLDER
 
-FOLDER gets the descriptions. For each the table has its bytes, the status, the least of three times in milliseconds, and the memory in MiB.
+FOLDER gets the descriptions. For each and each command the table has the bytes, the status, the least of three times in milliseconds,
+and the memory in MiB.
 A run ends after 60 seconds of processor time, and then its status is that of a signal.
 """
 import os
@@ -13,6 +15,9 @@ import sys
 import time
 
 MOST_SECONDS = 60
+COMMANDS = ("check", "normalise", "emit")
+# A text of fewer bytes is tried with every command.
+SMALL = 64 << 10
 HEAD = "domain Sys;\n"
 TOP = "def main : Signal Sys Bool -> Signal Sys Bool = \\(x : Signal Sys Bool) . x;\ntop main (x) (o);\n"
 
@@ -134,6 +139,7 @@ SHAPES = {
     "a port that gets 171,000 levels deep": lambda: port_down(900, "(W " * 190 + "a" + ")" * 190),
     "a port that doubles, 20 levels": lambda: port_down(20, "(T a a)", "(Signal Sys Bool)"),
     "a port that doubles, 40 levels": lambda: port_down(40, "(T a a)", "(Signal Sys Bool)"),
+    "9,000 leaves over 40 data types": lambda: leaves_over_data_types(40, 9000),
     "9,000 leaves over 1,000 data types": lambda: leaves_over_data_types(1000, 9000),
     "40 variables to the third, 100 times": lambda: naturals(40, 3, 100),
     "120 squares, 100 times": lambda: naturals(120, 1, 100, True),
@@ -142,7 +148,11 @@ SHAPES = {
 }
 
 
-def run(program, path, stack=None):
+def commands(name, text):
+    return COMMANDS if len(text) < SMALL or "leaves" in name else COMMANDS[:1]
+
+
+def run(program, command, path, stack=None):
     """The status, the seconds and the most memory in MiB of one run."""
     def limits():
         resource.setrlimit(resource.RLIMIT_AS, (1 << 30, 1 << 30))
@@ -150,7 +160,7 @@ def run(program, path, stack=None):
         if stack:
             resource.setrlimit(resource.RLIMIT_STACK, (stack, stack))
     start = time.perf_counter()
-    it = subprocess.Popen([program, "check", path], stdout=subprocess.DEVNULL, stderr=subprocess.DEVNULL, preexec_fn=limits)
+    it = subprocess.Popen([program, command, path], stdout=subprocess.DEVNULL, stderr=subprocess.DEVNULL, preexec_fn=limits)
     _, status, used = os.wait4(it.pid, 0)
     seconds = time.perf_counter() - start
     return os.waitstatus_to_exitcode(status), seconds, used.ru_maxrss / 1024
@@ -160,17 +170,19 @@ def main():
     if len(sys.argv) != 3:
         sys.exit(__doc__)
     program, folder = sys.argv[1:]
-    print(f"{'shape':62} {'bytes':>9} {'status':>6} {'ms':>8} {'MiB':>6}")
+    print(f"{'shape':62} {'command':9} {'bytes':>9} {'status':>6} {'ms':>8} {'MiB':>6}")
     for name, make in SHAPES.items():
         path = os.path.join(folder, "hard.chw")
+        text = HEAD + make()
         with open(path, "w") as it:
-            it.write(HEAD + make())
-        runs = [run(program, path)]
-        # A long run isn't made again.
-        runs += [run(program, path) for _ in range(2) if runs[0][1] < 2]
-        small = run(program, path, 4 << 20) if runs[0][1] < 2 else runs[0]
-        status = str(runs[0][0]) if small[0] == runs[0][0] else f"{runs[0][0]}/{small[0]}"
-        print(f"{name:62} {os.path.getsize(path):9,} {status:>6} {min(r[1] for r in runs) * 1000:8,.0f} {max(r[2] for r in runs):6,.0f}")
+            it.write(text)
+        for command in commands(name, text):
+            runs = [run(program, command, path)]
+            # A long run isn't made again.
+            runs += [run(program, command, path) for _ in range(2) if runs[0][1] < 2]
+            small = run(program, command, path, 4 << 20) if runs[0][1] < 2 else runs[0]
+            status = str(runs[0][0]) if small[0] == runs[0][0] else f"{runs[0][0]}/{small[0]}"
+            print(f"{name:62} {command:9} {len(text):9,} {status:>6} {min(r[1] for r in runs) * 1000:8,.0f} {max(r[2] for r in runs):6,.0f}", flush=True)
 
 
 if __name__ == "__main__":
