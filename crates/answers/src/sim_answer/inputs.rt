@@ -1,23 +1,23 @@
 //! The types of a program's inputs.
-ghost use Rattle.std.specs.Prelude.{◌∷◌, [], IfOk, OnOk};
+ghost use Rattle.std.specs.Prelude.{◌≡◌, ◌∷◌, [], IfOk, OnOk};
 ghost use Rattle.chw_types.specs.References.{HasNoCycle};
 ghost use Rattle.chw_layout.specs.Measured.{HasWidth};
 ghost use Rattle.answers.specs.SimAnswer.Types.{AddsPort, AddsTypes, AreInputs, AreMeasured, AreParameters, IsMeasured, IsMeasuredPort, IsPorted, LeadsFromMeasured};
 
 use chw_base::{NoMemory, Or};
-use chw_layout::width;
 use chw_terms::Program;
-use chw_types::{Data, Ty, TyNode};
+use chw_types::{Ty, TyNode};
 use std::alloc::Global;
 use type_ports::{Leaf, leaves};
+use type_widths::Widths;
 
 /// The width of a type that has one.
-fn width_of(alloc: Global, t: &Ty, datas: &[Data]) -> Result<u32, NoMemory>
-    requires order { HasNoCycle datas.now }
-    requires measured { IsMeasured datas.now t.now }
-    ensures { IfOk result (HasWidth datas.now t.now) }
+fn width_of(alloc: Global, t: &Ty, widths: &mut Widths<'_>) -> Result<u32, NoMemory>
+    requires measured { IsMeasured widths.old t.now }
+    ensures width { IfOk result (HasWidth widths.old t.now) }
+    ensures same { widths.new ≡ widths.old }
 {
-    match width(alloc, t, datas) {
+    match widths.width(alloc, t) {
         Ok(width) => Ok(width),
         Err(Or::Memory) => Err(NoMemory),
         Err(Or::Fault(_)) => unreachable!(),
@@ -25,12 +25,18 @@ fn width_of(alloc: Global, t: &Ty, datas: &[Data]) -> Result<u32, NoMemory>
 }
 
 /// Appends the type of a leaf whose width isn't 0.
-fn put_type(alloc: Global, leaf: &Leaf, datas: &[Data], types: &mut Vec<Ty>) -> Result<(), NoMemory>
-    requires order { HasNoCycle datas.now }
-    requires measured { IsMeasured datas.now leaf.now.payload }
-    ensures { OnOk result (AddsTypes datas.now (leaf.now ∷ []) types.old.items types.new.items) }
+fn put_type(
+    alloc: Global,
+    leaf: &Leaf,
+    widths: &mut Widths<'_>,
+    types: &mut Vec<Ty>,
+) -> Result<(), NoMemory>
+    requires measured { IsMeasured widths.old leaf.now.payload }
+    ensures put { OnOk result
+        (AddsTypes widths.old (leaf.now ∷ []) types.old.items types.new.items) }
+    ensures same { widths.new ≡ widths.old }
 {
-    let width = width_of(alloc, &leaf.payload, datas)?;
+    let width = width_of(alloc, &leaf.payload, widths)?;
     if width == 0 {
         return Ok(());
     }
@@ -42,43 +48,47 @@ fn put_type(alloc: Global, leaf: &Leaf, datas: &[Data], types: &mut Vec<Ty>) -> 
 fn put_types(
     alloc: Global,
     leaves: &[Leaf],
-    datas: &[Data],
+    widths: &mut Widths<'_>,
     types: &mut Vec<Ty>,
 ) -> Result<(), NoMemory>
-    requires order { HasNoCycle datas.now }
-    requires measured { AreMeasured datas.now leaves.now }
-    ensures { OnOk result (AddsTypes datas.now leaves.now types.old.items types.new.items) }
+    requires measured { AreMeasured widths.old leaves.now }
+    ensures put { OnOk result (AddsTypes widths.old leaves.now types.old.items types.new.items) }
+    ensures same { widths.new ≡ widths.old }
 {
     for leaf in leaves {
-        put_type(alloc, leaf, datas, types)?;
+        put_type(alloc, leaf, widths, types)?;
     }
     Ok(())
 }
 
 /// Appends the types of a port's leaves.
-fn put_port(alloc: Global, t: &Ty, datas: &[Data], types: &mut Vec<Ty>) -> Result<(), NoMemory>
-    requires order { HasNoCycle datas.now }
-    requires port { IsMeasuredPort datas.now t.now }
-    ensures { OnOk result (AddsPort datas.now t.now types.old.items types.new.items) }
+fn put_port(
+    alloc: Global,
+    t: &Ty,
+    widths: &mut Widths<'_>,
+    types: &mut Vec<Ty>,
+) -> Result<(), NoMemory>
+    requires port { IsMeasuredPort widths.old t.now }
+    ensures put { OnOk result (AddsPort widths.old t.now types.old.items types.new.items) }
+    ensures same { widths.new ≡ widths.old }
 {
-    let Some(leaves) = leaves(alloc, t, datas)? else {
+    let Some(leaves) = leaves(alloc, t, widths.datas())? else {
         unreachable!();
     };
-    let put = put_types(alloc, &leaves, datas, types);
+    let put = put_types(alloc, &leaves, widths, types);
     drop(leaves);
     put
 }
 
 /// The types of what a type leads from.
-fn parameters(alloc: Global, t: &Ty, datas: &[Data]) -> Result<Vec<Ty>, NoMemory>
-    requires order { HasNoCycle datas.now }
-    requires leads { LeadsFromMeasured datas.now t.now }
-    ensures { IfOk result (λ types. AreParameters datas.now t.now types.items) }
+fn parameters(alloc: Global, t: &Ty, widths: &mut Widths<'_>) -> Result<Vec<Ty>, NoMemory>
+    requires leads { LeadsFromMeasured widths.old t.now }
+    ensures { IfOk result (λ types. AreParameters widths.old t.now types.items) }
 {
     let mut types = Vec::new(alloc);
     let mut rest = t;
     while let TyNode::Fun(from, to) = &rest.node {
-        put_port(alloc, from, datas, &mut types)?;
+        put_port(alloc, from, widths, &mut types)?;
         rest = to;
     }
     Ok(types)
@@ -93,5 +103,8 @@ pub(crate) fn input_types(alloc: Global, program: &Program) -> Result<Vec<Ty>, N
     let Some(it) = program.defs.as_slice().get(program.top.def.number as usize) else {
         unreachable!();
     };
-    parameters(alloc, &it.ty, program.datas.as_slice())
+    let mut widths = Widths::of(alloc, program.datas.as_slice());
+    let types = parameters(alloc, &it.ty, &mut widths);
+    drop(widths);
+    types
 }

@@ -6,5 +6,5 @@ use Rattle.answers.proofs.sim_answer.inputs.width_of.Goals as goal
 
 pub unreachable-requires : goal.unreachable-requires
 unreachable-requires c =
-    no_refusal c.args.datas.now c.args.t.now c.in-Err-Fault.field-0-0 c.requires.measured
-    (subst (λ r. OfFault r (IsRefusal c.args.datas.now c.args.t.now)) c.in-Err-Fault.field-0-is c.in-Err-Fault.ensures.refused)
+    no_refusal c.args.widths.now c.args.t.now c.in-Err-Fault.field-0-0 c.requires.measured
+    (subst (λ r. OfFault r (IsRefusal c.args.widths.now c.args.t.now)) c.in-Err-Fault.field-0-is c.in-Err-Fault.ensures.refused)
