@@ -1,7 +1,7 @@
 //! Nets of single bits, made of statements.
 ghost use Rattle.std.specs.Prelude.{◌≡◌, ◌++◌, [], map, IfOk, OnOk};
-ghost use Rattle.blif_text.specs.BlifText.{all_inputs, all_nodes, all_outputs, first_rows, net_said};
-ghost use Rattle.blif_text.specs.BlifText.{with_node};
+ghost use Rattle.blif_text.specs.BlifText.{all_inputs, all_nodes, all_outputs, first_rows};
+ghost use Rattle.blif_text.specs.BlifText.{net_said, with_node};
 ghost use Rattle.blif_read.specs.Nets.{bitnet_of, node_of};
 ghost use Rattle.blif_read.specs.Shown.{all_said, statement_of};
 ghost use Rattle.stimulus.specs.Texts.{texts};

@@ -2,8 +2,8 @@
 ghost use Rattle.std.specs.Prelude.{◌≡◌, ◌↔◌, ◌++◌, [], IsTrue, IfOk, IfSome, IfNone, OnOk};
 ghost use Rattle.chw_base.specs.Names.{AllOf, IsUpper, is_capital, is_letter_or_digit};
 ghost use Rattle.name_tables.specs.Names.{AreDistinct, is_among};
-ghost use Rattle.blif_text.specs.BlifText.{EachIs, HasClock, HasNames, IsClock, all_given, all_inputs};
-ghost use Rattle.blif_text.specs.BlifText.{given_by};
+ghost use Rattle.blif_text.specs.BlifText.{EachIs, HasClock, HasNames, IsClock, all_given};
+ghost use Rattle.blif_text.specs.BlifText.{all_inputs, given_by};
 ghost use Rattle.blif_text.specs.Faults.{IsFirstWithout};
 ghost use Rattle.blif_read.specs.Naming.{AreKnown, HasAlso, HasSame, KeepsNames};
 ghost use Rattle.blif_read.specs.Shown.{all_said, statement_of};

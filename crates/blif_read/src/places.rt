@@ -1,7 +1,8 @@
 //! Where statements may stand.
 ghost use Rattle.std.specs.Prelude.{◌≡◌, option_map};
 ghost use Rattle.blif_text.specs.Statements.{place_behind};
-ghost use Rattle.blif_text.specs.Statements.Place.{at_inputs, at_model, at_node, at_outputs, at_row};
+ghost use Rattle.blif_text.specs.Statements.Place.{at_inputs, at_model, at_node, at_outputs};
+ghost use Rattle.blif_text.specs.Statements.Place.{at_row};
 ghost use Rattle.blif_read.specs.Shown.{place_of, statement_of};
 
 use crate::statement::Statement;

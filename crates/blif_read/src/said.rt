@@ -19,8 +19,8 @@ pub struct At<'a> {
     pub place: Place,
 }
 
-/// The statement of a line at a place, and what may stand behind it. A fault is the number of a line
-/// that doesn't fit.
+/// The statement of a line at a place, and what may stand behind it. A fault is the number of a
+/// line that doesn't fit.
 fn said_at<'a>(alloc: Global, line: &Line<'a>, place: Place) -> Result<(Said<'a>, Place), Or<u32>>
     ensures placed { IfOk result (λ r. IsPlaced place (line_of line.now) r.0 r.1) }
     ensures fault { IfFault result (IsUnfit place (line_of line.now)) }

@@ -1,5 +1,6 @@
 //! What the words of a line say.
-ghost use Rattle.std.specs.Prelude.{◌≡◌, ◌↔◌, false, [], ◌∷◌, Bool, IsTrue, IfOk, IfSome, IfNone, codes};
+ghost use Rattle.std.specs.Prelude.{◌≡◌, ◌↔◌, false, [], ◌∷◌, Bool, IsTrue, codes};
+ghost use Rattle.std.specs.Prelude.{IfOk, IfSome, IfNone};
 ghost use Rattle.std.specs.List.{AllByRecursion};
 ghost use Rattle.bit_laws.specs.Gates.{digit_of};
 ghost use Rattle.blif_text.specs.Statements.{IsName, Says, Statement as Spoken, is_mark};

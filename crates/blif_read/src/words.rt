@@ -1,5 +1,6 @@
 //! The words of a piece of text, which blanks part.
-ghost use Rattle.std.specs.Prelude.{◌≡◌, ◌+◌, ◌<◌, ◌≤◌, [], ◌∷◌, ◌++◌, length, IfSome, IfNone, OnOk};
+ghost use Rattle.std.specs.Prelude.{◌≡◌, ◌+◌, ◌<◌, ◌≤◌, [], ◌∷◌, ◌++◌, length, IfSome, IfNone};
+ghost use Rattle.std.specs.Prelude.{OnOk};
 ghost use Rattle.std.specs.List.{after_first, position_or_len};
 ghost use Rattle.blif_text.specs.Lines.{is_blank, words_in};
 ghost use Rattle.stimulus.specs.Texts.{texts};

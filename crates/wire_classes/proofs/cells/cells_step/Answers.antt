@@ -2,7 +2,6 @@ use Rattle.std.proofs.Common.{◌-◌, length, map, drop, take, ap, subst, ◌�
 use Rattle.std.proofs.lemmas.List.{take_rest}
 use Rattle.wire_classes.specs.Keys.{KeysAgree, KeysClash, cell_key}
 use Rattle.wire_classes.specs.Seen.{Finds}
-use Rattle.wire_classes.specs.declared.agreeing.Finding.{Finding}
 use Rattle.wire_classes.proofs.AlikeCells.{cells_hold, cells_merged, clash_within}
 use Rattle.wire_classes.proofs.Closing.{none_at, some_at}
 use Rattle.wire_classes.proofs.cells.cells_step.Goals as goal
