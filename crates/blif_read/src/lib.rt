@@ -5,7 +5,6 @@
 #![tactic(auto)]
 
 mod bitnet;
-mod cut;
 mod lengths;
 mod lines;
 mod names;

@@ -2,12 +2,12 @@
 ghost use Rattle.std.specs.Prelude.{◌≡◌, ◌+◌, ◌<◌, ◌≤◌, ◌^◌, [], ◌∷◌, length, IfOk, IfSome, IfNone};
 ghost use Rattle.blif_text.specs.Lines.{content, goes_on, put_line};
 ghost use Rattle.blif_read.specs.Shown.{end_of, line_of, lines_left};
-ghost use Rattle.stimulus.specs.Texts.{lines_of, texts};
+ghost use Rattle.stimulus.specs.Texts.{before, behind, lines_of, texts};
 
-use crate::cut::{before, first_line, has};
 use crate::words::put_words;
 use chw_base::NoMemory;
 use std::alloc::Global;
+use stimulus::cut::{before, cut, has};
 
 /// What of a text isn't read yet, and the number of the line with which it begins.
 #[derive(Clone, Copy)]
@@ -42,6 +42,17 @@ fn content(line: &[u8]) -> &[u8]
         &line[..line.len() - 1]
     } else {
         before(line, b'#')
+    }
+}
+
+/// The first line, and what stands behind its line feed.
+fn first_line(text: &[u8]) -> (&[u8], &[u8])
+    ensures line { result.0.now ≡ before 10 text.now }
+    ensures rest { result.1.now ≡ behind 10 text.now }
+{
+    match cut(text, b'\n') {
+        Some((line, rest)) => (line, rest),
+        None => (text, &[]),
     }
 }
 

@@ -1,6 +1,5 @@
 //! The rule on names.
 ghost use Rattle.std.specs.Prelude.{◌≡◌, ◌↔◌, ◌++◌, [], IsTrue, IfOk, IfSome, IfNone, OnOk};
-ghost use Rattle.chw_base.specs.Names.{AllOf, IsUpper, is_capital, is_letter_or_digit};
 ghost use Rattle.name_tables.specs.Names.{AreDistinct, is_among};
 ghost use Rattle.blif_text.specs.BlifText.{EachIs, HasClock, HasNames, IsClock, all_given};
 ghost use Rattle.blif_text.specs.BlifText.{all_inputs, given_by};
@@ -11,6 +10,7 @@ ghost use Rattle.stimulus.specs.Texts.{texts};
 
 use crate::statement::{Said, Statement, given_by, inputs_of, read_by};
 use chw_base::NoMemory;
+use name_forms::forms::is_upper;
 use name_tables::Declared;
 use std::alloc::Global;
 
@@ -19,40 +19,6 @@ use std::alloc::Global;
 pub struct Names<'a> {
     pub inputs: Declared<'a>,
     pub given: Declared<'a>,
-}
-
-fn is_capital(byte: u8) -> bool
-    ensures { result ≡ is_capital byte }
-{
-    byte >= b'A' && byte <= b'Z'
-}
-
-fn is_letter_or_digit(byte: u8) -> bool
-    ensures { result ≡ is_letter_or_digit byte }
-{
-    (byte >= b'a' && byte <= b'z')
-        || (byte >= b'A' && byte <= b'Z')
-        || (byte >= b'0' && byte <= b'9')
-}
-
-fn are_letters_or_digits(text: &[u8]) -> bool
-    ensures { IsTrue result ↔ AllOf is_letter_or_digit text.now }
-{
-    for byte in text {
-        if !is_letter_or_digit(*byte) {
-            return false;
-        }
-    }
-    true
-}
-
-fn is_upper(word: &[u8]) -> bool
-    ensures { IsTrue result ↔ IsUpper word.now }
-{
-    match word {
-        [] => false,
-        [first, rest @ ..] => is_capital(*first) && are_letters_or_digits(rest),
-    }
 }
 
 /// Whether it is `clk_` and the name of a domain.

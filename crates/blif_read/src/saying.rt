@@ -6,11 +6,12 @@ ghost use Rattle.bit_laws.specs.Gates.{digit_of};
 ghost use Rattle.blif_text.specs.Statements.{IsName, Says, Statement as Spoken, is_mark};
 ghost use Rattle.blif_read.specs.Keywords.{is_keyword, keyword_text};
 ghost use Rattle.blif_read.specs.Shown.{statement_of};
-ghost use Rattle.chw_base.specs.Names.{AllOf, is_letter_or_digit, is_name_byte};
+ghost use Rattle.chw_base.specs.Names.{AllOf};
 ghost use Rattle.stimulus.specs.Texts.{texts};
 
 use crate::statement::Statement;
 use chw_base::NoMemory;
+use name_forms::forms::{are_name_bytes, is_name_byte};
 use std::alloc::Global;
 
 /// A word with which a line begins that is no row.
@@ -46,35 +47,10 @@ fn is_word(bytes: &[u8], word: &[u8]) -> bool
     bytes == word
 }
 
-fn is_letter_or_digit(byte: u8) -> bool
-    ensures { result ≡ is_letter_or_digit byte }
-{
-    (byte >= b'a' && byte <= b'z')
-        || (byte >= b'A' && byte <= b'Z')
-        || (byte >= b'0' && byte <= b'9')
-}
-
-fn is_name_byte(byte: u8) -> bool
-    ensures { result ≡ is_name_byte byte }
-{
-    is_letter_or_digit(byte) || byte == b'_'
-}
-
 fn is_mark(byte: u8) -> bool
     ensures { result ≡ is_mark byte }
 {
     byte == b'0' || byte == b'1' || byte == b'-'
-}
-
-fn are_name_bytes(bytes: &[u8]) -> bool
-    ensures { IsTrue result ↔ AllOf is_name_byte bytes.now }
-{
-    for byte in bytes {
-        if !is_name_byte(*byte) {
-            return false;
-        }
-    }
-    true
 }
 
 fn are_marks(bytes: &[u8]) -> bool

@@ -3,7 +3,7 @@
 //! Its text is read to events, and each event's outputs are printed as a line.
 #![tactic(auto)]
 
-mod cut;
+pub mod cut;
 mod event;
 pub mod fault;
 mod form;

@@ -2,80 +2,14 @@
 ghost use Rattle.std.specs.Prelude.{◌≡◌, ◌<◌, ◌≤◌, ◌↔◌, length, IsTrue, SomeIff};
 ghost use Rattle.std.specs.Char.{digit_value};
 ghost use Rattle.std.specs.Str.Parse.{digits_value, AllDigits};
-ghost use Rattle.chw_base.specs.Names.{AllOf, IsLowerWord, IsUpper, is_capital, is_letter_or_digit, is_name_byte, is_small_letter};
 ghost use Rattle.stimulus.specs.Stimulus.{IsCount, IsDomain};
 ghost use Rattle.stimulus.specs.Words.{HasDigits, IsPair};
 
 use crate::cut::{before, behind};
+use name_forms::forms::{is_lower_word, is_upper};
 
 /// The most digits of a count.
 const COUNT_DIGITS: usize = 6;
-
-fn is_capital(byte: u8) -> bool
-    ensures { result ≡ is_capital byte }
-{
-    byte >= b'A' && byte <= b'Z'
-}
-
-fn is_small_letter(byte: u8) -> bool
-    ensures { result ≡ is_small_letter byte }
-{
-    byte >= b'a' && byte <= b'z'
-}
-
-fn is_letter_or_digit(byte: u8) -> bool
-    ensures { result ≡ is_letter_or_digit byte }
-{
-    (byte >= b'a' && byte <= b'z')
-        || (byte >= b'A' && byte <= b'Z')
-        || (byte >= b'0' && byte <= b'9')
-}
-
-fn is_name_byte(byte: u8) -> bool
-    ensures { result ≡ is_name_byte byte }
-{
-    is_letter_or_digit(byte) || byte == b'_'
-}
-
-fn are_letters_or_digits(text: &[u8]) -> bool
-    ensures { IsTrue result ↔ AllOf is_letter_or_digit text.now }
-{
-    for byte in text {
-        if !is_letter_or_digit(*byte) {
-            return false;
-        }
-    }
-    true
-}
-
-fn are_name_bytes(text: &[u8]) -> bool
-    ensures { IsTrue result ↔ AllOf is_name_byte text.now }
-{
-    for byte in text {
-        if !is_name_byte(*byte) {
-            return false;
-        }
-    }
-    true
-}
-
-fn is_upper(word: &[u8]) -> bool
-    ensures { IsTrue result ↔ IsUpper word.now }
-{
-    match word {
-        [] => false,
-        [first, rest @ ..] => is_capital(*first) && are_letters_or_digits(rest),
-    }
-}
-
-fn is_lower_word(word: &[u8]) -> bool
-    ensures { IsTrue result ↔ IsLowerWord word.now }
-{
-    match word {
-        [] => false,
-        [first, rest @ ..] => is_small_letter(*first) && are_name_bytes(rest),
-    }
-}
 
 /// Whether each byte is a digit in the radix.
 fn are_digits(text: &[u8], radix: u32) -> bool

@@ -1,5 +1,4 @@
 pub mod BitDigits
-pub mod Bytes
 pub mod Defining
 pub mod DistinctCodes
 pub mod Failing

@@ -6,7 +6,7 @@ use Rattle.std.specs.Str.Parse.{digits_value, IsNumeral}
 use Rattle.std.proofs.lemmas.Int.Digits.{digits_value_more}
 use Rattle.std.proofs.lemmas.Str.Parse.{digits_value-take-le}
 use Rattle.wave_text.specs.VcdText.{IsTime, IsWidth}
-use Rattle.wave_read.proofs.Bytes.{digit_below}
+use Rattle.name_forms.proofs.Bytes.{digit_below}
 
 -- a byte that is no digit, or for which there is no room
 pub stops_here : (digits : List ℕ) (i number d : ℕ) → i < length digits → number ≡ digits_value 10 (take i digits) → d ≡ digit_value (get_or digits i 0)

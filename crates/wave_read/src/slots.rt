@@ -1,11 +1,12 @@
 //! Which words may stand in a place.
 ghost use Rattle.std.specs.Prelude.{◌↔◌, ◌≡◌, ℕ, IsTrue};
-ghost use Rattle.chw_base.specs.Names.{AllOf, is_letter_or_digit, is_name_byte};
+ghost use Rattle.chw_base.specs.Names.{AllOf};
 ghost use Rattle.verilog_text.specs.VForms.{begins_word};
 ghost use Rattle.wave_read.specs.Slots.{Fits};
 ghost use Rattle.wave_text.specs.VcdText.{IsCode, IsName, IsWidth, is_visible};
 
 use crate::numbers::width_of;
+use name_forms::forms::are_name_bytes;
 
 /// What may stand in a place: one word, or any word of a form.
 #[derive(Clone, Copy)]
@@ -49,20 +50,6 @@ fn is_visible(byte: u8) -> bool
     byte >= 33 && byte <= 126
 }
 
-fn is_letter_or_digit(byte: u8) -> bool
-    ensures { result ≡ is_letter_or_digit byte }
-{
-    (byte >= b'a' && byte <= b'z')
-        || (byte >= b'A' && byte <= b'Z')
-        || (byte >= b'0' && byte <= b'9')
-}
-
-fn is_name_byte(byte: u8) -> bool
-    ensures { result ≡ is_name_byte byte }
-{
-    is_letter_or_digit(byte) || byte == b'_'
-}
-
 fn begins_word(byte: u8) -> bool
     ensures { result ≡ begins_word byte }
 {
@@ -74,17 +61,6 @@ fn are_visible(bytes: &[u8]) -> bool
 {
     for byte in bytes {
         if !is_visible(*byte) {
-            return false;
-        }
-    }
-    true
-}
-
-fn are_name_bytes(bytes: &[u8]) -> bool
-    ensures { IsTrue result ↔ AllOf is_name_byte bytes.now }
-{
-    for byte in bytes {
-        if !is_name_byte(*byte) {
             return false;
         }
     }

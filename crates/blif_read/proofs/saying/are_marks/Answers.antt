@@ -1,7 +1,7 @@
 use Rattle.std.proofs.Common.{sym, ◌∙◌, add-one}
 use Rattle.std.proofs.lemmas.Bool.{false≢true}
 use Rattle.blif_text.specs.Statements.{is_mark}
-use Rattle.stimulus.proofs.Bytes.{passes_at, passes_more}
+use Rattle.name_forms.proofs.Bytes.{passes_at, passes_more}
 use Rattle.blif_read.proofs.saying.are_marks.Goals as goal
 
 pub returns-then-not-is_mark : goal.returns-then-not-is_mark

@@ -1,7 +1,7 @@
 use Rattle.std.proofs.Common.{sym, ◌∙◌, add-one}
 use Rattle.std.proofs.lemmas.Bool.{false≢true}
 use Rattle.wave_read.specs.Shown.{is_bit}
-use Rattle.wave_read.proofs.Bytes.{passes_at, passes_more}
+use Rattle.name_forms.proofs.Bytes.{passes_at, passes_more}
 use Rattle.wave_read.proofs.items.are_bits.Goals as goal
 
 pub returns-then-not-is_bit : goal.returns-then-not-is_bit

@@ -1,7 +1,7 @@
 use Rattle.std.proofs.Common.{sym, ◌∙◌, add-one}
 use Rattle.std.proofs.lemmas.Bool.{false≢true}
 use Rattle.wave_text.specs.VcdText.{is_visible}
-use Rattle.wave_read.proofs.Bytes.{passes_at, passes_more}
+use Rattle.name_forms.proofs.Bytes.{passes_at, passes_more}
 use Rattle.wave_read.proofs.slots.are_visible.Goals as goal
 
 pub returns-then-not-is_visible : goal.returns-then-not-is_visible

@@ -1,8 +1,8 @@
 use Rattle.std.proofs.Common.{sym, ◌∙◌, add-one}
 use Rattle.std.proofs.lemmas.Bool.{false≢true}
 use Rattle.chw_base.specs.Names.{is_letter_or_digit}
-use Rattle.stimulus.proofs.Bytes.{passes_at, passes_more}
-use Rattle.blif_read.proofs.names.are_letters_or_digits.Goals as goal
+use Rattle.name_forms.proofs.Bytes.{passes_at, passes_more}
+use Rattle.name_forms.proofs.forms.are_letters_or_digits.Goals as goal
 
 pub returns-then-not-is_letter_or_digit : goal.returns-then-not-is_letter_or_digit
 returns-then-not-is_letter_or_digit c = (

@@ -1,7 +1,7 @@
 -- each byte so far passes
 use Rattle.std.proofs.Common.{take}
 use Rattle.chw_base.specs.Names.{AllOf, is_name_byte}
-use Rattle.wave_read.proofs.slots.are_name_bytes.Given as goal
+use Rattle.name_forms.proofs.forms.are_name_bytes.Given as goal
 
 abbrev pub invariant-loop-byte : goal.invariant-loop-byte
-invariant-loop-byte l = AllOf is_name_byte (take l.byte-index l.bytes)
+invariant-loop-byte l = AllOf is_name_byte (take l.byte-index l.text)

@@ -1,8 +1,8 @@
 use Rattle.std.proofs.Common.{sym, ◌∙◌, add-one}
 use Rattle.std.proofs.lemmas.Bool.{false≢true}
 use Rattle.chw_base.specs.Names.{is_name_byte}
-use Rattle.stimulus.proofs.Bytes.{passes_at, passes_more}
-use Rattle.stimulus.proofs.words.are_name_bytes.Goals as goal
+use Rattle.name_forms.proofs.Bytes.{passes_at, passes_more}
+use Rattle.name_forms.proofs.forms.are_name_bytes.Goals as goal
 
 pub returns-then-not-is_name_byte : goal.returns-then-not-is_name_byte
 returns-then-not-is_name_byte c = (

@@ -1,7 +1,0 @@
--- each byte so far passes
-use Rattle.std.proofs.Common.{take}
-use Rattle.chw_base.specs.Names.{AllOf, is_name_byte}
-use Rattle.blif_read.proofs.saying.are_name_bytes.Given as goal
-
-abbrev pub invariant-loop-byte : goal.invariant-loop-byte
-invariant-loop-byte l = AllOf is_name_byte (take l.byte-index l.bytes)
