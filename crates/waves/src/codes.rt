@@ -2,6 +2,7 @@
 ghost use Rattle.std.specs.Prelude.{◌≡◌, ◌+◌, ◌<◌, ◌++◌, [], ◌∷◌, OnOk};
 ghost use Rattle.waves.specs.Vcd.{code_of};
 
+use crate::pieces::put_byte;
 use chw_base::NoMemory;
 
 /// How many digits there are.
@@ -12,8 +13,7 @@ fn put_digit(out: &mut Vec<u8>, digit: u64) -> Result<(), NoMemory>
     requires { digit < 94 }
     ensures { OnOk result (out.new.items ≡ out.old.items ++ (33 + digit) ∷ []) }
 {
-    out.push(b'!' + digit as u8)?;
-    Ok(())
+    put_byte(out, b'!' + digit as u8)
 }
 
 /// Writes the code of the variable of this number. It has at most ten digits.

@@ -12,6 +12,9 @@ use chw_bits::Bits;
 use chw_clock::{Event, Ports};
 use std::alloc::Global;
 
+/// How many bytes the lines of an event have room for at first.
+const FIRST_ROOM: usize = 256;
+
 /// The values that were shown, of which there are none before the first event.
 fn shown<T>(is_first: bool, values: &[T]) -> &[T]
     ensures { result.now ≡ (if is_first then [] else values.now) }
@@ -76,7 +79,7 @@ fn made_of(
 {
     let low = levels_of(alloc, ports, false, event)?;
     let high = levels_of(alloc, ports, true, event)?;
-    let mut text = Vec::new(alloc);
+    let mut text = Vec::with_capacity(alloc, FIRST_ROOM)?;
     put_time(&mut text, 2 * number)?;
     put_values(
         &mut text,

@@ -1,6 +1,6 @@
 //! The values of variables, and the lines of those that change.
-ghost use Rattle.std.specs.Prelude.{◌≡◌, ◌+◌, ◌<◌, ◌++◌, [], length, map, drop, if◌then◌else◌};
-ghost use Rattle.std.specs.Prelude.{IfOk, OnOk};
+ghost use Rattle.std.specs.Prelude.{◌≡◌, ◌+◌, ◌<◌, ◌≤◌, ◌++◌, [], length, map, drop};
+ghost use Rattle.std.specs.Prelude.{if◌then◌else◌, IfOk, OnOk, vec_capacity, vec_len};
 ghost use Rattle.chw_base.specs.declared.index.DomId.{DomId};
 ghost use Rattle.chw_bits.specs.Bitwise.{one_bit};
 ghost use Rattle.chw_clock.specs.Histories.{resets, ticks};
@@ -9,7 +9,7 @@ ghost use Rattle.waves.specs.Vcd.{value_text};
 ghost use Rattle.waves.specs.Holding.{widths};
 
 use crate::codes::put_code;
-use crate::pieces::put;
+use crate::pieces::put_byte;
 use chw_base::NoMemory;
 use chw_bits::Bits;
 use chw_clock::{Event, Port, Ports};
@@ -107,13 +107,22 @@ fn digit_of(bit: bool) -> u8
     if bit { b'1' } else { b'0' }
 }
 
+/// Writes bits as their digits, for which there is room.
+fn fill_digits(out: &mut Vec<u8>, bits: &[bool])
+    requires { vec_len out.old + length bits.now ≤ vec_capacity out.old }
+    ensures { out.new.items ≡ out.old.items ++ map digit_of bits.now }
+{
+    for bit in bits {
+        out.push_reserved(digit_of(*bit));
+    }
+}
+
 /// Writes bits as their digits.
 fn put_digits(out: &mut Vec<u8>, bits: &[bool]) -> Result<(), NoMemory>
     ensures { OnOk result (out.new.items ≡ out.old.items ++ map digit_of bits.now) }
 {
-    for bit in bits {
-        out.push(digit_of(*bit))?;
-    }
+    out.reserve(bits.len())?;
+    fill_digits(out, bits);
     Ok(())
 }
 
@@ -124,9 +133,9 @@ fn put_bits(out: &mut Vec<u8>, bits: &[bool]) -> Result<(), NoMemory>
     if bits.len() == 1 {
         return put_digits(out, bits);
     }
-    put(out, b"b")?;
+    put_byte(out, b'b')?;
     put_digits(out, bits)?;
-    put(out, b" ")?;
+    put_byte(out, b' ')?;
     Ok(())
 }
 
@@ -136,7 +145,7 @@ fn put_value(out: &mut Vec<u8>, number: u64, bits: &[bool]) -> Result<(), NoMemo
 {
     put_bits(out, bits)?;
     put_code(out, number)?;
-    put(out, b"\n")?;
+    put_byte(out, b'\n')?;
     Ok(())
 }
 

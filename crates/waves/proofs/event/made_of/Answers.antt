@@ -11,6 +11,6 @@ put_values-requires-clause-levels c = λ some.
 pub returns-clause-text : goal.returns-clause-text
 returns-clause-text c =
     made_text c.args.ports.now c.args.number _ c.args.event.now c.args.outputs.now c.deref.result.now c.deref-2.result.now c.deref-3.result.now c.as_slice.result.now
-    c.new-text.result.items c.put_time.new.out.items c.put_values.new.out.items c.put_time-2.new.out.items c.put_levels.new.out.items
-    c.new-text.ensures.items c.in_ok-put_time.ensures (c.deref.ensures.value ∙ c.in_ok-low.ensures) c.as_slice.ensures c.in_ok-put_values.ensures c.in_ok-put_time-2.ensures
+    c.in_ok-text.text.items c.put_time.new.out.items c.put_values.new.out.items c.put_time-2.new.out.items c.put_levels.new.out.items
+    c.in_ok-text.ensures.items c.in_ok-put_time.ensures (c.deref.ensures.value ∙ c.in_ok-low.ensures) c.as_slice.ensures c.in_ok-put_values.ensures c.in_ok-put_time-2.ensures
     (c.deref-2.ensures.value ∙ c.in_ok-low.ensures) (c.deref-3.ensures.value ∙ c.in_ok-high.ensures) c.in_ok-put_levels.ensures
