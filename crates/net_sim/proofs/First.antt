@@ -14,28 +14,32 @@ use Rattle.netlist.specs.NetValue.NetValue.{first, unread}
 use Rattle.netlist.specs.NetValue.WordAt.{unwritten}
 use Rattle.netlist.specs.Sound.{FitsCell, HasWidth, Sound}
 use Rattle.netlist.specs.declared.net.Cell.{Cell}
-use Rattle.netlist.specs.declared.net.Cell.TheVariants.{Reg, Ram}
+use Rattle.netlist.specs.declared.net.Cell.TheVariants.{Const, Reg, Ram}
 use Rattle.netlist.specs.declared.net.Flat.{Flat}
-use Rattle.net_sim.specs.Opening.{IsRam, IsRegister, initial_bits, initial_words}
+use Rattle.net_sim.specs.Opening.{IsRam, IsStarted, initial_bits, initial_words}
 use Rattle.net_sim.specs.Stepping.{StandsFor}
+use Rattle.net_sim.specs.Steps.{HaveConstants}
 use Rattle.net_sim.specs.Tables.{value_in}
 use Rattle.net_sim.specs.Ticking.{HaveSizes, MemoriesFit, WrittenBefore}
 use Rattle.net_sim.proofs.Cells.{cell_fits, driven_once, drives_no_input, same_cell}
 use Rattle.net_sim.proofs.Wiring.{is_wire, wire_width}
 
-pub register_cases : (cell : Cell) → IsRegister cell ⊎ (IsRegister cell → ⊥)
-register_cases (Reg w domain initial a) = inl tt
-register_cases _ = inr (λ is. is)
+pub started_cases : (cell : Cell) → IsStarted cell ⊎ (IsStarted cell → ⊥)
+started_cases (Const w bits) = inl tt
+started_cases (Reg w domain initial a) = inl tt
+started_cases _ = inr (λ is. is)
 
 pub ram_cases : (cell : Cell) → IsRam cell ⊎ (IsRam cell → ⊥)
 ram_cases (Ram w domain words inputs) = inl tt
 ram_cases _ = inr (λ is. is)
 
-pub register_there : (domains size : ℕ) (widths : List ℕ) (cell : Cell) → FitsCell domains widths cell → length widths ≡ size
-    → IsRegister cell → (w : ℕ) × (target cell ≡ Some w) × (w < size)
-register_there domains size widths (Reg w domain initial a) fits count is =
+pub started_there : (domains size : ℕ) (widths : List ℕ) (cell : Cell) → FitsCell domains widths cell → length widths ≡ size
+    → IsStarted cell → (w : ℕ) × (target cell ≡ Some w) × (w < size)
+started_there domains size widths (Const w bits) fits count is =
+    let there = is_wire widths w _ fits in (w.number, refl, omega (arith, there))
+started_there domains size widths (Reg w domain initial a) fits count is =
     let there = is_wire widths w _ fits.1 in (w.number, refl, omega (arith, there))
-register_there domains size widths _ fits count is = absurd is
+started_there domains size widths _ fits count is = absurd is
 
 pub ram_there : (domains size : ℕ) (widths : List ℕ) (cell : Cell) → FitsCell domains widths cell → length widths ≡ size
     → IsRam cell → (w : ℕ) × (target cell ≡ Some w) × (w < size)
@@ -49,8 +53,8 @@ nothing_there zero w = refl
 nothing_there (suc n) zero = refl
 nothing_there (suc n) (suc w) = nothing_there n w
 
-not_both : (w : WireId) (ram : Memory) (cell : Cell) → cell ≡ Ram w ram.domain ram.words ram.inputs → IsRegister cell → ⊥
-not_both w ram cell is register = subst IsRegister is register
+not_both : (w : WireId) (ram : Memory) (cell : Cell) → cell ≡ Ram w ram.domain ram.words ram.inputs → IsStarted cell → ⊥
+not_both w ram cell is started = subst IsStarted is started
 
 -- the words of a memory that was loaded for a wire
 loaded : (flat : Flat) (memories : List (List (List Bool))) → Sound flat
@@ -60,7 +64,7 @@ loaded flat memories sound load = λ w ram has.
     ap length (load.items has.0 w.number (Ram w ram.domain ram.words ram.inputs) (slice_get_within flat.cells has.0 _ has.1) has.1 tt refl)
 
 pub stands_first : (flat : Flat) (table : List (List Bool)) (memories : List (List (List Bool))) → Sound flat
-    → WrittenBefore (List Bool) [] IsRegister (λ w cell old. initial_bits cell) flat (map (λ n. bits_of n 0) flat.widths) table (length flat.cells)
+    → WrittenBefore (List Bool) [] IsStarted (λ w cell old. initial_bits cell) flat (map (λ n. bits_of n 0) flat.widths) table (length flat.cells)
     → WrittenBefore (List (List Bool)) [] IsRam (λ w cell old. initial_words cell) flat (replicate (length flat.widths) []) memories (length flat.cells)
     → StandsFor flat table memories []
 stands_first flat table memories sound started load = record {
@@ -73,7 +77,7 @@ stands_first flat table memories sound started load = record {
       let there = is_wire flat.widths w wide.0 wide.1 in
       let shown : value_in table w.number ≡ zeros wide.0 =
       started.others w.number
-      (λ j cell lt at register t. not_both w ram cell (same_cell flat w.number cell (Ram w ram.domain ram.words ram.inputs) sound (j, at) t has refl) register)
+      (λ j cell lt at is t. not_both w ram cell (same_cell flat w.number cell (Ram w ram.domain ram.words ram.inputs) sound (j, at) t has refl) is)
       ∙ get_or-map (λ n. bits_of n 0) flat.widths w.number 0 [] there
       ∙ ap zeros (get_or_from_slice_get flat.widths w.number wide.0 0 wide.1) in
       subst (NetValue flat (present ∷ []) w.number) (sym shown) (unread w ram wide.0 (present ∷ []) has wide.1 refl);
@@ -82,6 +86,13 @@ stands_first flat table memories sound started load = record {
       subst (WordAt flat ram (present ∷ []) address) (sym (ap (λ m. value_in m address) is))
       (unwritten ram (present ∷ []) address (value_in ram.words address) refl (slice_get-get_or ram.words address [] lt));
 }
+
+-- the wires of constants have their bits
+pub constants_first : (flat : Flat) (table : List (List Bool))
+    → WrittenBefore (List Bool) [] IsStarted (λ w cell old. initial_bits cell) flat (map (λ n. bits_of n 0) flat.widths) table (length flat.cells)
+    → HaveConstants flat table
+constants_first flat table started = λ w bits has.
+    started.items has.0 w.number (Const w bits) (slice_get_within flat.cells has.0 _ has.1) has.1 tt refl
 
 pub sizes_first : (flat : Flat) (memories : List (List (List Bool))) → Sound flat
     → WrittenBefore (List (List Bool)) [] IsRam (λ w cell old. initial_words cell) flat (replicate (length flat.widths) []) memories (length flat.cells)

@@ -64,7 +64,7 @@ have_widths [] (bits ∷ inputs) have = absurd have
 have_widths (port ∷ ports) [] have = absurd have
 have_widths (port ∷ ports) (bits ∷ inputs) have = ap (λ n. n ∷ map length inputs) have.0 ∙ ap (λ ns. port.width ∷ ns) (have_widths ports inputs have.1)
 
-inputs_count : (flat : Flat) (event : Event) → HaveWidths flat.ports.inputs event.inputs → length event.inputs ≡ length flat.ports.inputs
+pub inputs_count : (flat : Flat) (event : Event) → HaveWidths flat.ports.inputs event.inputs → length event.inputs ≡ length flat.ports.inputs
 inputs_count flat event have =
     sym (length-map event.inputs length) ∙ ap length (have_widths flat.ports.inputs event.inputs have)
     ∙ length-map flat.ports.inputs (λ (port : Port). port.width)

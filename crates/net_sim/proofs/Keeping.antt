@@ -5,7 +5,7 @@ use Rattle.std.proofs.lemmas.Nat.{pow_pos}
 use Rattle.chw_bits.specs.Bits.{bit_of, bits_of, number_of}
 use Rattle.chw_bits.proofs.WordResults.{number_kept}
 use Rattle.chw_bits.proofs.Numbers.{bit_of_past, length-bits_of}
-use Rattle.net_sim.specs.Kept.{IsKept, IsList, IsNumber, kept_bits}
+use Rattle.net_sim.specs.Kept.{IsKept, IsLarge, IsList, IsNumber, kept_bits}
 use Rattle.net_sim.specs.declared.word.Kept.{Kept}
 use Rattle.net_sim.specs.declared.word.Kept.TheVariants.{Small, Narrow, Wide}
 
@@ -38,7 +38,12 @@ small_known kept width number bits is own view =
 pub narrow_known : (kept : Kept) (width : ℕ) (number : Box ℕ) (bits : List Bool) → kept ≡ Narrow width number → IsKept kept
     → kept_bits kept ≡ bits → Numbered 128 width number.value bits
 narrow_known kept width number bits is own view =
-    number_known 128 width number.value bits (subst IsKept is own) (sym (ap kept_bits is) ∙ view)
+    let large : IsLarge width number.value = subst IsKept is own in
+    number_known 128 width number.value bits large.is (sym (ap kept_bits is) ∙ view)
+
+-- a narrow word whose number is in a box has more than 64 bits
+pub large_known : (kept : Kept) (width : ℕ) (number : Box ℕ) → kept ≡ Narrow width number → IsKept kept → 64 < width
+large_known kept width number is own = let large : IsLarge width number.value = subst IsKept is own in large.large
 
 -- a word that isn't kept as a list is narrow
 pub is_narrow : (kept : Kept) (bits : List Bool) → IsKept kept → kept_bits kept ≡ bits → ((list : Box (Vec Bool)) → kept ≡ Wide list → ⊥)
@@ -50,6 +55,18 @@ is_narrow (Narrow width number) bits own view unlike =
     let known = narrow_known (Narrow width number) width number bits refl own view in
     omega (arith, known.count, known.narrow)
 is_narrow (Wide list) bits own view unlike = absurd (unlike list refl)
+
+-- a word of at most 64 bits is kept as its number, in the word itself
+pub is_small : (kept : Kept) (bits : List Bool) → IsKept kept → kept_bits kept ≡ bits → ((width number : ℕ) → kept ≡ Small width number → ⊥)
+    → length bits ≤ 64 → ⊥
+is_small (Small width number) bits own view unlike le = unlike width number refl
+is_small (Narrow width number) bits own view unlike le =
+    let known = narrow_known (Narrow width number) width number bits refl own view in
+    let large = large_known (Narrow width number) width number refl own in
+    omega (arith, known.count, large, le)
+is_small (Wide list) bits own view unlike le =
+    let known : IsList list.value.items = own in
+    omega (arith, known.wide, ap length view, le)
 
 -- what is known of a number that was read of such a word
 pub record IsRead (number : ℕ) (bits : List Bool) : Type 0 where

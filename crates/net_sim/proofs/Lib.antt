@@ -17,3 +17,7 @@ pub mod First
 pub mod Listing
 pub mod Domains
 pub mod OutputBits
+pub mod Constants
+pub mod Masks
+pub mod Steps
+pub mod Planned

@@ -36,7 +36,7 @@ keeps_cases (Use m reads drives) = inr (λ keeps. keeps)
 keeps_cases _ = inl tt
 
 -- a cell that keeps nothing drives a wire
-has_target : (cell : Cell) → KeepsNothing cell → (w : ℕ) × (target cell ≡ Some w)
+pub has_target : (cell : Cell) → KeepsNothing cell → (w : ℕ) × (target cell ≡ Some w)
 has_target (Const w bits) keeps = (w.number, refl)
 has_target (Copy w a) keeps = (w.number, refl)
 has_target (Join w parts) keeps = (w.number, refl)

@@ -15,6 +15,11 @@ pub record IsNumber (most width number : ℕ) : Type 0 where
   pub narrow : width ≤ most
   pub below : number < 2 ^ width
 
+-- the width is above 64 and at most 128, and the number is below 2 to the width
+pub record IsLarge (width number : ℕ) : Type 0 where
+  pub large : 64 < width
+  pub is : IsNumber 128 width number
+
 -- the list is wide, and has fewer than 2 to the 32 bits
 pub record IsList (list : List Bool) : Type 0 where
   pub wide : 128 < length list
@@ -23,5 +28,5 @@ pub record IsList (list : List Bool) : Type 0 where
 -- the word is kept as its width says
 abbrev pub IsKept : Kept → Type 0
 IsKept (Small width number) = IsNumber 64 width number
-IsKept (Narrow width number) = IsNumber 128 width number.value
+IsKept (Narrow width number) = IsLarge width number.value
 IsKept (Wide list) = IsList list.value.items

@@ -4,6 +4,7 @@ pub mod Operands
 pub mod Parts
 pub mod Stepping
 pub mod Settling
+pub mod Steps
 pub mod Ticking
 pub mod Sims
 pub mod Opening

@@ -2,6 +2,7 @@
 use Rattle.std.specs.Prelude.{◌≡◌, ℕ, Bool, List, length, map}
 use Rattle.chw_clock.specs.declared.event.Event.{Event}
 use Rattle.net_sim.specs.Stepping.{Settled, ShowsValues, StandsFor, word_in}
+use Rattle.net_sim.specs.Steps.{HaveConstants, HaveSteps}
 use Rattle.net_sim.specs.Tables.{value_in}
 use Rattle.net_sim.specs.Ticking.{HaveKeepers, HaveSizes, MemoriesFit}
 use Rattle.net_sim.specs.declared.sim.Sim.{Sim}
@@ -33,13 +34,16 @@ SimShows sim h = ShowsValues sim.flat.now sim.words.items h
 abbrev pub SimGives : Sim → List Event → Type 0
 SimGives sim h = ReadValues sim.flat.now h sim.flat.now.outputs sim.outputs.items
 
--- The net is sound, the order is one of its cells, and the table has words of the wires' widths,
--- a memory for each RAM, and bits of the outputs' widths.
+-- The net is sound, the order is one of its cells, and there is a step for each of them. The table
+-- has words of the wires' widths with the bits of all constants, a memory for each RAM, and bits of
+-- the outputs' widths.
 pub record IsTable (sim : Sim) : Type 0 where
   pub sound : Sound sim.flat.now
   pub order : IsOrder sim.flat.now sim.order.now.cells
+  pub steps : HaveSteps sim.flat.now sim.order.now.cells sim.steps.items
   pub keepers : HaveKeepers sim.flat.now sim.keepers.items (length sim.flat.now.cells)
   pub widths : map length sim.words.items ≡ sim.flat.now.widths
+  pub constants : HaveConstants sim.flat.now sim.words.items
   pub next : map length sim.next.items ≡ map length sim.words.items
   pub memories : MemoriesFit sim.words.items sim.memories.items
   pub sizes : HaveSizes sim.flat.now sim.memories.items

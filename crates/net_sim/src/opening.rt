@@ -1,7 +1,7 @@
 //! A table before any event.
 ghost use Rattle.std.specs.Prelude.{◌≡◌, ℕ, ◌+◌, ◌<◌, Bool, List, [], length, map, replicate, IfOk, OnOk};
 ghost use Rattle.chw_bits.specs.Bits.{bits_of};
-ghost use Rattle.net_sim.specs.Opening.{IsRam, IsRegister, initial_bits, initial_words};
+ghost use Rattle.net_sim.specs.Opening.{IsRam, IsStarted, initial_bits, initial_words};
 ghost use Rattle.net_sim.specs.Ticking.{HaveKeepers, Writes, WrittenBefore};
 ghost use Rattle.netlist.specs.Sound.{FitsCell, Sound};
 
@@ -26,23 +26,25 @@ pub(crate) fn zero_words(alloc: Global, widths: &[u32]) -> Result<Vec<Word>, NoM
     Ok(words)
 }
 
-// Puts a register's initial bits.
+// Puts the bits of a constant, or a register's initial bits.
 fn start(cell: &Cell, words: &mut [Word])
     requires { (domains : ℕ) × FitsCell domains (map length words.old) cell.now }
-    ensures started { Writes (List Bool) [] IsRegister (λ w cell old. initial_bits cell) cell.now
+    ensures started { Writes (List Bool) [] IsStarted (λ w cell old. initial_bits cell) cell.now
         words.old words.new }
     ensures widths { map length words.new ≡ map length words.old }
 {
-    if let Cell::Reg(w, _, initial, _) = cell {
-        put_bits_at(words, *w, initial.as_slice());
+    match cell {
+        Cell::Const(w, bits) => put_bits_at(words, *w, bits.as_slice()),
+        Cell::Reg(w, _, initial, _) => put_bits_at(words, *w, initial.as_slice()),
+        _ => {}
     }
 }
 
-// Puts the initial bits of all registers.
+// Puts the bits of all constants, and the initial bits of all registers.
 fn start_all(flat: &Flat, words: &mut [Word])
     requires sound { Sound flat.now }
     requires table { map length words.old ≡ flat.now.widths }
-    ensures started { WrittenBefore (List Bool) [] IsRegister (λ w cell old. initial_bits cell) flat.now
+    ensures started { WrittenBefore (List Bool) [] IsStarted (λ w cell old. initial_bits cell) flat.now
         words.old words.new (length flat.now.cells) }
     ensures widths { map length words.new ≡ map length words.old }
 {
@@ -51,10 +53,10 @@ fn start_all(flat: &Flat, words: &mut [Word])
     }
 }
 
-/// The words of all wires: the initial bits of registers, and zeros.
+/// The words of all wires: the bits of constants, the initial bits of registers, and zeros.
 pub(crate) fn first_words(alloc: Global, flat: &Flat) -> Result<Vec<Word>, NoMemory>
     requires { Sound flat.now }
-    ensures started { IfOk result (λ v. WrittenBefore (List Bool) [] IsRegister
+    ensures started { IfOk result (λ v. WrittenBefore (List Bool) [] IsStarted
         (λ w cell old. initial_bits cell) flat.now (map (λ n. bits_of n 0) flat.now.widths) v.items
         (length flat.now.cells)) }
     ensures widths { IfOk result (λ v. map length v.items ≡ flat.now.widths) }

@@ -12,7 +12,9 @@ use crate::keepers::Keepers;
 use crate::memory::Memory;
 use crate::opening::{first_memories, first_outputs, first_words, list_keepers, zero_words};
 use crate::outputs::put_outputs;
+use crate::planning::steps_of;
 use crate::room::ROOM;
+use crate::step::Step;
 use crate::tick::advance;
 use crate::word::Word;
 use crate::words::bits_at;
@@ -27,6 +29,8 @@ use std::alloc::Global;
 pub struct Sim<'a> {
     pub(crate) flat: &'a Flat,
     pub(crate) order: &'a Order,
+    /// What settles the wires of the cells, in their order.
+    pub(crate) steps: Vec<Step>,
     /// The places of all registers and RAMs, by their domains.
     pub(crate) keepers: Vec<Keepers>,
     /// The words of the wires, by their numbers.
@@ -50,6 +54,7 @@ impl<'a> Sim<'a> {
         ensures net { IfOk result (λ sim. sim.flat.now ≡ flat.now) }
         ensures past { IfOk result (λ sim. SimStandsFor sim []) }
     {
+        let steps = steps_of(alloc, flat, order)?;
         let keepers = list_keepers(alloc, flat)?;
         let words = first_words(alloc, flat)?;
         let next = zero_words(alloc, flat.widths.as_slice())?;
@@ -59,6 +64,7 @@ impl<'a> Sim<'a> {
         Ok(Sim {
             flat,
             order,
+            steps,
             keepers,
             words,
             next,
@@ -86,6 +92,7 @@ impl<'a> Sim<'a> {
         enter(
             self.flat,
             self.order,
+            self.steps.as_slice(),
             event,
             &mut self.words,
             &mut self.room,

@@ -12,10 +12,11 @@ use std::marker::Model;
 /// The widest word that is kept as its number.
 pub(crate) const NARROW: u32 = 128;
 
-// The widest word whose number is kept in the word itself.
-const SMALL: u32 = 64;
+/// The widest word whose number is kept in the word itself.
+pub(crate) const SMALL: u32 = 64;
 
-// How a word is kept: as its width and its number, or as the list of its bits.
+// How a word is kept: as its width and its number, or as the list of its bits. The number of a
+// small word stands in the word itself, and that of another narrow one in a box.
 #[derive(Debug, Drop)]
 enum Kept {
     Small(u32, u64),
@@ -102,6 +103,19 @@ impl Word {
         }
     }
 
+    /// The number of a small word.
+    pub(crate) fn small(&self) -> u64
+        requires { length self.now ≤ 64 }
+        ensures bits { self.now ≡ bits_of (length self.now) result }
+        ensures below { result < 2 ^ length self.now }
+        ensures number { result ≡ number_of self.now }
+    {
+        match &self.kept {
+            Kept::Small(_, number) => *number,
+            _ => unreachable!(),
+        }
+    }
+
     /// The bits of a wide word.
     pub(crate) fn list(&self) -> &[bool]
         requires { 128 < length self.now }
@@ -147,6 +161,18 @@ impl Word {
             Kept::Small(_, number) => *number = n as u64,
             Kept::Narrow(_, number) => **number = n,
             Kept::Wide(_) => {}
+        }
+    }
+
+    /// Makes a small word the one of a number.
+    pub(crate) fn put_small(&mut self, n: u64)
+        requires small { length self.old ≤ 64 }
+        requires below { n < 2 ^ length self.old }
+        ensures { self.new ≡ bits_of (length self.old) n }
+    {
+        match &mut self.kept {
+            Kept::Small(_, number) => *number = n,
+            _ => unreachable!(),
         }
     }
 
@@ -199,10 +225,13 @@ impl Word {
         requires { length other.now ≡ length self.old }
         ensures { self.new ≡ other.now }
     {
-        if self.len() > NARROW {
-            self.put_list(other.list());
-        } else {
+        let width = self.len();
+        if width <= SMALL {
+            self.put_small(other.small());
+        } else if width <= NARROW {
             self.put_number(other.number());
+        } else {
+            self.put_list(other.list());
         }
     }
 }

@@ -40,7 +40,7 @@ pub(crate) fn chosen(words: &[Word], on: WireId, first: WireId, second: WireId) 
         ≡ (if number_of (value_in words.now on.number) == 1 then value_in words.now first.number
         else value_in words.now second.number) }
 {
-    if word_at(words, on).number() == 1 {
+    if word_at(words, on).small() == 1 {
         first
     } else {
         second
@@ -65,6 +65,18 @@ pub(crate) fn put_number_at(words: &mut [Word], w: WireId, n: u128)
     ensures widths { map length words.new ≡ map length words.old }
 {
     words[w.number as usize].put_number(n);
+}
+
+/// Makes the small word of a wire the one of a number.
+pub(crate) fn put_small_at(words: &mut [Word], w: WireId, n: u64)
+    requires wire { IsWire (map length words.old) w }
+    requires small { length (value_in words.old w.number) ≤ 64 }
+    requires below { n < 2 ^ length (value_in words.old w.number) }
+    ensures word { words.new
+        ≡ slice_set words.old w.number (bits_of (length (value_in words.old w.number)) n) }
+    ensures widths { map length words.new ≡ map length words.old }
+{
+    words[w.number as usize].put_small(n);
 }
 
 /// Puts these bits in place of those of a wire.

@@ -1,9 +1,11 @@
 use Rattle.std.proofs.Common.{◌≡◌, ◌∷◌, length, map, sym, ap, subst, ◌∙◌}
 use Rattle.std.proofs.lemmas.List.{with_items_is}
 use Rattle.net_sim.specs.Stepping.{ShowsValues, StandsFor}
+use Rattle.net_sim.specs.Steps.{HaveConstants, HaveSteps}
 use Rattle.net_sim.specs.Tables.{values_in}
 use Rattle.net_sim.specs.Ticking.{MemoriesFit}
 use Rattle.netlist.specs.NetValue.{ReadValues}
+use Rattle.net_sim.proofs.Constants.{constants_settled}
 use Rattle.net_sim.proofs.Kept.{stands_kept}
 use Rattle.net_sim.proofs.Moving.{fit_along}
 use Rattle.net_sim.proofs.OutputBits.{gives, output_widths}
@@ -23,8 +25,11 @@ returns-clause-table c =
     record {
       sound = table.sound;
       order = table.order;
+      steps = table.steps;
       keepers = table.keepers;
       widths = ap (map length) is ∙ widths ∙ table.widths;
+      constants = subst (HaveConstants old.flat.now) (sym is)
+          (constants_settled old.flat.now c.args.event.now c.enter.new.words c.enter.ensures.settled);
       next = table.next ∙ sym widths ∙ sym (ap (map length) is);
       memories = subst (λ l. MemoriesFit l old.memories.items) (sym is) (fit_along old.words.items c.enter.new.words old.memories.items (sym widths) table.memories);
       sizes = table.sizes;
@@ -64,3 +69,12 @@ returns-clause-outputs c = λ past stands.
     subst (ReadValues flat (c.args.event.now ∷ past) flat.outputs)
     (sym (outs ∙ c.put_outputs.ensures ∙ ap (λ l. values_in l flat.outputs) (c.deref.ensures.value ∙ is)))
     (gives flat c.enter.new.words (c.args.event.now ∷ past) c.requires.table.sound shows)
+
+pub enter-requires-clause-steps : goal.enter-requires-clause-steps
+enter-requires-clause-steps c =
+    let old = c.args.self.now in
+    subst (HaveSteps old.flat.now old.order.now.cells) (sym c.as_slice.ensures.value) c.requires.table.steps
+
+pub enter-requires-clause-constants : goal.enter-requires-clause-constants
+enter-requires-clause-constants c =
+    subst (HaveConstants c.args.self.now.flat.now) (sym c.deref_mut.ensures.value) c.requires.table.constants

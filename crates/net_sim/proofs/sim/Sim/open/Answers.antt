@@ -1,6 +1,6 @@
 use Rattle.std.proofs.Common.{length, map, sym, ap, ◌∙◌}
 use Rattle.chw_bits.specs.Bits.{bits_of}
-use Rattle.net_sim.proofs.First.{fit_first, sizes_first, stands_first, zero_widths}
+use Rattle.net_sim.proofs.First.{constants_first, fit_first, sizes_first, stands_first, zero_widths}
 use Rattle.net_sim.proofs.sim.Sim.open.Goals as goal
 
 pub returns-clause-table : goal.returns-clause-table
@@ -10,8 +10,10 @@ returns-clause-table c =
     record {
       sound = sound;
       order = c.requires.order;
+      steps = c.in_ok-steps.ensures;
       keepers = c.in_ok-keepers.ensures;
       widths = c.in_ok-words.ensures.widths;
+      constants = constants_first flat c.in_ok-words.words.items c.in_ok-words.ensures.started;
       next =
           ap (map length) (c.in_ok-next.ensures ∙ ap (map (λ n. bits_of n 0)) c.as_slice.ensures) ∙ zero_widths flat.widths
           ∙ sym c.in_ok-words.ensures.widths;

@@ -1,6 +1,8 @@
 use Rattle.std.proofs.Common.{◌∷◌, length, map, sym, ap, subst, ◌∙◌}
 use Rattle.std.proofs.lemmas.List.{with_items_is}
+use Rattle.net_sim.specs.Steps.{HaveConstants}
 use Rattle.net_sim.specs.Ticking.{HaveSizes}
+use Rattle.net_sim.proofs.Constants.{constants_after}
 use Rattle.net_sim.proofs.Kept.{fit_both, stands_both, step_along}
 use Rattle.net_sim.proofs.Stepped.{sizes_after, stands_after}
 use Rattle.net_sim.proofs.Values.{every_value}
@@ -18,8 +20,11 @@ returns-clause-table c =
     record {
       sound = table.sound;
       order = table.order;
+      steps = table.steps;
       keepers = table.keepers;
       widths = ap (map length) is ∙ c.advance.ensures.widths ∙ ap (map length) c.deref_mut.ensures.value ∙ table.widths;
+      constants = subst (HaveConstants old.flat.now) (sym is)
+          (constants_after old.flat.now c.args.event.now old.words.items c.advance.new.words old.memories.items c.advance.new.memories table.constants step);
       next = ap (map length) next ∙ c.advance.ensures.next ∙ sym c.advance.ensures.widths ∙ sym (ap (map length) is);
       memories =
           fit_both c.advance.new.words _ c.advance.new.memories _ is all c.advance.ensures.memories;

@@ -2,7 +2,7 @@ use Rattle.std.proofs.Common.{◌<◌, ◌^◌, sym, ap, ◌∙◌, subst, arith
 use Rattle.chw_bits.specs.Bits.{bits_of}
 use Rattle.chw_bits.proofs.Numbers.{lt-pow}
 use Rattle.net_sim.specs.Kept.{kept_bits}
-use Rattle.net_sim.proofs.Keeping.{list_known, narrow_known, small_known}
+use Rattle.net_sim.proofs.Keeping.{large_known, list_known, narrow_known, small_known}
 use Rattle.net_sim.proofs.word.Word.put_number.Goals as goal
 use Rattle.net_sim.proofs.word.Word.put_number.Goals.{in-Small, in-Narrow, in-Wide}
 
@@ -19,7 +19,9 @@ invariant_of-self c =
           rw w.self-inside-is (record { narrow = own.narrow; below = subst (λ k. c.args.n < 2 ^ k) (sym own.count) c.requires.below })
       | in-Narrow w ↦
           let own = narrow_known _ _ _ _ w.in-Narrow.is c.self.invariant c.self.view_is in
-          rw w.self-inside-is (record { narrow = own.narrow; below = subst (λ k. c.args.n < 2 ^ k) (sym own.count) c.requires.below })
+          let below = subst (λ k. c.args.n < 2 ^ k) (sym own.count) c.requires.below in
+          rw w.self-inside-is
+          (record { large = large_known _ _ _ w.in-Narrow.is c.self.invariant; is = record { narrow = own.narrow; below = below } })
       | in-Wide w ↦ rw w.self-inside-is c.self.invariant
     ]
 
