@@ -1,28 +1,37 @@
 //! The table of widths.
-ghost use Rattle.std.specs.Prelude.{◌≡◌, ◌<◌, ◌^◌, length, IfOk, OnOk};
+ghost use Rattle.std.specs.Prelude.{◌≡◌, IfOk, IfSome};
 ghost use Rattle.chw_base.specs.Outcome.{IfFault};
 ghost use Rattle.chw_types.specs.References.{HasNoCycle};
 ghost use Rattle.chw_layout.specs.Measured.{HasWidth};
 ghost use Rattle.chw_layout.specs.Refusals.{IsRefusal};
-ghost use Rattle.type_widths.specs.Known.{IsOutcome, Keeps, KeepsKnown};
+ghost use Rattle.type_widths.specs.Outcomes.{IsOutcomeOf};
 
-use crate::outcome::{Outcome, measured, told};
+use crate::measuring::closed_outcome;
+use crate::outcome::{Outcome, told};
 use chw_base::{NoMemory, Or};
 use chw_layout::NoLayout;
+use chw_layout::laws::measured_types;
 use chw_types::{Data, Ty};
+use indexmap::IndexMap;
 use std::alloc::Global;
 use std::marker::Model;
-use type_numbers::TypeTable;
+
+/// A data type at arguments of these outcomes.
+#[derive(PartialEq, Eq, Hash, Drop)]
+pub(crate) struct Instance {
+    pub(crate) at: u32,
+    pub(crate) outs: Vec<Outcome>,
+}
 
 /// The widths of types over the data types of a program. Contracts see the data types.
 ///
-/// A type is measured when it is first asked for. Equal types are measured once.
+/// A type is measured when it is first asked for. Each data type is looked at once for arguments of
+/// the same outcomes, whatever types ask for it.
 #[derive(Drop)]
 pub struct Widths<'a> {
     datas: &'a [Data],
-    types: TypeTable,
-    /// What each type comes to, by its number in the table, where it is known.
-    known: Vec<Option<Outcome>>,
+    /// What data types come to, where that is known.
+    known: IndexMap<Instance, Outcome>,
 }
 
 impl<'a> Model for Widths<'a> {
@@ -40,7 +49,7 @@ impl<'a> Model for Widths<'a> {
 
     ghost view = { λ w. w.datas.now };
 
-    ghost invariant = { λ w. HasNoCycle w.datas.now × AreRight w.datas.now w.types w.known.items };
+    ghost invariant = { λ w. HasNoCycle w.datas.now × AreRight w.datas.now w.known.entries };
 }
 
 impl<'a> Widths<'a> {
@@ -51,8 +60,7 @@ impl<'a> Widths<'a> {
     {
         Widths {
             datas,
-            types: TypeTable::new(alloc),
-            known: Vec::new(alloc),
+            known: IndexMap::new(alloc),
         }
     }
 
@@ -66,51 +74,29 @@ impl<'a> Widths<'a> {
 
     /// How many bits each value of a closed type has, or why there is no such number, as
     /// `chw_layout::width` says.
-    ///
-    /// A type past those that can be numbered finds no memory.
     pub fn width(&mut self, alloc: Global, t: &Ty) -> Result<u32, Or<NoLayout>>
         ensures width { IfOk result (λ w. HasWidth self.old t.now w) }
         ensures refused { IfFault result (IsRefusal self.old t.now) }
         ensures same { self.new ≡ self.old }
     {
-        let outcome = self.outcome_of(alloc, t)?;
+        measured_types();
+        let outcome = closed_outcome(alloc, t, self)?;
         told(outcome)
     }
 
-    // What a closed type comes to.
-    fn outcome_of(&mut self, alloc: Global, t: &Ty) -> Result<Outcome, NoMemory>
-        ensures outcome { IfOk result (IsOutcome self.old t.now) }
-        ensures same { self.new ≡ self.old }
+    // What a data type comes to at arguments of these outcomes, where that is known.
+    pub(crate) fn recall(&self, instance: &Instance) -> Option<Outcome>
+        ensures { IfSome result (IsOutcomeOf self.now instance.now.at instance.now.outs.items) }
     {
-        let number = self.types.put(t)? as usize;
-        if let Some(Some(outcome)) = self.known.get(number) {
-            return Ok(*outcome);
-        }
-        let outcome = measured(alloc, t, self.datas)?;
-        keep(&mut self.known, number, outcome)?;
-        Ok(outcome)
+        self.known.get(instance).copied()
     }
-}
 
-// Makes a place for what the type of this number comes to.
-fn make_place(known: &mut Vec<Option<Outcome>>, number: usize) -> Result<(), NoMemory>
-    requires { number < 2 ^ 32 }
-    ensures kept { KeepsKnown known.old.items known.new.items }
-    ensures place { OnOk result (number < length known.new.items) }
-{
-    if number < known.len() {
-        return Ok(());
+    // Keeps what a data type comes to at arguments of these outcomes.
+    pub(crate) fn remember(&mut self, instance: Instance, outcome: Outcome) -> Result<(), NoMemory>
+        requires { IsOutcomeOf self.old instance.at instance.outs.items outcome }
+        ensures { self.new ≡ self.old }
+    {
+        self.known.insert(instance, outcome)?;
+        Ok(())
     }
-    known.resize(number + 1, None)?;
-    Ok(())
-}
-
-// Keeps what the type of this number comes to.
-fn keep(known: &mut Vec<Option<Outcome>>, number: usize, outcome: Outcome) -> Result<(), NoMemory>
-    requires { number < 2 ^ 32 }
-    ensures { Keeps number outcome known.old.items known.new.items }
-{
-    make_place(known, number)?;
-    known[number] = Some(outcome);
-    Ok(())
 }
