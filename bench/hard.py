@@ -101,11 +101,30 @@ def port_down(levels, wrapped, first="a"):
     return datas + f"def main : {t} -> Signal Sys Bool = \\(x : {t}) . pure @Sys @Bool True;\ntop main (x) (o);\n"
 
 
+def port_of(leaves):
+    """A top with a port of these leaves."""
+    fields = " ".join(f"(Signal Sys {leaf})" for leaf in leaves)
+    names = ", ".join(f"i{i}" for i in range(len(leaves)))
+    return f"data W = W {fields};\ndef main : W -> Signal Sys Bool = \\(x : W) . pure @Sys @Bool True;\ntop main ({names}) (o);\n"
+
+
+def chain(types):
+    """Data types, each with 41 fields of the one before it."""
+    return "data E0 = E0;\n" + "".join(f"data E{i} = E{i} {' '.join([f'E{i - 1}'] * 41)};\n" for i in range(1, types))
+
+
 def leaves_over_data_types(types, leaves):
-    datas = "data E0 = E0;\n" + "".join(f"data E{i} = E{i} {' '.join([f'E{i - 1}'] * 40)} E{i - 1};\n" for i in range(1, types))
-    fields = " ".join([f"(Signal Sys E{types - 1})"] * leaves)
-    names = ", ".join(f"i{i}" for i in range(leaves))
-    return datas + f"data W = W {fields};\ndef main : W -> Signal Sys Bool = \\(x : W) . pure @Sys @Bool True;\ntop main ({names}) (o);\n"
+    return chain(types) + port_of([f"E{types - 1}"] * leaves)
+
+
+def leaves_of_each_type(types, leaves):
+    return chain(types) + port_of([f"E{i % types}" for i in range(leaves)])
+
+
+def leaves_of_each_application(types, leaves):
+    """The same, where each data type has a parameter that it hands on."""
+    datas = "data E0 (a : Val) = E0;\n" + "".join(f"data E{i} (a : Val) = E{i} {' '.join([f'(E{i - 1} a)'] * 41)};\n" for i in range(1, types))
+    return datas + port_of([f"(E{i % types} Bool)" for i in range(leaves)])
 
 
 def naturals(variables, degree, count, squares=False):
@@ -141,6 +160,9 @@ SHAPES = {
     "a port that doubles, 40 levels": lambda: port_down(40, "(T a a)", "(Signal Sys Bool)"),
     "9,000 leaves over 40 data types": lambda: leaves_over_data_types(40, 9000),
     "9,000 leaves over 1,000 data types": lambda: leaves_over_data_types(1000, 9000),
+    "9,000 leaves of each of 40 data types": lambda: leaves_of_each_type(40, 9000),
+    "9,000 leaves of each of 1,000 data types": lambda: leaves_of_each_type(1000, 9000),
+    "9,000 leaves of each of 1,000 data types with a parameter": lambda: leaves_of_each_application(1000, 9000),
     "40 variables to the third, 100 times": lambda: naturals(40, 3, 100),
     "120 squares, 100 times": lambda: naturals(120, 1, 100, True),
     "70 variables to the third, 2 times": lambda: naturals(70, 3, 2),
