@@ -1,5 +1,6 @@
 //! Rows of stimuli: the events of a text, or the line that isn't taken, and the printed lines. Rows
-//! of waves: the variables and times of a text, or its fault.
+//! of waves: the variables and times of a text, or its fault. Rows of nets of single bits: the net
+//! of a text, or its fault.
 //!
 //! `read "DOMAINS" "INPUTS" "TEXT"` gives the events of the text, each run of equal ones behind its
 //! count, or the fault. `lines "DOMAINS" "INPUTS" "OUTPUTS" "TEXT"` prints the lines of its events,
@@ -10,15 +11,21 @@
 //! of variables and their values. Or it gives the fault.
 //!
 //! `value "VAR" "TIME" "TEXT"` gives the value of the variable of this number at this time.
+//!
+//! `net "TEXT"` gives the net of single bits of the text as it is printed, with `; ` between lines.
+//! Or it gives the fault.
 #![tactic(auto)]
 
+mod net_rows;
 mod ports;
 mod wave_rows;
 
+use blif_text::laws::{no_text_is_both as no_text_of_bits_is_both, one_bitnet};
 use chw_base::limits::DOMAINS;
 use chw_base::{DomId, NoMemory, Or, Seq};
 use chw_bits::Bits;
 use chw_clock::Event;
+use net_rows::put_net;
 use ports::{ports_of, quoted};
 use row_tables::{Unread, bytes_of, print_rows, put, put_bytes, put_number};
 use std::alloc::Global;
@@ -36,6 +43,8 @@ fn main(rt: HostRuntime) -> io::Result<()> {
     no_text_is_both();
     printed_waves_are_read();
     waves_have_the_values();
+    one_bitnet();
+    no_text_of_bits_is_both();
     print_rows(&rt, answer)
 }
 
@@ -49,6 +58,7 @@ fn answer(alloc: Global, call: &str, text: &str, out: &mut Vec<u8>) -> Result<()
         }
         ("wave", [text]) => put_read(alloc, text, out),
         ("value", [var, time, text]) => put_value(alloc, var, time, text, out),
+        ("net", [text]) => put_net(alloc, text, out),
         _ => Err(Or::Fault(Unread)),
     }
 }
