@@ -1,16 +1,15 @@
 -- How the tables of a scope follow its binders.
-use Rattle.std.proofs.Common.{◌≡◌, ℕ, ◌+◌, ◌-◌, ◌<◌, ◌^◌, Bool, true, false, cond, List, [], ◌∷◌, ◌++◌, length, map, reverse, drop, Option, Some, None, Bor, refl, sym, ap, ◌∙◌, subst, length-append, arith}
-use Rattle.std.specs.Option.{option_map, option_flatten, is_some}
+use Rattle.std.proofs.Common.{◌≡◌, ℕ, ◌+◌, ◌-◌, ◌<◌, ◌^◌, Bool, true, false, cond, List, [], ◌∷◌, ◌++◌, length, reverse, Option, Some, None, Bor, refl, sym, ap, ◌∙◌, subst, length-append, arith}
+use Rattle.std.specs.Option.{option_map, option_flatten}
 use Rattle.std.specs.Str.{bytes_eq}
-use Rattle.std.proofs.lemmas.Bool.{false≢true}
 use Rattle.std.proofs.lemmas.List.{reverse-append, length-map, length-reverse}
 use Rattle.std.proofs.lemmas.Option.{none-some, same_Some}
 use Rattle.std.proofs.lemmas.Slice.Eq.{bytes_eq-Decides}
-use Rattle.indexmap.specs.IndexMap.{get_by}
-use Rattle.name_tables.specs.Binders.{names_of, level_of, KnowHidden, names_in, Levels, IsScope}
+use Rattle.name_tables.specs.Binders.{names_of, level_of, KnowHidden, names_in, level_at, IsScope}
 use Rattle.name_tables.specs.Names.{place_of}
+use Rattle.name_tables.specs.Places.{Table, at}
 use Rattle.name_tables.specs.declared.scope.Binder.{Binder}
-use Rattle.name_tables.proofs.Names.{bytes_self, bytes_sym}
+use Rattle.name_tables.proofs.Names.{IsWith, bytes_self, bytes_sym}
 
 -- a level is below the count of the binders
 pub level_below : (names : List (List ℕ)) (name : List ℕ) (level : ℕ) → level_of names name ≡ Some level → level < length names
@@ -51,31 +50,21 @@ flatten_choice : (b : Bool) (x : Option ℕ) (o : Option (Option ℕ)) → optio
 flatten_choice true x o = refl
 flatten_choice false x o = refl
 
--- the level that a table has for a name
-abbrev pub level_at : Levels → Bor (List ℕ) → Option ℕ
-level_at table name = option_flatten (get_by (λ (key : Bor (List ℕ)). bytes_eq name.now key.now) table)
-
--- the table with this level for this name
-abbrev pub IsWith : Levels → Levels → Bor (List ℕ) → Option ℕ → Type 0
-IsWith old new name level =
-    (other : Bor (List ℕ)) → get_by (λ (key : Bor (List ℕ)). bytes_eq other.now key.now) new
-    ≡ cond (bytes_eq name.now other.now) (Some level) (get_by (λ (key : Bor (List ℕ)). bytes_eq other.now key.now) old)
-
-changed : (old new : Levels) (name : Bor (List ℕ)) (level : Option ℕ) → IsWith old new name level → (other : Bor (List ℕ))
-    → level_at new other ≡ cond (bytes_eq other.now name.now) level (level_at old other)
+changed : (old new : Table (Option ℕ)) (name : List ℕ) (level : Option ℕ) → IsWith old new name level → (other : List ℕ)
+    → level_at new other ≡ cond (bytes_eq other name) level (level_at old other)
 changed old new name level with_it other =
-    ap option_flatten (with_it other) ∙ flatten_choice (bytes_eq name.now other.now) level _
-    ∙ ap (λ b. cond b level (level_at old other)) (bytes_sym name.now other.now)
+    ap option_flatten (with_it other) ∙ flatten_choice (bytes_eq name other) level _
+    ∙ ap (λ b. cond b level (level_at old other)) (bytes_sym name other)
 
 -- a binder opens
-pub opened : (old new : Levels) (binders : List Binder) (b : Binder) → IsScope old binders → length binders + 1 < 2 ^ 32
-    → b.hidden ≡ level_at old b.name → IsWith old new b.name (Some (length binders)) → IsScope new (binders ++ b ∷ [])
+pub opened : (old new : Table (Option ℕ)) (binders : List Binder) (b : Binder) → IsScope old binders → length binders + 1 < 2 ^ 32
+    → b.hidden ≡ level_at old b.name.now → IsWith old new b.name.now (Some (length binders)) → IsScope new (binders ++ b ∷ [])
 opened old new binders b scope few hides with_it = record {
-  levels = λ name. changed old new b.name (Some (length binders)) with_it name
-      ∙ ap (λ o. cond (bytes_eq name.now b.name.now) (Some (length binders)) o) (scope.levels name)
-      ∙ ap (λ n. cond (bytes_eq name.now b.name.now) (Some n) (level_of (names_in binders) name.now)) (sym (count_of_names binders))
-      ∙ ap (λ names. level_of names name.now) (sym (names_inside binders b));
-  hidden = subst KnowHidden (sym (one_inside binders b)) (hides ∙ scope.levels b.name, scope.hidden);
+  levels = λ name. changed old new b.name.now (Some (length binders)) with_it name
+      ∙ ap (λ o. cond (bytes_eq name b.name.now) (Some (length binders)) o) (scope.levels name)
+      ∙ ap (λ n. cond (bytes_eq name b.name.now) (Some n) (level_of (names_in binders) name)) (sym (count_of_names binders))
+      ∙ ap (λ names. level_of names name) (sym (names_inside binders b));
+  hidden = subst KnowHidden (sym (one_inside binders b)) (hides ∙ scope.levels b.name.now, scope.hidden);
   few = rw length-append (omega arith);
 }
 
@@ -85,33 +74,33 @@ restored true at name names hidden same is = is ∙ ap (level_of names) (sym ((b
 restored false at name names hidden same is = refl
 
 -- the innermost binder closes
-pub closed : (old new : Levels) (binders rest : List Binder) (b : Binder) → IsScope old binders → binders ≡ rest ++ b ∷ []
-    → IsWith old new b.name b.hidden → IsScope new rest
+pub closed : (old new : Table (Option ℕ)) (binders rest : List Binder) (b : Binder) → IsScope old binders → binders ≡ rest ++ b ∷ []
+    → IsWith old new b.name.now b.hidden → IsScope new rest
 closed old new binders rest b scope are with_it =
     let inside : reverse binders ≡ b ∷ reverse rest = ap reverse are ∙ one_inside rest b in
     let known : KnowHidden (b ∷ reverse rest) = subst KnowHidden inside scope.hidden in
     let count : length binders ≡ length rest + 1 = ap length are ∙ length-append rest (b ∷ []) in
     record {
-      levels = λ name. changed old new b.name b.hidden with_it name
-          ∙ ap (λ o. cond (bytes_eq name.now b.name.now) b.hidden o) (scope.levels name ∙ ap (λ bs. level_of (names_of bs) name.now) inside)
-          ∙ restored (bytes_eq name.now b.name.now) b.name.now name.now (names_in rest) b.hidden refl known.0;
+      levels = λ name. changed old new b.name.now b.hidden with_it name
+          ∙ ap (λ o. cond (bytes_eq name b.name.now) b.hidden o) (scope.levels name ∙ ap (λ bs. level_of (names_of bs) name) inside)
+          ∙ restored (bytes_eq name b.name.now) b.name.now name (names_in rest) b.hidden refl known.0;
       hidden = known.1;
       few = let few = scope.few in omega arith;
     }
 
 -- the innermost binder's name is in the table
-pub innermost_known : (table : Levels) (binders rest : List Binder) (b : Binder) → IsScope table binders → binders ≡ rest ++ b ∷ []
-    → get_by (λ (key : Bor (List ℕ)). bytes_eq b.name.now key.now) table ≡ None → ⊥
+pub innermost_known : (table : Table (Option ℕ)) (binders rest : List Binder) (b : Binder) → IsScope table binders → binders ≡ rest ++ b ∷ []
+    → at table b.name.now ≡ None → ⊥
 innermost_known table binders rest b scope are none =
     let here : level_of (b.name.now ∷ names_in rest) b.name.now ≡ Some (length (names_in rest)) =
     ap (λ same. cond same (Some (length (names_in rest))) (level_of (names_in rest) b.name.now)) (bytes_self b.name.now) in
     let inside : reverse binders ≡ b ∷ reverse rest = ap reverse are ∙ one_inside rest b in
-    none-some _ (sym (ap option_flatten none) ∙ scope.levels b.name ∙ ap (λ bs. level_of (names_of bs) b.name.now) inside ∙ here)
+    none-some _ (sym (ap option_flatten none) ∙ scope.levels b.name.now ∙ ap (λ bs. level_of (names_of bs) b.name.now) inside ∙ here)
 
 -- what the table finds for a name is its level
-pub found : (table : Levels) (binders : List Binder) (names : List (List ℕ)) (name : Bor (List ℕ)) (entry : Option (Option ℕ)) → IsScope table binders
-    → names_in binders ≡ names → entry ≡ get_by (λ (key : Bor (List ℕ)). bytes_eq name.now key.now) table → option_flatten entry ≡ level_of names name.now
-found table binders names name entry scope are is = ap option_flatten is ∙ scope.levels name ∙ ap (λ ns. level_of ns name.now) are
+pub found : (table : Table (Option ℕ)) (binders : List Binder) (names : List (List ℕ)) (name : Bor (List ℕ)) (entry : Option (Option ℕ)) → IsScope table binders
+    → names_in binders ≡ names → entry ≡ at table name.now → option_flatten entry ≡ level_of names name.now
+found table binders names name entry scope are is = ap option_flatten is ∙ scope.levels name.now ∙ ap (λ ns. level_of ns name.now) are
 
 -- the place of a name of this level, or of none
 pub placed : (names : List (List ℕ)) (name : List ℕ) (level : Option ℕ) → level ≡ level_of names name

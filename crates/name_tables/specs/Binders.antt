@@ -1,11 +1,8 @@
 -- What the tables of a scope say. The level of a binder is how many are open outside of it.
 use Rattle.std.specs.Prelude.{◌≡◌, ℕ, ◌<◌, ◌^◌, List, [], ◌∷◌, length, map, reverse, Option, Some, None, if◌then◌else◌}
-use Rattle.std.specs.Borrow.{Bor}
 use Rattle.std.specs.Option.{option_flatten}
 use Rattle.std.specs.Str.{bytes_eq}
-use Rattle.std.specs.declared.hash.FoldHasher.{FoldHasher}
-use Rattle.std.specs.declared.hash.BuildHasherDefault.{BuildHasherDefault}
-use Rattle.indexmap.specs.IndexMap.{IndexMap, get_by}
+use Rattle.name_tables.specs.Places.{Table, at}
 use Rattle.name_tables.specs.declared.scope.Binder.{Binder}
 
 -- the names of binders
@@ -26,12 +23,12 @@ KnowHidden (b ∷ binders) = (b.hidden ≡ level_of (names_of binders) b.name.no
 abbrev pub names_in : List Binder → List (List ℕ)
 names_in binders = names_of (reverse binders)
 
--- from each name to a level
-abbrev pub Levels : Type 0
-Levels = IndexMap (Bor (List ℕ)) (Option ℕ) (BuildHasherDefault FoldHasher)
+-- the level that a table has for a name
+abbrev pub level_at : Table (Option ℕ) → List ℕ → Option ℕ
+level_at table name = option_flatten (at table name)
 
 -- the table of levels is that of these binders, the outermost of which comes first
-pub record IsScope (innermost : Levels) (binders : List Binder) : Type 0 where
-  pub levels : (name : Bor (List ℕ)) → option_flatten (get_by (λ key. bytes_eq name.now key.now) innermost) ≡ level_of (names_in binders) name.now
+pub record IsScope (innermost : Table (Option ℕ)) (binders : List Binder) : Type 0 where
+  pub levels : (name : List ℕ) → level_at innermost name ≡ level_of (names_in binders) name
   pub hidden : KnowHidden (reverse binders)
   pub few : length binders < 2 ^ 32

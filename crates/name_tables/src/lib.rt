@@ -1,5 +1,5 @@
-//! The names of a description, found in constant time: those of one name space in the order in which they were declared, and those of
-//! the binders that are open at a place.
+//! The names of a description, found by few comparisons whatever they are: those of one name space in the order in which they were
+//! declared, and those of the binders that are open at a place.
 #![tactic(auto)]
 
 pub mod laws;

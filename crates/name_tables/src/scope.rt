@@ -3,8 +3,8 @@ ghost use Rattle.std.specs.Prelude.{◌≡◌, ◌∷◌, [], drop, length, OnOk
 ghost use Rattle.name_tables.specs.Names.{place_of};
 
 use chw_base::NoMemory;
-use indexmap::IndexMap;
 use std::alloc::Global;
+use std::collections::BTreeMap;
 use std::marker::Model;
 
 /// A binder that is open.
@@ -16,10 +16,13 @@ struct Binder<'t> {
 }
 
 /// The names of the open binders, which contracts see as a list, the innermost first. A name may stand in it several times.
+///
+/// A look-up compares a name with at most 15 names at each level of the tree of levels, whatever the names are.
+/// A tree of n names has at most 1 + log8 n levels.
 #[derive(Drop)]
 pub struct Scope<'t> {
     /// The level of the innermost open binder of each name that was ever bound, where one is open.
-    innermost: IndexMap<&'t [u8], Option<u32>>,
+    innermost: BTreeMap<&'t [u8], Option<u32>>,
     /// The open binders, the outermost first.
     binders: Vec<Binder<'t>>,
 }
@@ -42,7 +45,7 @@ impl<'t> Scope<'t> {
         ensures { result ≡ [] }
     {
         Scope {
-            innermost: IndexMap::new(alloc),
+            innermost: BTreeMap::new(alloc),
             binders: Vec::new(alloc),
         }
     }

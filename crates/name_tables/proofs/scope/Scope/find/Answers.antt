@@ -1,4 +1,4 @@
-use Rattle.std.proofs.Common.{◌≡◌, ◌-◌, ◌<◌, length, ap, ◌∙◌, sym, arith, Some}
+use Rattle.std.proofs.Common.{◌≡◌, ◌-◌, length, ap, ◌∙◌, sym, arith, Some}
 use Rattle.name_tables.specs.Binders.{level_of}
 use Rattle.name_tables.proofs.Scopes.{count_of_names, found, level_below, placed}
 use Rattle.name_tables.proofs.scope.Scope.find.Goals as goal

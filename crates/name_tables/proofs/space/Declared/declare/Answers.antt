@@ -1,10 +1,19 @@
-use Rattle.std.proofs.Common.{not, ap, ◌∙◌}
-use Rattle.name_tables.specs.Names.{is_among, texts, with_name}
-use Rattle.name_tables.proofs.Names.{any_is, inserted}
+use Rattle.std.proofs.Common.{◌≡◌, ◌+◌, ◌<◌, ◌^◌, ◌++◌, ◌∷◌, [], length, None, ap, ◌∙◌, sym, subst, arith}
+use Rattle.std.proofs.lemmas.Map.Text.{btree_map_updates_str}
+use Rattle.name_tables.specs.Names.{texts}
+use Rattle.name_tables.specs.Places.{ArePlaces, at}
+use Rattle.name_tables.proofs.Names.{IsWith, declared, no_place_at}
 use Rattle.name_tables.proofs.space.Declared.declare.Goals as goal
 
-pub returns-clause-is_new : goal.returns-clause-is_new
-returns-clause-is_new c = c.in_ok-is_new.ensures.added ∙ ap not (any_is c.args.name.now c.self.inside.names.keys ∙ ap (λ names. is_among names c.args.name.now) c.self.view_is)
-
-pub returns-clause-names : goal.returns-clause-names
-returns-clause-names c = ap texts c.in_ok-is_new.ensures.keys ∙ inserted c.self.inside.names.keys c.args.name ∙ ap (λ names. with_name names c.args.name.now) c.self.view_is
+pub invariant_of-self-2 : goal.invariant_of-self-2
+invariant_of-self-2 c =
+    let old = c.self.inside.places in
+    let new = c.insert.new.self in
+    let items = c.self.inside.names.items in
+    let are = c.in_ok-push.ensures.items ∙ ap (λ names. names ++ c.args.name ∷ []) c.in_ok-reserve.ensures.items in
+    let few : length items + 1 < 2 ^ 32 = omega arith in
+    let absent : at old c.args.name.now ≡ None = no_place_at old c.args.name.now (sym c.contains_key.ensures ∙ c.if-contains_key.false) in
+    let place : c.len-place.result ≡ length items = omega arith in
+    let with_it : IsWith old new c.args.name.now (length items) =
+    subst (IsWith old new c.args.name.now) place (btree_map_updates_str c.args.name.now old new _ c.in_ok-insert.ensures.updates) in
+    subst (λ names. ArePlaces new (texts names)) (sym are) (declared old new items c.args.name c.self.invariant absent few with_it)
