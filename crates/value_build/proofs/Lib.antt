@@ -2,7 +2,6 @@ pub mod Behind
 pub mod DraftParts
 pub mod DraftRows
 pub mod Heads
-pub mod Kept
 pub mod Lambdas
 pub mod Measures
 pub mod Operands
@@ -11,6 +10,7 @@ pub mod Parts
 pub mod Passing
 pub mod Patterns
 pub mod Ready
+pub mod Refused
 pub mod Rows
 pub mod Scopes
 pub mod Spines

@@ -6,7 +6,6 @@ pub mod Drafting
 pub mod Grounds
 pub mod Groups
 pub mod InScope
-pub mod Known
 pub mod Passing
 pub mod Places
 pub mod ReadyParts

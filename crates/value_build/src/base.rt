@@ -8,12 +8,13 @@ ghost use Rattle.net_built.specs.Circuits.{module_of};
 ghost use Rattle.value_build.specs.ReadyParts.{IsMeasured};
 
 use crate::places::Places;
-use crate::widths::Widths;
+use crate::widths::width_of;
 use chw_base::{ConId, MadeId, ModId, NoMemory};
 use chw_types::{Data, Ty};
 use con_places::{Constructor, Constructors};
 use std::alloc::Global;
 use std::marker::Model;
+use type_widths::Widths;
 
 /// The data types of a program with the widths of types over them, its constructors, and the made definitions that have modules.
 /// Contracts see the data types and the numbers of the made definitions.
@@ -75,13 +76,13 @@ impl<'a> Base<'a> {
         self.places.order()
     }
 
-    /// How many bits each value of a closed type has, as `Widths::width` says.
+    /// How many bits each value of a closed type has, where there is such a number.
     pub fn width(&mut self, alloc: Global, t: &Ty) -> Result<u32, NoMemory>
         requires { IsMeasured self.old.datas t.now }
         ensures width { IfOk result (HasWidth self.old.datas t.now) }
         ensures same { self.new ≡ self.old }
     {
-        self.widths.width(alloc, t)
+        width_of(alloc, t, &mut self.widths)
     }
 
     /// The data types, of which none leads back to itself.

@@ -13,8 +13,8 @@ mod passes;
 pub mod places;
 pub mod scope;
 mod sides;
-pub mod widths;
+mod widths;
 
 pub use base::Base;
 pub use places::Places;
-pub use widths::Widths;
+pub use type_widths::Widths;
