@@ -3,15 +3,16 @@ ghost use Rattle.std.specs.Prelude.{◌≡◌, ◌∷◌, ◌++◌, [], not, len
 ghost use Rattle.name_tables.specs.Names.{is_among, place_of};
 
 use chw_base::{NoMemory, narrow};
-use indexmap::IndexMap;
 use std::alloc::Global;
+use std::collections::BTreeMap;
 use std::marker::Model;
 
 /// Names in order, which contracts see as a list. A name may stand in it several times.
+/// A name is found by few comparisons, whatever the names are.
 #[derive(Drop)]
 pub(crate) struct Places<'t> {
     /// The first place of each name.
-    firsts: IndexMap<&'t [u8], u32>,
+    firsts: BTreeMap<&'t [u8], u32>,
     names: Vec<&'t [u8]>,
 }
 
@@ -34,7 +35,7 @@ impl<'t> Places<'t> {
         ensures { result ≡ [] }
     {
         Places {
-            firsts: IndexMap::new(alloc),
+            firsts: BTreeMap::new(alloc),
             names: Vec::new(alloc),
         }
     }

@@ -1,7 +1,9 @@
 use Rattle.std.proofs.Common.{◌≡◌, ◌+◌, ◌≤◌, ◌^◌, [], ◌∷◌, ◌++◌, length, true, false, sym, ap, ◌∙◌, subst, arith}
 use Rattle.std.specs.Option.{is_some}
+use Rattle.std.proofs.lemmas.Map.Text.{btree_map_updates_str}
+use Rattle.name_tables.specs.Places.{at}
 use Rattle.verilog_names.specs.Firsts.{AreFirsts}
-use Rattle.verilog_names.proofs.Firsts.{kept, noted, place_at}
+use Rattle.verilog_names.proofs.Firsts.{kept, noted}
 use Rattle.verilog_names.proofs.places.Places.add.Goals as goal
 use Rattle.verilog_names.proofs.places.Places.add.Goals.{then-not-contains_key+in_ok-insert, else-not-contains_key}
 
@@ -16,14 +18,14 @@ invariant_of-self-2 c =
           let are : c.push.new.self.items ≡ names ++ c.args.name ∷ [] =
           c.in_ok-push.ensures.items ∙ ap (λ s. s.names.items ++ c.args.name ∷ []) w.self-inside-is ∙ ap (λ ns. ns ++ c.args.name ∷ []) c.in_ok-reserve.ensures.items in
           let place : c.in_ok-place.place ≡ length names = omega (arith, c.in_ok-place.ensures.narrow) in
-          let unknown : is_some (place_at old c.args.name) ≡ false = sym c.contains_key.ensures ∙ w.if-not-contains_key.true in
+          let unknown : is_some (at old c.args.name.now) ≡ false = sym c.contains_key.ensures ∙ w.if-not-contains_key.true in
           let table : inside.firsts ≡ w.insert.new.self = ap (λ s. s.firsts) w.self-inside-is in
           subst (λ ns. AreFirsts inside.firsts ns) (sym are) (subst (λ t. AreFirsts t (names ++ c.args.name ∷ [])) (sym table)
-          (noted old w.insert.new.self names c.args.name c.in_ok-place.place c.self.invariant few place unknown w.in_ok-insert.ensures.updates.0))
+          (noted old w.insert.new.self names c.args.name c.in_ok-place.place c.self.invariant few place unknown (btree_map_updates_str c.args.name.now old w.insert.new.self _ w.in_ok-insert.ensures.updates)))
       | else-not-contains_key w ↦
           let are : c.push.new.self.items ≡ names ++ c.args.name ∷ [] =
           c.in_ok-push.ensures.items ∙ ap (λ s. s.names.items ++ c.args.name ∷ []) w.self-inside-is ∙ ap (λ ns. ns ++ c.args.name ∷ []) c.in_ok-reserve.ensures.items in
-          let known : is_some (place_at old c.args.name) ≡ true = sym c.contains_key.ensures ∙ w.if-not-contains_key.false in
+          let known : is_some (at old c.args.name.now) ≡ true = sym c.contains_key.ensures ∙ w.if-not-contains_key.false in
           let table : inside.firsts ≡ old = ap (λ s. s.firsts) w.self-inside-is in
           subst (λ ns. AreFirsts inside.firsts ns) (sym are) (subst (λ t. AreFirsts t (names ++ c.args.name ∷ [])) (sym table)
           (kept old names c.args.name c.self.invariant few known))
