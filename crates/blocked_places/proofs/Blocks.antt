@@ -18,6 +18,7 @@ use Rattle.normal_forms.specs.Blocked.{by_limit}
 use Rattle.normal_forms.specs.Values.{BindingRefers}
 use Rattle.blocked_places.specs.Answers.{IsFree, BlocksFirst}
 use Rattle.blocked_places.specs.Cycles.{Counts, CountsAt, IsCycleOf, HasCycle, FindsCycle}
+use Rattle.blocked_places.specs.Cycles.{AreDistinct}
 use Rattle.blocked_places.specs.Payloads.{IsPayload, FindsPayload}
 use Rattle.blocked_places.specs.Limits.{IsLimit, FindsLimit}
 
@@ -114,14 +115,15 @@ abbrev pub NoPayload : Origins → Spot → TermTree → Type 0
 NoPayload o at e = (t : TypeTree) → IsPayload o.program.datas e t → ⊥
 
 pub cycle_first : (o : Origins) (at : Spot) (e : TermTree) (cycle : List ℕ)
-    → HasCycle o.program.datas at.mode e cycle → BlocksFirst o at e (recursion cycle)
-cycle_first o at e cycle h =
-    record { blocks = of_part o at e (recursion cycle) h; first = λ b k. omega arith }
+    → HasCycle o.program.datas at.mode e cycle → AreDistinct cycle
+    → BlocksFirst o at e (recursion cycle)
+cycle_first o at e cycle h once =
+    record { blocks = of_part o at e (recursion cycle) h; first = λ b k. omega arith; distinct = once }
 
 pub payload_first : (o : Origins) (at : Spot) (e : TermTree) (t : TypeTree) → NoCycle o at e
     → IsPayload o.program.datas e t → BlocksFirst o at e (payload t)
 payload_first o at e t none h =
-    record { blocks = of_part o at e (payload t) h; first = λ b k. by b (part_of k) }
+    record { blocks = of_part o at e (payload t) h; first = λ b k. by b (part_of k); distinct = tt }
   where
     by : (b : Block) → Part o at e b → 1 ≤ rank_of b
     by (recursion c) k = absurd (none c k)
@@ -131,7 +133,7 @@ payload_first o at e t none h =
 pub limit_first : (o : Origins) (at : Spot) (e : TermTree) (l : NoLayout) → NoCycle o at e
     → NoPayload o at e → IsLimit o at e l → BlocksFirst o at e (limit l)
 limit_first o at e l none never h =
-    record { blocks = of_part o at e (limit l) h; first = λ b k. by b (part_of k) }
+    record { blocks = of_part o at e (limit l) h; first = λ b k. by b (part_of k); distinct = tt }
   where
     by : (b : Block) → Part o at e b → 2 ≤ rank_of b
     by (recursion c) k = absurd (none c k)

@@ -30,6 +30,7 @@ finds_same H K (Some f) to back is =
     record {
       it = to (reverse f.back.items) (block_of f.block) is.it;
       first = λ q c x h. is.first q c (back q c x) h;
+      distinct = is.distinct;
     }
 
 pub no_root : (q : List ℕ) → IsEarlier q [] → ⊥
@@ -74,6 +75,7 @@ found_behind path H (Some f) (Some g) first is =
       first = λ q c x h.
           first.first x.rest c x.there
           (rest_before path x.rest back c b (subst (λ p. IsBeforeThere p c (path ++ back) b) x.is h));
+      distinct = first.distinct;
     } in
     subst (λ p. IsFirstAt (Behind path H) p (block_of g.block)) (sym is.0)
     (subst (λ (k : Found). IsFirstAt (Behind path H) (path ++ back) (block_of k)) (sym is.1) whole)
@@ -83,7 +85,11 @@ pub found_here : (o : Origins) (at : Spot) (e : TermTree) (back : List ℕ) (b :
     → BlocksFirst o at e b → back ≡ [] → IsFirstAt (IsActiveBlock o at e) (reverse back) b
 found_here o at e back b is empty =
     subst (λ p. IsFirstAt (IsActiveBlock o at e) p b) (sym (ap reverse empty))
-    (record { it = record { spot = at; term = e; active = at_it; blocks = is.blocks }; first = before })
+    (record {
+      it = record { spot = at; term = e; active = at_it; blocks = is.blocks };
+      first = before;
+      distinct = is.distinct;
+    })
   where
     before : (q : List ℕ) (c : Block) → IsActiveBlock o at e q c → IsBeforeThere q c [] b → ⊥
     before q c x (inl h) = no_root q h
@@ -226,6 +232,7 @@ found_at_number o at e way n m (Some f) some all order none is =
         there = is.it.there;
       };
       first = before;
+      distinct = is.distinct;
     }
   where
     p : List ℕ

@@ -318,7 +318,7 @@ found_lambda o s m vars e a body args b t u back what term function l passes emp
     subst (λ z. IsFirstAt (InBody o m vars z u) (reverse back) (limit what)) (sym this.is)
     (subst (λ v. IsFirstAt (InBody o m vars (lam a body) v) (reverse back) (limit what)) (sym function)
     (subst (λ p. IsFirstAt H p (limit what)) (sym (ap reverse empty))
-    (record { it = inl here; first = before })))
+    (record { it = inl here; first = before; distinct = tt })))
   where
     there : LeadsToTyped s m vars e (fun b t)
     there = subst (LeadsToTyped s m vars e) function l
@@ -419,7 +419,11 @@ blocked_in (at_lambda {root = root} {vars = vars} {inner = inner} {e = e} {i = i
 first_same : (H K : Blocking) (p : List ℕ) (b : Block) → Among H K → Among K H → IsFirstAt H p b
     → IsFirstAt K p b
 first_same H K p b to back is =
-    record { it = to p b is.it; first = λ q c x h. is.first q c (back q c x) h }
+    record {
+      it = to p b is.it;
+      first = λ q c x h. is.first q c (back q c x) h;
+      distinct = is.distinct;
+    }
 
 pub body_answered : (o : Origins) (it : MadeOf) (body : TermTree) (found : Option Trail)
     (answer : Option BlockedPart)

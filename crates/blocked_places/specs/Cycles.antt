@@ -1,6 +1,6 @@
 -- Cycles of bindings that block a letrec.
 use Rattle.std.specs.Prelude.{◌≡◌, ◌↔◌, ◌⊎◌, ℕ, ◌-◌, ◌<◌, true, Bool, IsTrue, List, [], ◌∷◌}
-use Rattle.std.specs.Prelude.{Some, Option, MatchOption, Contains, Vec}
+use Rattle.std.specs.Prelude.{Some, Option, MatchOption, Contains, Vec, length, slice_index}
 use Rattle.std.specs.List.{slice_get, AllByRecursion}
 use Rattle.std.specs.declared.alloc.Global.{Global}
 use Rattle.chw_types.specs.declared.declarations.Data.{Data}
@@ -43,18 +43,24 @@ pub record HasCycle (datas : List Data) (mode : Mode) (e : TermTree) (cycle : Li
     pub is : e ≡ letrec group body
     pub round : IsCycleOf datas mode group cycle
 
--- the answer is a cycle of a letrec's bindings, or nothing where there is none
+-- no number comes twice
+abbrev pub AreDistinct : List ℕ → Type 0
+AreDistinct xs =
+    (i j : ℕ) → i < length xs → j < length xs → slice_index xs i ≡ slice_index xs j → i ≡ j
+
+-- the answer is a cycle of a letrec's bindings with each of them once, or nothing where there is no
+-- cycle
 abbrev pub FindsRound
     : List Data → Mode → Group → Option (Vec ℕ Global) → Type 0
 FindsRound datas mode g answer =
     MatchOption answer ((cycle : List ℕ) → IsCycleOf datas mode g cycle → ⊥)
-    (λ found. IsCycleOf datas mode g found.items)
+    (λ found. IsCycleOf datas mode g found.items × AreDistinct found.items)
 
 -- the same of a term
 abbrev pub FindsCycle : List Data → Mode → TermTree → Option (Vec ℕ Global) → Type 0
 FindsCycle datas mode e answer =
     MatchOption answer ((cycle : List ℕ) → HasCycle datas mode e cycle → ⊥)
-    (λ found. HasCycle datas mode e found.items)
+    (λ found. HasCycle datas mode e found.items × AreDistinct found.items)
 
 -- two lists have as many items, and what is in one place of both is related
 abbrev pub AreRelated : {A B : Type 0} → (A → B → Type 0) → List A → List B → Type 0

@@ -14,7 +14,7 @@ use Rattle.rewriting.specs.Active.{Below, IsActive}
 use Rattle.rewriting.specs.Spots.{Spot, spot}
 use Rattle.normal_forms.specs.Blocked.{Block, limit, rank_of, Passes, BlocksAt, IsBlocked}
 use Rattle.active_parts.specs.Grounds.{IsTypedAt}
-use Rattle.blocked_places.specs.Answers.{block_of}
+use Rattle.blocked_places.specs.Answers.{HasDistinctBindings, block_of}
 use Rattle.blocked_places.specs.declared.bodies.BlockedPart.{BlockedPart}
 use Rattle.blocked_places.specs.declared.trail.Trail.{Trail}
 
@@ -30,10 +30,11 @@ IsBeforeThere p b q c = IsEarlier p q ⊎ ((p ≡ q) × (rank_of b < rank_of c))
 abbrev pub NothingBlocks : Blocking → Type 0
 NothingBlocks H = (path : List ℕ) (b : Block) → H path b → ⊥
 
--- this blocks there, and nothing that blocks comes before it
+-- this blocks there, and nothing that blocks comes before it; of a cycle no binding comes twice
 pub record IsFirstAt (H : Blocking) (path : List ℕ) (b : Block) : Type 0 where
   pub it : H path b
   pub first : (q : List ℕ) (c : Block) → H q c → IsBeforeThere q c path b → ⊥
+  pub distinct : HasDistinctBindings b
 
 -- the answer is what comes first, or nothing where nothing blocks
 abbrev pub FindsFirst : Blocking → Option Trail → Type 0

@@ -22,7 +22,7 @@ use type_widths::Widths;
 /// What blocks a place.
 #[derive(Drop)]
 pub enum Block {
-    /// A cycle of a letrec's bindings, by their numbers: each refers to the next one, and the last to the first.
+    /// A cycle of a letrec's bindings, by their numbers: each refers to the next one, and the last to the first. No binding comes twice.
     Recursion { bindings: Vec<u32> },
     /// The payload of a register, a block RAM or a synchronizer, which isn't representable.
     Payload { ty: Ty },

@@ -132,7 +132,7 @@ fn round_of(
     }
 }
 
-/// A cycle of bindings that blocks a term at a place of this mode: of bindings whose types aren't named there, or of any where values are
+/// A cycle of bindings, each once, that blocks a term at a place of this mode: of bindings whose types aren't named there, or of any where values are
 /// built and in constants.
 ///
 /// Where a number would pass 32 bits, the answer is want of memory.

@@ -16,7 +16,12 @@ pub blocked_fault : (p : Program) (state : List Made) (answer : Option BlockedAt
     → FindsFault p state (Some (Blocked at))
 blocked_fault p state answer at ended is found =
     let first : IsFirstPlace p state (place_of at) = subst (FindsBlocked p state) is found in
-    record { no_step = ended; blocked = first.blocked; first = first.first }
+    record {
+      no_step = ended;
+      blocked = first.blocked;
+      first = first.first;
+      distinct = first.distinct;
+    }
 
 -- where there is none, all bodies are in normal form
 pub all_normal : EndedIsNormal → (p : Program) (state : List Made) (answer : Option BlockedAt)

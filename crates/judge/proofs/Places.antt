@@ -13,7 +13,7 @@ use Rattle.blocked_places.specs.Answers.{block_of}
 use Rattle.blocked_places.specs.Walks.{IsFirstAt}
 use Rattle.blocked_places.specs.declared.bodies.BlockedPart.{BlockedPart}
 use Rattle.judge.specs.States.{FindsBlocked, FindsBlockedIn, IsFirstBlockedIn}
-use Rattle.judge.specs.States.{IsFirstPlace, IsPlacedIn, place_of}
+use Rattle.judge.specs.States.{IsPlacedIn, place_of}
 use Rattle.judge.specs.Verdicts.{Judges}
 use Rattle.judge.specs.declared.judging.Verdict.{Verdict}
 use Rattle.judge.specs.declared.judging.Verdict.TheVariants.{Normal, Blocked}
@@ -39,7 +39,7 @@ pub first_in : (p : Program) (state : List Made) (it : Made) (n : ℕ) (part : B
     → FindsBlockedIn p state n (Some found)
 first_in p state it n part verdict found is blocked placed judged =
     subst (IsFirstBlockedIn p state n) (sym there)
-    (record { in_it = refl; blocked = (it, is, x.it); first = first })
+    (record { in_it = refl; blocked = (it, is, x.it); first = first; distinct = x.distinct })
   where
     x : IsFirstAt (IsBlocked (origins_in p state) (made_of it) it.body) part.path.items
         (block_of part.block)
@@ -98,7 +98,8 @@ pub first_of_all : (p : Program) (state : List Made) (n : ℕ) (answer : Option 
     → is_some answer ≡ true → IsFreeBelow p state n → FindsBlockedIn p state n answer
     → FindsBlocked p state answer
 first_of_all p state n None some free x = absurd (false≢true some)
-first_of_all p state n (Some found) some free x = record { blocked = x.blocked; first = first }
+first_of_all p state n (Some found) some free x =
+    record { blocked = x.blocked; first = first; distinct = x.distinct }
   where
     first : (other : BlockedPlace) → HasBlocked p state other
         → IsBlockedBefore other (place_of found) → ⊥

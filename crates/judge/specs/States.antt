@@ -5,10 +5,11 @@ use Rattle.graph_order.specs.Orders.{LeastFirst}
 use Rattle.chw_terms.specs.declared.program.Program.{Program}
 use Rattle.chw_terms.specs.declared.scene.Made.{Made}
 use Rattle.data_kinds.specs.Cycles.{IsCycleOf}
-use Rattle.normal_forms.specs.Blocked.{BlockedPlace, HasBlocked, IsBlockedBefore, IsFirstBlocked}
-use Rattle.normal_forms.specs.Normal.{IsNormal}
+use Rattle.rewriting.specs.Steps.{HasNoStep}
+use Rattle.normal_forms.specs.Blocked.{BlockedPlace, HasBlocked, IsBlockedBefore}
+use Rattle.normal_forms.specs.Normal.{IsNormal, all_rules}
 use Rattle.normal_forms.specs.Uses.{Uses as UsesMade, IsAcyclic}
-use Rattle.blocked_places.specs.Answers.{block_of}
+use Rattle.blocked_places.specs.Answers.{HasDistinctBindings, block_of}
 use Rattle.blocked_places.specs.declared.bodies.BlockedPart.{BlockedPart}
 use Rattle.judge.specs.declared.states.BlockedAt.{BlockedAt}
 use Rattle.judge.specs.declared.states.StateFault.{StateFault}
@@ -28,13 +29,15 @@ pub record IsFinished (p : Program) (state : List Made) : Type 0 where
   pub free : IsBlockedNowhere p state
   pub acyclic : IsAcyclic state
 
--- it is a blocked place of the made definition of this number, and the first of them
+-- it is a blocked place of the made definition of this number, and the first of them; of a cycle no
+-- binding comes twice
 pub record IsFirstBlockedIn (p : Program) (state : List Made) (number : ℕ) (at : BlockedPlace)
     : Type 0 where
   pub in_it : at.number ≡ number
   pub blocked : HasBlocked p state at
   pub first : (other : BlockedPlace) → other.number ≡ number → HasBlocked p state other
       → IsBlockedBefore other at → ⊥
+  pub distinct : HasDistinctBindings at.block
 
 -- the answer is the first blocked place of the made definition, or nothing where there is none
 abbrev pub FindsBlockedIn : Program → List Made → ℕ → Option BlockedAt → Type 0
@@ -48,10 +51,11 @@ abbrev pub IsPlacedIn : ℕ → BlockedPart → BlockedAt → Type 0
 IsPlacedIn number part at =
     (at.made.number ≡ number) × (at.path.items ≡ part.path.items) × (at.block ≡ part.block)
 
--- it is a blocked place of the state, and the first of them
+-- it is a blocked place of the state, and the first of them; of a cycle no binding comes twice
 pub record IsFirstPlace (p : Program) (state : List Made) (at : BlockedPlace) : Type 0 where
   pub blocked : HasBlocked p state at
   pub first : (other : BlockedPlace) → HasBlocked p state other → IsBlockedBefore other at → ⊥
+  pub distinct : HasDistinctBindings at.block
 
 -- the answer is the first blocked place of the state, or nothing where there is none
 abbrev pub FindsBlocked : Program → List Made → Option BlockedAt → Type 0
@@ -65,10 +69,18 @@ pub record IsUseCycle (state : List Made) (ms : List ℕ) : Type 0 where
   pub least : LeastFirst ms
   pub some : IsAcyclic state → ⊥
 
+-- a blocked state: no rule has an instance, and this is the first of the blocked places; of a cycle
+-- no binding comes twice
+pub record IsRefusedAt (p : Program) (state : List Made) (at : BlockedPlace) : Type 0 where
+  pub no_step : HasNoStep all_rules p state
+  pub blocked : HasBlocked p state at
+  pub first : (other : BlockedPlace) → HasBlocked p state other → IsBlockedBefore other at → ⊥
+  pub distinct : HasDistinctBindings at.block
+
 -- why the state is refused: its first blocked place; where it is blocked nowhere, and so normal, a
 -- cycle of uses
 abbrev pub RefusesState : Program → List Made → StateFault → Type 0
-RefusesState p state (Blocked at) = IsFirstBlocked p state (place_of at)
+RefusesState p state (Blocked at) = IsRefusedAt p state (place_of at)
 RefusesState p state (Uses cycle) =
     IsBlockedNowhere p state × IsNormal p state
     × IsUseCycle state (map (λ (m : MadeId). m.number) cycle.items)

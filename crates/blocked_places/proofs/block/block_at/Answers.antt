@@ -14,7 +14,8 @@ returns-in-Some-clause-first c =
     let at = spot_of c.args.place.now in
     let e = c.args.at.now in
     let found = subst (FindsCycle c.as_slice-datas.result.now at.mode e) c.in-Some.is c.in_ok-bindings.ensures in
-    cycle_first o at e c.in-Some.bindings.items (subst (λ ds. HasCycle ds at.mode e c.in-Some.bindings.items) c.as_slice-datas.ensures found)
+    cycle_first o at e c.in-Some.bindings.items
+    (subst (λ ds. HasCycle ds at.mode e c.in-Some.bindings.items) c.as_slice-datas.ensures found.0) found.1
 
 pub returns-in-Some-2-clause-first : goal.returns-in-Some-2-clause-first
 returns-in-Some-2-clause-first c =

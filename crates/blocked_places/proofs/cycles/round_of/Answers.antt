@@ -25,4 +25,4 @@ returns c =
     let refers : AreReferences (length bs) flags bs lists =
     subst (λ fs. AreReferences (length bs) fs bs lists) c.deref.ensures.value c.in_ok-references.ensures.references in
     let round = subst (λ r. OfCycle r (IsCycle lists)) c.in-Cycle.is c.in_ok-order_of.ensures.cycle in
-    round_found datas c.args.mode bs flags lists c.in-Cycle.nodes.items c.in_ok-flags.ensures refers round
+    (round_found datas c.args.mode bs flags lists c.in-Cycle.nodes.items c.in_ok-flags.ensures refers round, round.once)
